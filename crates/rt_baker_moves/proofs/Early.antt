@@ -10,7 +10,7 @@ use Rattle.rt_laws.specs.State as laws
 use Rattle.rt_laws.specs.State.{first_values}
 use Rattle.rt_laws.specs.Counts.{AreWithin}
 use Rattle.rt_baker_work.specs.declared.todo.Todo.{Todo}
-use Rattle.rt_baker_work.specs.Store.{Store, contents, HasRoom}
+use Rattle.rt_baker_work.specs.Store.{Store, contents, MayTakeOne}
 use Rattle.rt_baker_work.specs.Work.{is_seen, IsSettled}
 use Rattle.rt_baker_moves.specs.Job.{AuditorJob}
 use Rattle.rt_baker_moves.specs.State.{AuditorState, JobsAre, StateIs, IsEarly}
@@ -23,7 +23,7 @@ given_behind : (a : Action) (vs : Values)
 given_behind (Arms i m) vs = omega arith
 given_behind a vs = omega arith
 
-pub room_behind : (a : Action) (s t : Store) → HasRoom s → contents t ≡ effect a (contents s)
+pub room_behind : (a : Action) (s t : Store) → MayTakeOne s → contents t ≡ effect a (contents s)
     → t.timed.given < 2 ^ 32
 unfolding contents
 room_behind a s t room is =
@@ -32,7 +32,7 @@ room_behind a s t room is =
     omega (arith, given_behind a (contents s), room.given)
 
 -- at reset all counts are 0
-pub room_at_first : (app : App) (s : Store) → contents s ≡ first_values app → HasRoom s
+pub room_at_first : (app : App) (s : Store) → contents s ≡ first_values app → MayTakeOne s
 unfolding contents
 room_at_first app s is = record {
   out = λ n. omega (arith, ap (λ (vs : Values). number (vs (Guarded (section.Free n)))) is);

@@ -3,7 +3,7 @@
 use Rattle.std.specs.Prelude.{◌≡◌, ℕ, ◌-◌, ◌^◌, ◌<◌, Bool, List, [], ◌∷◌, Option}
 use Rattle.rt_app.specs.Tree.{App}
 use Rattle.rt_laws.specs.State as laws
-use Rattle.rt_baker_work.specs.Store.{Store, contents, HasRoom}
+use Rattle.rt_baker_work.specs.Store.{Store, contents, MayTakeOne}
 use Rattle.rt_baker_moves.specs.Job.{AuditorJob, JobIs}
 use Rattle.rt_baker_moves.specs.Waiting.{waiting_irqs}
 
@@ -23,7 +23,7 @@ pub record AuditorState : Type 0 where
 -- No count is so great that it could not rise.
 pub record IsEarly (s : AuditorState) : Type 0 where
   pub time : s.time < 2 ^ 32 - 1
-  pub store : HasRoom s.store
+  pub store : MayTakeOne s.store
 
 -- a state with these jobs
 abbrev pub with_jobs : AuditorState → List laws.Job → laws.State

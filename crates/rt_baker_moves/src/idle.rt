@@ -10,7 +10,7 @@ ghost use Rattle.rt_app.specs.Sending.{act};
 ghost use Rattle.rt_laws.specs.State as laws;
 ghost use Rattle.rt_laws.specs.Acting.{idle_job};
 ghost use Rattle.rt_baker_work.specs.Code.{IsCode};
-ghost use Rattle.rt_baker_work.specs.Store.{contents, HasRoom};
+ghost use Rattle.rt_baker_work.specs.Store.{contents, MayTakeOne};
 ghost use Rattle.rt_baker_moves.specs.Inside.Moves.{IsBegun};
 
 use crate::job::{Job, Role};
@@ -22,7 +22,7 @@ use rt_ids::NoMemory;
 /// The thread as it begins this body of `idle`, which runs as far as its first action.
 fn run<'a>(code: &Code<'a>, body: &'a Body, store: &mut Store) -> Result<Job<'a>, NoMemory>
     requires code { IsCode code.now }
-    requires room { HasRoom store.old }
+    requires room { MayTakeOne store.old }
     ensures { let app = app_of code.now.app.now in
         IfOk result (λ job. IsBegun app (laws.new_job laws.Idle 0
         (body_cost (cost_measure app) (body_of body.entry.now))
@@ -39,7 +39,7 @@ fn run<'a>(code: &Code<'a>, body: &'a Body, store: &mut Store) -> Result<Job<'a>
 /// The thread as it begins `idle`, or as it waits where that is absent.
 pub(crate) fn idle<'a>(code: &Code<'a>, store: &mut Store) -> Result<Job<'a>, NoMemory>
     requires code { IsCode code.now }
-    requires room { HasRoom store.old }
+    requires room { MayTakeOne store.old }
     ensures { let app = app_of code.now.app.now in
         IfOk result (λ job. IsBegun app (idle_job app (contents store.old) app.idle) store.old job store.new) }
 {

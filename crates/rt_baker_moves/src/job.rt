@@ -5,7 +5,7 @@ ghost use Rattle.rt_ids.specs.Action.{Clocks};
 ghost use Rattle.rt_app.specs.View.{app_of};
 ghost use Rattle.rt_baker_work.specs.Actions.{action_of};
 ghost use Rattle.rt_baker_work.specs.Code.{IsCode};
-ghost use Rattle.rt_baker_work.specs.Store.{HasRoom};
+ghost use Rattle.rt_baker_work.specs.Store.{MayTakeOne};
 ghost use Rattle.rt_baker_moves.specs.Job.{role_of};
 ghost use Rattle.rt_baker_moves.specs.Inside.Acts.{kept_after_action, IsPerformed};
 ghost use Rattle.rt_baker_moves.specs.Inside.Moves.{kept_after_steps, with_next};
@@ -141,7 +141,7 @@ impl<'a> Job<'a> {
         store: &mut Store,
     ) -> Result<(), NoMemory>
         requires code { IsCode code.now }
-        requires room { HasRoom store.old }
+        requires room { MayTakeOne store.old }
         ensures { OnOk result (IsPerformed (app_of code.now.app.now) (action_of action) self.old store.old self.new
             store.new) }
     {
@@ -154,7 +154,7 @@ impl<'a> Job<'a> {
     /// The job has read the clock, and goes on as far as its next action.
     pub(crate) fn pass(&mut self, code: &Code<'a>, store: &mut Store) -> Result<(), NoMemory>
         requires code { IsCode code.now }
-        requires room { HasRoom store.old }
+        requires room { MayTakeOne store.old }
         ensures { OnOk result (IsPerformed (app_of code.now.app.now) Clocks self.old store.old self.new store.new) }
     {
         self.spend(1);

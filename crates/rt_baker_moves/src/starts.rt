@@ -12,7 +12,7 @@ ghost use Rattle.rt_laws.specs.Allowed.{after};
 ghost use Rattle.rt_laws.specs.State as laws;
 ghost use Rattle.rt_baker_work.specs.Code.{IsCode, handler_of};
 ghost use Rattle.rt_baker_work.specs.Handlers.{run_handler};
-ghost use Rattle.rt_baker_work.specs.Store.{HasRoom};
+ghost use Rattle.rt_baker_work.specs.Store.{MayTakeOne};
 ghost use Rattle.rt_baker_work.specs.Todo.{enter_body};
 ghost use Rattle.rt_baker_work.specs.Work as kept;
 ghost use Rattle.rt_baker_work.specs.Work.{no_work, Becomes};
@@ -46,7 +46,7 @@ fn begin_job<'a>(
     store: &mut Store,
 ) -> Result<Job<'a>, NoMemory>
     requires code { IsCode code.now }
-    requires room { HasRoom store.old }
+    requires room { MayTakeOne store.old }
     ensures { let app = app_of code.now.app.now in
         IfOk result (λ j. (first : Later → Later) (start : kept.Work) → start ≡ no_work
         → Becomes app first start store.old work.entry store.old
@@ -67,7 +67,7 @@ fn greatest(app: &App) -> u32
 /// `init` begins.
 fn first_job<'a>(code: &Code<'a>, store: &mut Store) -> Result<Job<'a>, NoMemory>
     requires code { IsCode code.now }
-    requires room { HasRoom store.old }
+    requires room { MayTakeOne store.old }
     ensures { let app = app_of code.now.app.now in
         IfOk result (λ j. HasBegunWith app laws.Init (2 ^ app.bits) (cost_of (cost_measure app) app.init)
         (enter_body app app.init []) store.old j store.new) }

@@ -27,7 +27,7 @@ contents s (Guarded section.Timer) = Delays s.timed
 contents s (Own l) = Number (slice_index s.locals l)
 
 -- Another place may be taken, and another message armed or moved: what is counted is of 32 bits.
-pub record HasRoom (s : Store) : Type 0 where
+pub record MayTakeOne (s : Store) : Type 0 where
   pub out : (n : ℕ) → slice_index s.out n < 2 ^ 32 - 1
   pub given : s.timed.given < 2 ^ 32 - 1
   pub moved : s.timed.moved < 2 ^ 32 - 1

@@ -8,7 +8,7 @@ ghost use Rattle.rt_ids.specs.Content.{Number, number, messages, timer_content, 
 ghost use Rattle.rt_ids.specs.Content.{message_of_handle, postponed_message, without_handle};
 ghost use Rattle.rt_ids.specs.declared.ids.Section.TheVariants as section;
 ghost use Rattle.rt_baker_work.specs.Actions.{action_of};
-ghost use Rattle.rt_baker_work.specs.Store.{contents, HasRoom};
+ghost use Rattle.rt_baker_work.specs.Store.{contents, MayTakeOne};
 
 use crate::action::Action;
 use crate::message::{Armed, Message};
@@ -179,7 +179,7 @@ impl Store {
 
     /// A place of a task is taken.
     pub(crate) fn place_one(&mut self, task: TaskId)
-        requires { HasRoom self.old }
+        requires { MayTakeOne self.old }
         ensures { contents self.new ≡ effect (Places task) (contents self.old) }
     {
         let index = usize::from(task.0);
@@ -213,7 +213,7 @@ impl Store {
 
     /// A message is armed, with the next handle.
     pub(crate) fn arm(&mut self, instant: u64, message: Message) -> Result<(), NoMemory>
-        requires { HasRoom self.old }
+        requires { MayTakeOne self.old }
         ensures { OnOk result (contents self.new ≡ effect (Arms instant message) (contents self.old)) }
     {
         let handle = self.given + 1;
@@ -251,7 +251,7 @@ impl Store {
         handle: u32,
         instant: u64,
     ) -> Result<(), NoMemory>
-        requires { HasRoom self.old }
+        requires { MayTakeOne self.old }
         ensures { OnOk result (contents self.new ≡ effect (Moves task handle instant) (contents self.old)) }
     {
         let moved = self.moved + 1;
@@ -262,7 +262,7 @@ impl Store {
 
     /// What an action changes in queues; it changes nothing else here.
     pub fn effect(&mut self, action: Action) -> Result<(), NoMemory>
-        requires { HasRoom self.old }
+        requires { MayTakeOne self.old }
         ensures { OnOk result (contents self.new ≡ effect (action_of action) (contents self.old)) }
     {
         match action {

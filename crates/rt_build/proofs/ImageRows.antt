@@ -18,19 +18,19 @@ use Rattle.rt_app.specs.Names.{names_of}
 use Rattle.rt_app.proofs.Members.{made_of}
 use Rattle.rt_app.proofs.Different.{contained}
 use Rattle.rt_code.specs.Runnable.{TakeFewArguments, HaveImplementedValues, HaveNumbersApart}
-use Rattle.rt_code.specs.Listable.{IsPlain, HasTask}
+use Rattle.rt_code.specs.Listable.{IsPlain, IsTask}
 use Rattle.rt_code.specs.declared.image.BodyRow.{BodyRow}
 use Rattle.rt_code.specs.declared.image.Handler.{Handler}
 use Rattle.rt_code.specs.declared.image.IrqRow.{IrqRow}
 use Rattle.rt_code.proofs.Writable.{names_writable}
 use Rattle.rt_gen_queue.specs.Called.{row_for, rows_for}
 use Rattle.rt_build.specs.Entries.{Entries, handler_row, irq_rows}
-use Rattle.rt_build.specs.Inside.Tables.{handler_of, row_of}
+use Rattle.rt_build.specs.Inside.Tables.{handler_of, irq_row}
 
 module _ (app : App) (at : Entries) where
   -- the row of an interrupt, by its index
   abbrev pub its_row : ℕ → IrqDecl → IrqRow
-  its_row i d = row_of d (handler_of app at (services app) i)
+  its_row i d = irq_row d (handler_of app at (services app) i)
 
   each_from : (P : IrqRow → Type 0) → ((i : ℕ) (d : IrqDecl) → slice_get app.irqs i ≡ Some d → P (its_row i d))
       → (i : ℕ) (ds : List IrqDecl) → AreFrom app.irqs i ds → AllByRecursion P (irq_rows app at i ds)
@@ -110,7 +110,7 @@ module _ (app : App) (at : Entries) where
       (each_body (λ row. row.args ≤ 4)
       (λ n t is. (all_at KeepsTaskLimits app.tasks n t accepted.limits.tasks is).args)) there
 
-  pub named_bodies : AllByRecursion (λ row. HasTask (names_of app) row.task) (rows_for at.task 0 app.tasks)
+  pub named_bodies : AllByRecursion (λ row. IsTask (names_of app) row.task) (rows_for at.task 0 app.tasks)
   named_bodies =
-      each_body (λ row. HasTask (names_of app) row.task)
+      each_body (λ row. IsTask (names_of app) row.task)
       (λ n t is. omega (arith, slice_get_within app.tasks n t is, length-map app.tasks (λ t. t.name)))

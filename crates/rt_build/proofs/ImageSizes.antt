@@ -21,7 +21,7 @@ use Rattle.rt_app.specs.Level.{levels}
 use Rattle.rt_app.specs.Names.{names_of}
 use Rattle.rt_code.specs.Image.{Image}
 use Rattle.rt_code.specs.Lines.{HasCell, HasLines}
-use Rattle.rt_code.specs.Listable.{IsWord, IsPlain, AreWritable, HasTask, HasInstr, HasNote, IsListable}
+use Rattle.rt_code.specs.Listable.{IsWord, IsPlain, AreWritable, IsTask, HasInstr, HasNote, IsListable}
 use Rattle.rt_code.specs.Runnable.{TakeFewArguments, HaveImplementedValues, HaveNumbersApart}
 use Rattle.rt_code.specs.Runnable.{HasRightSizes, IsRunnable}
 use Rattle.rt_code.specs.declared.instr.Note.{Note}
@@ -117,8 +117,8 @@ module _ (app : App) (at : Entries) (img : Image) (tables : HasTables app at img
       cells = subst (λ cells. AllByRecursion (λ cell. IsWord cell.name) cells) (sym tables.cells)
           (words app accepted.names);
       irqs = subst (λ rows. AllByRecursion (λ row. IsPlain row.name) rows) (sym tables.irqs) (plain_names app at sound);
-      bodies = subst (λ names. AllByRecursion (λ row. HasTask names row.task) img.bodies) (sym tables.names)
-          (subst (λ rows. AllByRecursion (λ row. HasTask (names_of app) row.task) rows) (sym tables.bodies)
+      bodies = subst (λ names. AllByRecursion (λ row. IsTask names row.task) img.bodies) (sym tables.names)
+          (subst (λ rows. AllByRecursion (λ row. IsTask (names_of app) row.task) rows) (sym tables.bodies)
           (named_bodies app at));
       instrs = subst (λ names. AllByRecursion (λ line. HasInstr names line.0) img.code) (sym tables.names)
           (all_weaker (IsNameable (names_of app)) (λ line. HasInstr (names_of app) line.0) (λ line is. is.instr)

@@ -12,7 +12,8 @@ use Rattle.rt_app.specs.Variables.{variables, variables_in}
 use Rattle.rt_app.specs.Accepted as accepted
 use Rattle.rt_app.specs.Accepted.{AreMeant, IsSpawnPlaced, IsValuePlaced, IsStatementPlaced, IsBlockPlaced}
 use Rattle.rt_resolve.specs.Scope.{task_named, shared_resource_named, or_unknown, Names, inside, with_variable, meaning}
-use Rattle.rt_resolve.specs.Resolving.{expression, spawn, value, statement, block, binders_in, binders, behind, in_loop}
+use Rattle.rt_resolve.specs.Resolving.{expression, spawn, value, statement, block, binders_in, binders, names_after}
+use Rattle.rt_resolve.specs.Resolving.{in_loop}
 use Rattle.rt_resolve.specs.Resolved.{resolved_app}
 use Rattle.rt_resolve.specs.Misnamed.{if_unknown, if_taken, expression_faults, call_faults, message_faults}
 use Rattle.rt_resolve.specs.Misnamed.{spawn_faults, value_faults, statement_faults, block_faults}
@@ -108,12 +109,12 @@ mutual
   same_variables Empty names n = refl
   same_variables (Then s rest) names n = rw (
     same_variables_in s names n,
-    same_variables rest (behind names n s) (n + binders_in s),
+    same_variables rest (names_after names n s) (n + binders_in s),
   ) refl
 
 -- what is said of the tree and of what a body lists holds before a statement
 before : (P : App → List Ident → Type 0) (names : Names) (n : ℕ) (s : Statement)
-    → P (behind names n s).app (behind names n s).local → P names.app names.local
+    → P (names_after names n s).app (names_after names n s).local → P names.app names.local
 before P names n (Bind x v) h = h
 before P names n (Assign x e) h = h
 before P names n (Branch e first second) h = h
@@ -131,7 +132,7 @@ with_seen names visible x n seen = declared_seen (n ∷ visible) names.scope x.n
 
 behind_seen : (names : Names) (n : ℕ) (visible : List ℕ) → AreSeen visible names.scope.variables → (s : Statement)
     → AreSeen (accepted.behind (resolved_app names.app) (listings names) n visible (statement names n s))
-    (behind names n s).scope.variables
+    (names_after names n s).scope.variables
 behind_seen names n visible seen (Bind x v) = with_seen names visible x n seen
 behind_seen names n visible seen (Assign x e) = seen
 behind_seen names n visible seen (Branch e first second) = seen
@@ -185,13 +186,13 @@ mutual
       (block names n b)
   block_placed Empty names n visible seen fine = tt
   block_placed (Then s rest) names n visible seen fine =
-      let on_rest = block_faults (behind names n s) (n + binders_in s) rest in
+      let on_rest = block_faults (names_after names n s) (n + binders_in s) rest in
       let wider = accepted.behind (resolved_app names.app) (listings names) n visible (statement names n s) in
-      let placed_rest = block_placed rest (behind names n s) (n + binders_in s) wider
+      let placed_rest = block_placed rest (names_after names n s) (n + binders_in s) wider
       (behind_seen names n visible seen s) (append_none_right (statement_faults names n s) on_rest fine) in
       let of_app = before (λ a xs. IsBlockPlaced (resolved_app a) (listed_by a xs) (n + binders_in s) wider
-      (block (behind names n s) (n + binders_in s) rest)) names n s placed_rest in (
+      (block (names_after names n s) (n + binders_in s) rest)) names n s placed_rest in (
         statement_placed s names n visible seen (append_none_left (statement_faults names n s) on_rest fine),
         subst (λ k. IsBlockPlaced (resolved_app names.app) (listings names) (n + k) wider
-            (block (behind names n s) (n + binders_in s) rest)) (sym (same_variables_in s names n)) of_app,
+            (block (names_after names n s) (n + binders_in s) rest)) (sym (same_variables_in s names n)) of_app,
       )

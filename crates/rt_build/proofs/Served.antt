@@ -28,7 +28,7 @@ use Rattle.rt_app.proofs.SoundCeilings.{tasks_in_range, levels_in_range}
 use Rattle.rt_code.specs.declared.image.Handler.{Handler}
 use Rattle.rt_gen_queue.specs.Called.{row_for}
 use Rattle.rt_build.specs.Entries.{Entries, task_words, handler_words, handler_row, irq_rows}
-use Rattle.rt_build.specs.Inside.Tables.{handler_of, HasHandlers, row_of}
+use Rattle.rt_build.specs.Inside.Tables.{handler_of, HasHandlers, irq_row}
 
 set_same : {X : Type 0} (xs : List X) (i : ℕ) (y : X) → i < length xs → slice_get (set xs i y) i ≡ Some y
 set_same [] i y within = absurd (omega arith)
@@ -98,7 +98,7 @@ module _ (app : App) (at : Entries) where
   -- a row for each interrupt
   rows_from : (ss : List Service) (i : ℕ) (ds : List IrqDecl) (table : List (Option Handler)) → length table ≡ length ds
       → ((k : ℕ) → k < length ds → slice_get table k ≡ Some (handler_of app at ss (i + k)))
-      → services app ≡ ss → map (λ (irq, handler). row_of irq handler) (zip ds table) ≡ irq_rows app at i ds
+      → services app ≡ ss → map (λ (irq, handler). irq_row irq handler) (zip ds table) ≡ irq_rows app at i ds
   rows_from ss i [] table long each are = refl
   rows_from ss i (d ∷ ds) [] long each are = absurd (omega (arith, long))
   rows_from ss i (d ∷ ds) (h ∷ table) long each are =
@@ -109,12 +109,12 @@ module _ (app : App) (at : Entries) where
       let rest : (k : ℕ) → k < length ds → slice_get table k ≡ Some (handler_of app at ss (i + 1 + k)) =
       λ k inside. (let f : i + suc k ≡ i + 1 + k = omega arith in each (suc k) (omega arith)
       ∙ ap (λ j. Some (handler_of app at ss j)) f) in
-      ap (λ o. row_of d o ∷ map (λ (irq, handler). row_of irq handler) (zip ds table)) (own ∙ same)
-      ∙ ap (λ rows. row_of d (handler_of app at (services app) i) ∷ rows)
+      ap (λ o. irq_row d o ∷ map (λ (irq, handler). irq_row irq handler) (zip ds table)) (own ∙ same)
+      ∙ ap (λ rows. irq_row d (handler_of app at (services app) i) ∷ rows)
       (rows_from ss (i + 1) ds table (omega (arith, long)) rest are)
 
   pub rows_are : (table : List (Option Handler)) → HasHandlers app at (services app) table
-      → map (λ (irq, handler). row_of irq handler) (zip app.irqs table) ≡ irq_rows app at 0 app.irqs
+      → map (λ (irq, handler). irq_row irq handler) (zip app.irqs table) ≡ irq_rows app at 0 app.irqs
   rows_are table has =
       rows_from (services app) 0 app.irqs table has.long
       (λ k inside. (let e : 0 + k ≡ k = omega arith in has.each k inside

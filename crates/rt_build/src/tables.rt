@@ -11,7 +11,7 @@ ghost use Rattle.rt_gen_queue.specs.Called.{rows_for};
 ghost use Rattle.rt_build.specs.Entries as spec;
 ghost use Rattle.rt_build.specs.Inside.Plan.{IsAcceptedPlan};
 ghost use Rattle.rt_build.specs.Inside.Code.{HasEntries, entries_of};
-ghost use Rattle.rt_build.specs.Inside.Tables.{HasHandlers, untimed_services, row_of};
+ghost use Rattle.rt_build.specs.Inside.Tables.{HasHandlers, untimed_services, irq_row};
 
 use crate::bodies::{body_rows, start_of};
 use crate::code::Code;
@@ -170,7 +170,7 @@ fn handlers(alloc: Global, plan: &Plan<'_>, code: &Code) -> Result<Vec<Option<Ha
 
 /// The row of a declared interrupt.
 fn irq_row(alloc: Global, irq: &IrqDecl, handler: Option<Handler>) -> Result<IrqRow, NoMemory>
-    ensures { IfOk result (λ row. row ≡ row_of irq.now handler) }
+    ensures { IfOk result (λ row. row ≡ irq_row irq.now handler) }
 {
     Ok(IrqRow {
         name: Name::of(alloc, irq.name.bytes())?,
@@ -186,7 +186,7 @@ fn irq_rows(
     handlers: &[Option<Handler>],
 ) -> Result<Vec<IrqRow>, NoMemory>
     ensures { IfOk result (λ rows. rows.items
-        ≡ map (λ (irq, handler). row_of irq handler) (zip irqs.now handlers.now)) }
+        ≡ map (λ (irq, handler). irq_row irq handler) (zip irqs.now handlers.now)) }
 {
     let mut rows = Vec::new(alloc);
     for (irq, handler) in irqs.iter().zip(handlers) {

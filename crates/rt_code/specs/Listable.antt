@@ -45,43 +45,43 @@ abbrev pub NamesAreWritable : Type 0
 NamesAreWritable = (names : Names) → AreNames names → AreWritable names
 
 -- the interrupt of this number has a name
-abbrev pub HasIrq : Names → ℕ → Type 0
-HasIrq names irq = IsSome (irq_named names irq)
+abbrev pub IsDeclared : Names → ℕ → Type 0
+IsDeclared names irq = IsSome (irq_named names irq)
 
 -- the task of this number has a name
-abbrev pub HasTask : Names → ℕ → Type 0
-HasTask names task = task < length names.tasks
+abbrev pub IsTask : Names → ℕ → Type 0
+IsTask names task = task < length names.tasks
 
 -- a section has the name that its word is made of, where it is of a resource or a task
 abbrev pub HasSection : Names → Section → Type 0
 HasSection names (section.Res r) = r < length names.shared
-HasSection names (section.Free t) = HasTask names t
+HasSection names (section.Free t) = IsTask names t
 HasSection names s = Unit {0}
 
 -- a body has its name, where it is a task's
 abbrev pub HasBody : Names → BodyId → Type 0
-HasBody names (body.Task t) = HasTask names t
+HasBody names (body.Task t) = IsTask names t
 HasBody names b = Unit {0}
 
 -- the interrupt of an instruction has a name, where it pends one or sets its alarm
 abbrev pub HasInstr : Names → Instr → Type 0
-HasInstr names (instr.Post irq) = HasIrq names irq
-HasInstr names (instr.Alarm s irq) = HasIrq names irq
+HasInstr names (instr.Post irq) = IsDeclared names irq
+HasInstr names (instr.Alarm s irq) = IsDeclared names irq
 HasInstr names i = Unit {0}
 
 -- the section, the task or the body of a note has its name
 abbrev pub HasNote : Names → Option Note → Type 0
 HasNote names (Some (note.Enter s)) = HasSection names s
 HasNote names (Some (note.Leave s)) = HasSection names s
-HasNote names (Some (note.Placed t)) = HasTask names t
-HasNote names (Some (note.Full t)) = HasTask names t
-HasNote names (Some (note.Ready t)) = HasTask names t
-HasNote names (Some (note.Start t s)) = HasTask names t
-HasNote names (Some (note.Free t)) = HasTask names t
-HasNote names (Some (note.Arm t s)) = HasTask names t
-HasNote names (Some (note.Fire t)) = HasTask names t
-HasNote names (Some (note.Cancel t s)) = HasTask names t
-HasNote names (Some (note.Move t s a)) = HasTask names t
+HasNote names (Some (note.Placed t)) = IsTask names t
+HasNote names (Some (note.Full t)) = IsTask names t
+HasNote names (Some (note.Ready t)) = IsTask names t
+HasNote names (Some (note.Start t s)) = IsTask names t
+HasNote names (Some (note.Free t)) = IsTask names t
+HasNote names (Some (note.Arm t s)) = IsTask names t
+HasNote names (Some (note.Fire t)) = IsTask names t
+HasNote names (Some (note.Cancel t s)) = IsTask names t
+HasNote names (Some (note.Move t s a)) = IsTask names t
 HasNote names (Some (note.End b)) = HasBody names b
 HasNote names None = Unit {0}
 
@@ -91,6 +91,6 @@ pub record IsListable (img : Image) : Type 0 where
   -- the name of a cell is one word
   pub cells : AllByRecursion (λ cell. IsWord cell.name) img.cells
   pub irqs : AllByRecursion (λ row. IsPlain row.name) img.irqs
-  pub bodies : AllByRecursion (λ row. HasTask img.names row.task) img.bodies
+  pub bodies : AllByRecursion (λ row. IsTask img.names row.task) img.bodies
   pub instrs : AllByRecursion (λ line. HasInstr img.names line.0) img.code
   pub notes : AllByRecursion (λ line. HasNote img.names line.1) img.code

@@ -31,6 +31,6 @@ pub data Effect : Type 0 where
   Leads : (after : Processor) → (request : Request) → Effect
 
 -- what the code answers, and what it leaves, is what came of it; a trap changes nothing
-abbrev pub Gives : Result Request Trap → Processor → Processor → Effect → Type 0
-Gives (Ok request) before after effect = effect ≡ Leads after request
-Gives (Err trap) before after effect = (effect ≡ Traps trap) × (after ≡ before)
+abbrev pub HasEffect : Result Request Trap → Processor → Processor → Effect → Type 0
+HasEffect (Ok request) before after effect = effect ≡ Leads after request
+HasEffect (Err trap) before after effect = (effect ≡ Traps trap) × (after ≡ before)

@@ -2,7 +2,7 @@
 
 ghost use Rattle.std.specs.Prelude.{◌≡◌, ℕ, ◌+◌, ◌^◌, ◌<◌, nat_lt, true, false, List, length, slice_index, slice_set};
 ghost use Rattle.std.specs.Prelude.{IfOk, OnOk, IfErr};
-ghost use Rattle.rt_code.specs.Processor.{processor, Gives};
+ghost use Rattle.rt_code.specs.Processor.{processor, HasEffect};
 ghost use Rattle.rt_code.specs.Effect.{effect};
 ghost use Rattle.rt_code.specs.Inside.Does.{Does};
 
@@ -224,7 +224,7 @@ fn read_clock(
 ) -> Result<Request, Trap>
     requires { registers.old.address + 1 < 2 ^ 32 }
     ensures { (cells : List ℕ)
-        → Gives result (processor registers.old slots.old cells) (processor registers.new slots.new cells)
+        → HasEffect result (processor registers.old slots.old cells) (processor registers.new slots.new cells)
         (effect (Instr.Clock slot) time (processor registers.old slots.old cells)) }
 {
     write(slots, slot, time)?;
@@ -317,7 +317,8 @@ pub fn execute(
     cells: &mut [u32],
 ) -> Result<Request, Trap>
     requires next { registers.old.address + 1 < 2 ^ 32 }
-    ensures { Gives result (processor registers.old slots.old cells.old) (processor registers.new slots.new cells.new)
+    ensures { HasEffect result (processor registers.old slots.old cells.old)
+        (processor registers.new slots.new cells.new)
         (effect instr time (processor registers.old slots.old cells.old)) }
 {
     match instr {

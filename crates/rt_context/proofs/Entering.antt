@@ -3,7 +3,7 @@ use Rattle.std.proofs.Common.{◌≡◌, ℕ, ◌+◌, ◌-◌, ◌^◌, ◌≤�
 use Rattle.std.proofs.Common.{sym, ap, ◌∙◌, arith, append_assoc, length-append}
 use Rattle.std.proofs.lemmas.List.{length-replicate, reverse-append}
 use Rattle.rt_ids.specs.declared.exception.TheConstants.{BASIC_FRAME_WORDS}
-use Rattle.rt_stack.specs.Region.{Region, Fits, empty, top, region_after_push}
+use Rattle.rt_stack.specs.Region.{Region, HasRoomFor, empty, top, region_after_push}
 use Rattle.rt_context.specs.declared.sizes.TheConstants.{STACK_WORDS}
 use Rattle.rt_context.specs.declared.frames.Frames.TheInside.{Inside}
 use Rattle.rt_context.specs.Frames.{Saved, Frames, exception_frame}
@@ -15,17 +15,18 @@ use Rattle.rt_context.proofs.Running.{top_is, fits_from_room}
 -- exception entry, where the code's sum may stop at the largest number
 pub entry_fits : (f : Frames) (c : Inside) (words n : ℕ) → Represents f c → n ≡ min (c.entry + words) (2 ^ 32 - 1)
     → IsTrue (has_room f n)
-    → Fits c.region (c.entry + words)
+    → HasRoomFor c.region (c.entry + words)
 entry_fits f c words n s stopped is =
-    let fits : Fits c.region n = fits_from_room f c n s is in
+    let fits : HasRoomFor c.region n = fits_from_room f c n s is in
     let small = s.small in
     let size = s.size in
     omega arith
 
 -- with the architecture's frame pushed, the handler's frame fits
 pub frame_fits : (f : Frames) (c : Inside) (r : Region) (x : Saved) (words : ℕ) → Represents f c
-    → r ≡ record c.region { words = c.region.words ++ exception_frame c.entry x } → Fits c.region (c.entry + words)
-    → Fits r words
+    → r ≡ record c.region { words = c.region.words ++ exception_frame c.entry x }
+    → HasRoomFor c.region (c.entry + words)
+    → HasRoomFor r words
 frame_fits f c r x words s region fits =
     let basic : BASIC_FRAME_WORDS ≤ c.entry = omega (arith, s.entry, s.basic) in
     let long = ap (λ (r : Region). length r.words) region in

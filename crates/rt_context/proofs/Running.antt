@@ -2,7 +2,7 @@
 use Rattle.std.proofs.Common.{◌≡◌, ℕ, ◌+◌, ◌-◌, ◌≤◌, ◌↔◌, Bool, IsTrue, nat_le, List, ◌++◌, length, take, drop, refl}
 use Rattle.std.proofs.Common.{ap, subst, ◌∙◌, arith, append_assoc}
 use Rattle.std.proofs.lemmas.Bool.Decides.{nat_tests}
-use Rattle.rt_stack.specs.Region.{Fits, top, below, region_after_pop}
+use Rattle.rt_stack.specs.Region.{HasRoomFor, top, below, region_after_pop}
 use Rattle.rt_stack.specs.Region.{used_words}
 use Rattle.rt_context.specs.declared.frames.Frames.TheInside.{Inside}
 use Rattle.rt_code.specs.Stack.{words_of}
@@ -48,10 +48,10 @@ room_test : (r : Bool) (m n size : ℕ) → (IsTrue r ↔ (m + n ≤ size)) → 
 room_test r m n size is = grind (arith, nat_tests)
 
 -- the region's test is the frames'
-pub has_room_is : (f : Frames) (c : Inside) (n : ℕ) (r : Bool) → Represents f c → (IsTrue r ↔ Fits c.region n) → r
+pub has_room_is : (f : Frames) (c : Inside) (n : ℕ) (r : Bool) → Represents f c → (IsTrue r ↔ HasRoomFor c.region n) → r
     ≡ has_room f n
 has_room_is f c n r s is =
     room_test r (used_words c.region) n c.region.size is ∙ (λ i. nat_le (used_is f c s i + n) (s.size i))
 
-pub fits_from_room : (f : Frames) (c : Inside) (n : ℕ) → Represents f c → IsTrue (has_room f n) → Fits c.region n
+pub fits_from_room : (f : Frames) (c : Inside) (n : ℕ) → Represents f c → IsTrue (has_room f n) → HasRoomFor c.region n
 fits_from_room f c n s is = let e = used_is f c s in let size = s.size in grind (arith, nat_tests)

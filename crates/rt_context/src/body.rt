@@ -1,7 +1,7 @@
 // The frame of a called body at the end of a region, above that of the handler that calls it.
 ghost use Rattle.std.specs.Prelude.{◌≡◌, ◌+◌, ◌-◌, ◌<◌, ◌≤◌, ◌==◌, ◌||◌, nat_le, ◌++◌, length, replicate};
 ghost use Rattle.std.specs.Prelude.{take, drop, slice_set};
-ghost use Rattle.rt_stack.specs.Region.{Fits, used_words, top, below};
+ghost use Rattle.rt_stack.specs.Region.{HasRoomFor, used_words, top, below};
 ghost use Rattle.rt_context.specs.declared.sizes.TheConstants.{STACK_WORDS};
 
 use rt_stack::Region;
@@ -31,7 +31,7 @@ pub(crate) fn push(region: &mut Region, caller: u32, frame: u32, from: u32, args
     requires small { region.old.size ≤ STACK_WORDS }
     requires slot { 0 < caller }
     requires caller { caller ≤ used_words region.old }
-    requires fits { Fits region.old frame }
+    requires fits { HasRoomFor region.old frame }
     requires there { 0 < args → from + args ≤ caller }
     requires taken { args ≤ frame }
     ensures { let slots = slice_set (top region.old caller) (caller - 1) address in

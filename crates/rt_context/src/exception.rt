@@ -1,7 +1,7 @@
 // The architecture's frame at the end of a region.
 ghost use Rattle.std.specs.Prelude.{◌≡◌, ◌+◌, ◌≤◌, ◌++◌, None, slice_index};
 ghost use Rattle.rt_ids.specs.declared.exception.TheConstants.{BASIC_FRAME_WORDS};
-ghost use Rattle.rt_stack.specs.Region.{Fits, used_words, top, region_after_pop};
+ghost use Rattle.rt_stack.specs.Region.{HasRoomFor, used_words, top, region_after_pop};
 ghost use Rattle.rt_context.specs.Frames.{Saved, exception_frame};
 
 use rt_stack::Region;
@@ -27,7 +27,7 @@ pub(crate) struct Interrupted {
 pub(crate) fn push(region: &mut Region, entry: u32, frame: u32, number: u32, address: u32)
     requires basic { BASIC_FRAME_WORDS ≤ entry }
     requires frame { frame ≤ used_words region.old }
-    requires fits { Fits region.old entry }
+    requires fits { HasRoomFor region.old entry }
     ensures { let interrupted : Saved = record {
       number = number;
       address = address;

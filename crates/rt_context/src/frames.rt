@@ -3,7 +3,7 @@
 ghost use Rattle.std.specs.Prelude.{◌≡◌, ℕ, ◌+◌, ◌*◌, ◌/◌, ◌%◌, ◌^◌, ◌<◌, ◌≤◌, IsTrue, IfOk, Some, None, false};
 ghost use Rattle.std.specs.Prelude.{length};
 ghost use Rattle.rt_ids.specs.declared.exception.TheConstants.{BASIC_FRAME_WORDS};
-ghost use Rattle.rt_code.specs.Processor.{processor, Gives};
+ghost use Rattle.rt_code.specs.Processor.{processor, HasEffect};
 ghost use Rattle.rt_code.specs.Effect.{effect};
 ghost use Rattle.rt_context.specs.declared.sizes.TheConstants.{CONTEXTS, STACK_WORDS};
 ghost use Rattle.rt_context.specs.Frames as spec;
@@ -206,7 +206,7 @@ impl Frames {
         cells: &mut [u32],
     ) -> Result<Request, Trap>
         requires next { registers.old.address + 1 < 2 ^ 32 }
-        ensures effect { Gives result (processor registers.old self.old.slots cells.old)
+        ensures effect { HasEffect result (processor registers.old self.old.slots cells.old)
             (processor registers.new self.new.slots cells.new)
             (effect instr time (processor registers.old self.old.slots cells.old)) }
         ensures rest { self.new ≡ record self.old { slots = self.new.slots } }

@@ -20,7 +20,7 @@ pub record IsWithin (most : ℕ) (s : Summary) : Type 0 where
   pub full : s.full ≤ most
 
 -- what is counted stays a number of 64 bits
-pub record HasRoom (s t : Summary) : Type 0 where
+pub record SumsFit (s t : Summary) : Type 0 where
   pub runs : s.runs + t.runs < 2 ^ 64
   pub takes : s.takes + t.takes < 2 ^ 64
   pub emits : s.emits + t.emits < 2 ^ 64

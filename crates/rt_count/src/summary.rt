@@ -2,7 +2,7 @@
 
 ghost use Rattle.std.specs.Prelude.{◌≡◌, ◌^◌, [], ◌++◌, IfOk, OnOk};
 ghost use Rattle.rt_count.specs.Summary as spec;
-ghost use Rattle.rt_count.specs.Joining.{joined_summary, IsWithin, HasRoom};
+ghost use Rattle.rt_count.specs.Joining.{joined_summary, IsWithin, SumsFit};
 ghost use Rattle.rt_count.specs.Inside.Adding.{summary_with_item};
 ghost use Rattle.rt_count.specs.Text as text;
 
@@ -65,7 +65,7 @@ impl Summary {
 
     /// Counts other runs behind these.
     pub fn join(&mut self, other: &Summary)
-        requires { HasRoom self.old other.now }
+        requires { SumsFit self.old other.now }
         ensures { self.new ≡ joined_summary self.old other.now }
     {
         self.runs += other.runs;

@@ -2,7 +2,8 @@
 -- rule on sizes counts, they end as it is fixed, and those of a body that emits literals and pends interrupts alone are
 -- fixed.
 use Rattle.rt_gen_queue.proofs.Vocabulary.{After, App, Assign, Bind, Block, Body, BodyId, Bool, Branch, Calc, Call}
-use Rattle.rt_gen_queue.proofs.Vocabulary.{Cancel, Emit, Empty, Expression, HANDLE_COST, HasIrq, IsAccepted, Line, List}
+use Rattle.rt_gen_queue.proofs.Vocabulary.{Cancel, Emit, Empty, Expression, HANDLE_COST, IsDeclared, IsAccepted, Line}
+use Rattle.rt_gen_queue.proofs.Vocabulary.{List}
 use Rattle.rt_gen_queue.proofs.Vocabulary.{Locked, Member, Move, None, Now, Num, Oper, Option, Pend, Read, Repeat}
 use Rattle.rt_gen_queue.proofs.Vocabulary.{SPAWN_AFTER_COST, Some, Soon, Spawn, Spawns, Statement, Task, Then, []}
 use Rattle.rt_gen_queue.proofs.Vocabulary.{accepted_are_sound, ap, arith, block_steps, body_cost, cap_steps, enter_line}
@@ -76,7 +77,7 @@ module _ {app : App} (m : Member) (accepted : IsAccepted app) where
 
   -- what stands where there is a timer queue, and its messages are of a software task
   timed : (task : ℕ) {lines : List Line} {most : ℕ}
-      → ((t : Task) → HasIrq (names_of app) (queue_of app).irq → Spawned app task t → Fine app lines most)
+      → ((t : Task) → IsDeclared (names_of app) (queue_of app).irq → Spawned app task t → Fine app lines most)
       → Fine app (if is_timed c task then lines else []) most
   timed task fine =
       if_fine (is_timed c task)

@@ -38,7 +38,7 @@ pub(crate) fn next_slot(slot: u32) -> u32
 }
 
 impl<'a> Generator<'a> {
-    ghost use Rattle.rt_gen_body.specs.Inside.Generating.{context, IsReady};
+    ghost use Rattle.rt_gen_body.specs.Inside.Generating.{context, IsPlanned};
 
     /// The cell of a local resource.
     fn local_cell(&self, local: u8) -> u32
@@ -107,7 +107,7 @@ impl<'a> Generator<'a> {
         value: &Value,
         code: &mut Lines,
     ) -> Result<(), NoMemory>
-        requires { IsReady self.now }
+        requires { IsPlanned self.now }
         ensures { OnOk result (Appends code.old code.new
             (simple.bind_code (context self.now) threshold (next_address code.old) variable (value_of value.now))) }
     {

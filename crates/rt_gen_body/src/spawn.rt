@@ -8,7 +8,7 @@ ghost use Rattle.rt_gen_queue.specs.Making.{next_address, Appends};
 ghost use Rattle.rt_gen_queue.specs.SpawnCode.{spawn_code};
 ghost use Rattle.rt_gen_body.specs.ValueCode as values;
 ghost use Rattle.rt_gen_body.specs.SimpleCode as simple;
-ghost use Rattle.rt_gen_body.specs.Inside.Generating.{context, IsReady};
+ghost use Rattle.rt_gen_body.specs.Inside.Generating.{context, IsPlanned};
 
 use crate::body::is_called;
 use crate::generator::{Generator, next_slot};
@@ -42,7 +42,7 @@ impl<'a> Generator<'a> {
     /// The lines of the spawn of a software task, whose arguments are in the slots from `spawns` on, at a static
     /// preemption threshold.
     fn push_spawn(&self, threshold: u8, task: TaskId, code: &mut Lines) -> Result<(), NoMemory>
-        requires ready { IsReady self.now }
+        requires ready { IsPlanned self.now }
         requires software { is_some_and is_software (slice_get (context self.now).app.tasks task) ≡ true }
         ensures { OnOk result (Appends code.old code.new
             (spawn_code (context self.now).app task threshold self.now.spawns (next_address code.old))) }
@@ -63,7 +63,7 @@ impl<'a> Generator<'a> {
     /// The spawn of a task whose arguments are there, at a static preemption threshold; nothing where it is no software
     /// task.
     fn message(&self, threshold: u8, number: TaskId, code: &mut Lines) -> Result<(), NoMemory>
-        requires { IsReady self.now }
+        requires { IsPlanned self.now }
         ensures { OnOk result (Appends code.old code.new
             (simple.message_code (context self.now) threshold (next_address code.old) number)) }
     {
@@ -83,7 +83,7 @@ impl<'a> Generator<'a> {
         task: TaskId,
         code: &mut Lines,
     ) -> Result<(), NoMemory>
-        requires ready { IsReady self.now }
+        requires ready { IsPlanned self.now }
         requires timed { IsSome (context self.now).app.mono }
         requires software { is_some_and is_software (slice_get (context self.now).app.tasks task) ≡ true }
         ensures { OnOk result (Appends code.old code.new
@@ -142,7 +142,7 @@ impl<'a> Generator<'a> {
         number: TaskId,
         code: &mut Lines,
     ) -> Result<(), NoMemory>
-        requires { IsReady self.now }
+        requires { IsPlanned self.now }
         ensures { OnOk result (Appends code.old code.new
             (simple.timed_code (context self.now) kind threshold (next_address code.old) number)) }
     {
@@ -175,7 +175,7 @@ impl<'a> Generator<'a> {
 
     /// What goes of a spawn whose values are there, at a static preemption threshold.
     fn goes(&self, threshold: u8, spawn: &Spawn, code: &mut Lines) -> Result<(), NoMemory>
-        requires { IsReady self.now }
+        requires { IsPlanned self.now }
         ensures { OnOk result (Appends code.old code.new
             (simple.goes_code (context self.now) threshold (next_address code.old) (spawn_of spawn.now))) }
     {
@@ -209,7 +209,7 @@ impl<'a> Generator<'a> {
         spawn: &Spawn,
         code: &mut Lines,
     ) -> Result<(), NoMemory>
-        requires { IsReady self.now }
+        requires { IsPlanned self.now }
         ensures { OnOk result (Appends code.old code.new
             (simple.send_code (context self.now) threshold (next_address code.old) (spawn_of spawn.now))) }
     {

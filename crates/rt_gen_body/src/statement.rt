@@ -8,7 +8,7 @@ ghost use Rattle.rt_gen_queue.specs.Guards.{enter_line, leave_line};
 ghost use Rattle.rt_gen_body.specs.BlockCode as blocks;
 ghost use Rattle.rt_gen_queue.specs.Making.{next_address, Appends};
 ghost use Rattle.rt_gen_body.specs.Inside.Choices.{EndsWith, first_code};
-ghost use Rattle.rt_gen_body.specs.Inside.Generating.{context, IsReady};
+ghost use Rattle.rt_gen_body.specs.Inside.Generating.{context, IsPlanned};
 
 use crate::generator::{Generator, next_slot};
 use rt_app::Stmt;
@@ -81,7 +81,7 @@ impl<'a> Generator<'a> {
         first: &[Stmt],
         code: &mut Lines,
     ) -> Result<(), NoMemory>
-        requires { IsReady self.now }
+        requires { IsPlanned self.now }
         ensures { let block = λ (at : ℕ). blocks.block_code (context self.now) threshold lock at (block_of first.now) in
             OnOk result (Appends code.old code.new (blocks.one_code (context self.now) (next_address code.old) block)) }
     {
@@ -102,7 +102,7 @@ impl<'a> Generator<'a> {
         first: &[Stmt],
         code: &mut Lines,
     ) -> Result<usize, NoMemory>
-        requires { IsReady self.now }
+        requires { IsPlanned self.now }
         ensures place { let at = next_address code.old + 1 in
             let block = blocks.block_code (context self.now) threshold lock at (block_of first.now) in
             IfOk result (λ over. over ≡ length code.old.lines + 1 + length block) }
@@ -131,7 +131,7 @@ impl<'a> Generator<'a> {
         over: usize,
         code: &mut Lines,
     ) -> Result<(), NoMemory>
-        requires ready { IsReady self.now }
+        requires ready { IsPlanned self.now }
         requires place { over < length code.old.lines }
         ensures { let at = next_address code.old in
             let block = blocks.block_code (context self.now) threshold lock at (block_of second.now) in
@@ -153,7 +153,7 @@ impl<'a> Generator<'a> {
         inner: &[Stmt],
         code: &mut Lines,
     ) -> Result<(), NoMemory>
-        requires { IsReady self.now }
+        requires { IsPlanned self.now }
         ensures { let block = λ (inside slot at : ℕ).
             blocks.block_code (context self.now) inside slot at (block_of inner.now) in
             OnOk result (Appends code.old code.new
@@ -204,7 +204,7 @@ impl<'a> Generator<'a> {
         turn: &[Stmt],
         code: &mut Lines,
     ) -> Result<(), NoMemory>
-        requires { IsReady self.now }
+        requires { IsPlanned self.now }
         ensures { let at = next_address code.old in
             let block = blocks.block_code (context self.now) threshold lock (at + 4) (block_of turn.now) in
             OnOk result (Appends code.old code.new
@@ -230,7 +230,7 @@ impl<'a> Generator<'a> {
         stmt: &Stmt,
         code: &mut Lines,
     ) -> Result<(), NoMemory>
-        requires { IsReady self.now }
+        requires { IsPlanned self.now }
         ensures { OnOk result (Appends code.old code.new
             (blocks.statement_code (context self.now) threshold lock (next_address code.old) (statement_of stmt.now))) }
     {
@@ -272,7 +272,7 @@ impl<'a> Generator<'a> {
         stmts: &[Stmt],
         code: &mut Lines,
     ) -> Result<(), NoMemory>
-        requires { IsReady self.now }
+        requires { IsPlanned self.now }
         ensures { OnOk result (Appends code.old code.new
             (blocks.block_code (context self.now) threshold lock (next_address code.old) (block_of stmts.now))) }
     {

@@ -1,5 +1,6 @@
 -- The lines of a dispatcher name only what the application declares.
-use Rattle.rt_gen_queue.proofs.Vocabulary.{AllByRecursion, App, HasIrq, IsNameable, Line, List, Task, all_from, arith}
+use Rattle.rt_gen_queue.proofs.Vocabulary.{AllByRecursion, App, IsDeclared, IsNameable, Line, List, Task, all_from}
+use Rattle.rt_gen_queue.proofs.Vocabulary.{arith}
 use Rattle.rt_gen_queue.proofs.Vocabulary.{dispatcher_number, length, length-map, names_of, plain, queue_at}
 use Rattle.rt_gen_queue.proofs.Vocabulary.{range_with_len, slice_get_within, ℕ, ◌+◌, ◌<◌}
 use Rattle.rt_ids.specs.declared.ids.Section.TheVariants as section
@@ -11,7 +12,7 @@ use Rattle.rt_gen_disp.specs.Code.{argument_lines, callee_of, choice_code, choic
 use Rattle.rt_gen_disp.specs.Code.{exit_of, front_lines, next_for, start_lines}
 use Rattle.rt_gen_disp.specs.declared.{called.Called.Called, lines.Exit.Exit}
 
-module _ (app : App) (p : ℕ) (irq : HasIrq (names_of app) (dispatcher_number app p)) where
+module _ (app : App) (p : ℕ) (irq : IsDeclared (names_of app) (dispatcher_number app p)) where
   abbrev Claimed : List Line → Type 0
   Claimed = AreClaimed (names_of app)
 

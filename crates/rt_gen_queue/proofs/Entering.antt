@@ -20,7 +20,7 @@ use Rattle.rt_gen_queue.proofs.Layer.{lasts_less, leaves_here, next_in_time, pla
 use Rattle.rt_gen_queue.proofs.Layer.{window_there}
 use Rattle.rt_gen_queue.proofs.Masks.{mask_of, of_kinds, saves_in}
 use Rattle.rt_gen_queue.proofs.Owning.{IsQueue, agree_out, leaves_out, reads_inside, unread}
-use Rattle.rt_gen_queue.specs.{Guards.value_of, declared.guard.Guard.Guard}
+use Rattle.rt_gen_queue.specs.{Guards.ceiling_value, declared.guard.Guard.Guard}
 
 pub kind_fits : (app : App) (who : Runner) (held : List OpenSection) (x : Section) (threshold slot : ℕ)
     → HoldsOff app who who held threshold → ceiling app x ≤ 2 ^ app.bits
@@ -28,7 +28,7 @@ pub kind_fits : (app : App) (who : Runner) (held : List OpenSection) (x : Sectio
 unfolding storage
 kind_fits app Starting held x threshold slot off top =
     let low : nat_le (ceiling app x) threshold ≡ true = le-leb (ceiling app x) threshold (omega arith) in
-    ap (λ (b : Bool). if b then Marked else if value_of app x == 0 then Masked slot else Raised slot) low
+    ap (λ (b : Bool). if b then Marked else if ceiling_value app x == 0 then Masked slot else Raised slot) low
 kind_fits app (AtPriority p) held x threshold slot off top =
     subst (λ (l : ℕ). IsMask (storage app) (AtPriority p) (ceiling app x) l (kind_at app x threshold slot)) off
     (mask_of (storage app) (AtPriority p) (guard_of app x) threshold slot refl)

@@ -1,5 +1,5 @@
 -- What has to be known of lines for them to name only what is declared.
-use Rattle.rt_gen_queue.proofs.Vocabulary.{AllByRecursion, App, HasIrq, Instr, IsNameable, IsSome, Line, List}
+use Rattle.rt_gen_queue.proofs.Vocabulary.{AllByRecursion, App, IsDeclared, Instr, IsNameable, IsSome, Line, List}
 use Rattle.rt_gen_queue.proofs.Vocabulary.{Names, None, Note, Option, Some, [], ap, drop, drop_at, eq-eqb}
 use Rattle.rt_gen_queue.proofs.Vocabulary.{irq_number, length, map, mapped_at, names_of, option_map}
 use Rattle.rt_gen_queue.proofs.Vocabulary.{or_zero, refl, subst, sym, ℕ, ◌++◌, ◌<◌, ◌==◌, ◌∙◌, ◌∷◌, ◌≡◌}
@@ -10,8 +10,8 @@ use Rattle.rt_code.specs.declared.instr.Instr.TheVariants as instr
 -- of a line with a note all, of one without that its interrupt is declared, where it has one; and the rest
 abbrev Needs : Names → Option Note → Instr → Type 0 → Type 0
 Needs names (Some told) i rest = IsNameable names (i, Some told) × rest
-Needs names None (instr.Post irq) rest = HasIrq names irq × rest
-Needs names None (instr.Alarm s irq) rest = HasIrq names irq × rest
+Needs names None (instr.Post irq) rest = IsDeclared names irq × rest
+Needs names None (instr.Alarm s irq) rest = IsDeclared names irq × rest
 Needs names None i rest = rest
 
 abbrev pub AreClaimed : Names → List Line → Type 0
@@ -58,7 +58,7 @@ named_behind names front new code is claimed =
     (nameable names code claimed)
 
 -- the number of a declared interrupt stands in the names
-pub irq_declared : (app : App) (i : ℕ) → i < length app.irqs → HasIrq (names_of app) (or_zero (irq_number app i))
+pub irq_declared : (app : App) (i : ℕ) → i < length app.irqs → IsDeclared (names_of app) (or_zero (irq_number app i))
 irq_declared app i within =
     let one : (d : IrqDecl) × _ = some_at app.irqs i within in
     let number : ℕ = or_zero (irq_number app i) in

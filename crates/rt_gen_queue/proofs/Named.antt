@@ -1,5 +1,5 @@
 -- The lines of a spawn name only what the application declares.
-use Rattle.rt_gen_queue.proofs.Vocabulary.{App, Contains, HasIrq, IsAccepted, IsSome, Names, None, Option, Section}
+use Rattle.rt_gen_queue.proofs.Vocabulary.{App, Contains, IsDeclared, IsAccepted, IsSome, Names, None, Option, Section}
 use Rattle.rt_gen_queue.proofs.Vocabulary.{Some, Task, [], accepted_are_sound, all_at, arith, dispatcher_number, filter}
 use Rattle.rt_gen_queue.proofs.Vocabulary.{irq_number, is_software, is_some_and, length, length-map, levels, names_of}
 use Rattle.rt_gen_queue.proofs.Vocabulary.{nat_lt, option_map, or_zero, plain, range_with_len, refl, slice_get}
@@ -8,7 +8,7 @@ use Rattle.rt_gen_queue.proofs.Vocabulary.{then_from, true, ℕ, ◌*◌, ◌++�
 use Rattle.rt_ids.specs.declared.ids.Section.TheVariants as section
 use Rattle.rt_ids.specs.declared.op.Op.TheVariants as op
 use Rattle.rt_app.specs.declared.app.Dispatcher.{Dispatcher}
-use Rattle.rt_code.specs.Listable.{HasTask}
+use Rattle.rt_code.specs.Listable.{IsTask}
 use Rattle.rt_code.specs.declared.instr.Instr.TheVariants as instr
 use Rattle.rt_gen_queue.{proofs.Masks.enter_named, proofs.Masks.leave_named, specs.declared.target.Target.Target}
 use Rattle.rt_gen_queue.proofs.Facts.{Spawned, is_there, known, priority}
@@ -17,14 +17,14 @@ use Rattle.rt_gen_queue.specs.SpawnLines.{end_lines, fill_lines, ready_lines}
 
 -- the interrupt that serves a level is declared
 pub dispatcher_named : (app : App) (p : ℕ) → IsAccepted app → Contains (levels app) p
-    → HasIrq (names_of app) (dispatcher_number app p)
+    → IsDeclared (names_of app) (dispatcher_number app p)
 dispatcher_named app p accepted level =
     go (slice_get app.dispatchers (length (filter (nat_lt p) (levels app)))) refl
     ((accepted_are_sound app accepted).dispatched p level)
   where
     go : (o : Option Dispatcher) → slice_get app.dispatchers (length (filter (nat_lt p) (levels app))) ≡ o
         → IsSome (option_map (λ d. d.irq) o)
-        → HasIrq (names_of app) (or_zero (then_from (option_map (λ d. d.irq) o) (irq_number app)))
+        → IsDeclared (names_of app) (or_zero (then_from (option_map (λ d. d.irq) o) (irq_number app)))
     go None at some = absurd cc
     go (Some d) at some =
         irq_declared app d.irq
@@ -37,12 +37,12 @@ spawned app task accepted software =
     let found = the_task is_software app task software in
     (found.0, record { accepted = accepted; at = found.1; software = found.2 })
 
-pub task_declared : (app : App) (task : ℕ) (t : Task) → Spawned app task t → HasTask (names_of app) task
+pub task_declared : (app : App) (task : ℕ) (t : Task) → Spawned app task t → IsTask (names_of app) task
 task_declared app task t facts = omega (arith, is_there app task t facts, length-map app.tasks (λ t. t.name))
 
 -- and the one that serves its level
 pub level_declared : (app : App) (task : ℕ) (t : Task) → Spawned app task t
-    → HasIrq (names_of app) (dispatcher_number app (task_priority app task))
+    → IsDeclared (names_of app) (dispatcher_number app (task_priority app task))
 level_declared app task t facts =
     dispatcher_named app (task_priority app task) facts.accepted
     (subst (λ q. Contains (levels app) q) (sym (priority app task t facts)) (known app task t facts))

@@ -80,7 +80,13 @@ pub use Rattle.rt_app.proofs.{Representing.the_task}
 pub use Rattle.rt_app.proofs.Counting.{all_counted, count_more, counted, one, one_itself, same_entry}
 pub use Rattle.rt_app.proofs.LaidQueues.{capacity_is, free_is_home, input_is_home, many, ready_is_home}
 -- code, and that it stands
-pub use Rattle.rt_code.specs.{Acting.with_queue, Listable.HasIrq, Processor.Leads, Stack.body_frame, Stack.caller_frame}
+pub use Rattle.rt_code.specs.{
+  Acting.with_queue,
+  Listable.IsDeclared,
+  Processor.Leads,
+  Stack.body_frame,
+  Stack.caller_frame,
+}
 pub use Rattle.rt_code.specs.{declared.image.BodyRow.BodyRow, declared.instr.Instr.Instr, declared.instr.Note.Note}
 pub use Rattle.rt_code.specs.Masking.{IsKindFor, IsMask, IsWithin, NobodyKeeps, TakesOver, closing_instr, opening_instr}
 pub use Rattle.rt_code.specs.Masking.{slots_with_mask}

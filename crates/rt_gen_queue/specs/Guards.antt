@@ -31,8 +31,8 @@ leave_line x g threshold slot = line_with_note (closing_instr (kind_of g thresho
 
 module _ (app : App) where
   -- the priority value of a section's ceiling
-  abbrev pub value_of : Section → ℕ
-  value_of x = hardware app.bits (ceiling app x)
+  abbrev pub ceiling_value : Section → ℕ
+  ceiling_value x = hardware app.bits (ceiling app x)
 
   -- the guard of a section: the priority ceiling and its priority value
   abbrev pub guard_of : Section → Guard

@@ -56,9 +56,9 @@ module _ (app : App) (who : Runner) where
     pub agree : Agree (storage app) who s.held ws vs
 
   -- where a job is after these lines of a spawn, with this left to do
-  abbrev pub behind : Configuration → List Line → ℕ → List ℕ → List ℕ → (Location → List Entry) → Rest → Values
+  abbrev pub after_lines : Configuration → List Line → ℕ → List ℕ → List ℕ → (Location → List Entry) → Rest → Values
       → Configuration
-  behind s lines used slots cells queues rest ws = record s {
+  after_lines s lines used slots cells queues rest ws = record s {
     lefts = map (λ n. n - used) s.lefts;
     slots = slots;
     address = s.address + length lines;
@@ -109,7 +109,8 @@ SpawnsStand =
     → ((granted used m : ℕ) (slots cells : List ℕ) (queues : Location → List Entry) (ws : Values) → n ≤ m
     → HasSpawned c.app c.who c.slot c.configuration c.vs granted used slots cells queues ws
     → Stands (storage c.app) c.code c.bodies c.thread c.who m
-    (behind c.app c.who c.configuration (spawn_code c.app c.task c.threshold c.slot c.configuration.address) used slots
+    (after_lines c.app c.who c.configuration
+    (spawn_code c.app c.task c.threshold c.slot c.configuration.address) used slots
     cells queues
     (c.rest granted) ws))
     → Stands (storage c.app) c.code c.bodies c.thread c.who k c.configuration

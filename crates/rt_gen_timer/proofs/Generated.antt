@@ -1,6 +1,7 @@
 -- What has to be known of the code of the calls and of the timer handler for it to be generated: that a plan's tables
 -- have the timer queue, how many lines there are at most, and that these name only what the application declares.
-use Rattle.rt_gen_queue.proofs.Vocabulary.{App, AreFrom, Bool, Ceilings, HasIrq, IsAccepted, IsNameable, IsPlan, IsSome}
+use Rattle.rt_gen_queue.proofs.Vocabulary.{App, AreFrom, Bool, Ceilings, IsDeclared, IsAccepted, IsNameable, IsPlan}
+use Rattle.rt_gen_queue.proofs.Vocabulary.{IsSome}
 use Rattle.rt_gen_queue.proofs.Vocabulary.{Layout, Line, List, Mono, None, Option, Plan, Some, Task, []}
 use Rattle.rt_gen_queue.proofs.Vocabulary.{accepted_are_sound, all_from, ap, app_of, arguments_of, arith, armed_count}
 use Rattle.rt_gen_queue.proofs.Vocabulary.{ceiling, enter_line, false, fill_code, first_from, if◌then◌else◌, irq_number}
@@ -10,7 +11,7 @@ use Rattle.rt_gen_queue.proofs.Vocabulary.{task_priority, then_from, timer_at, t
 use Rattle.rt_gen_queue.proofs.Vocabulary.{◌∷◌, ◌≡◌, ◌≤◌}
 use Rattle.rt_ids.specs.declared.ids.Section.TheVariants as section
 use Rattle.rt_app.specs.{Accepted.IsMonoPlaced, BodyCost.timer_size, Layout.timer_queue_at}
-use Rattle.rt_code.specs.Listable.{HasTask}
+use Rattle.rt_code.specs.Listable.{IsTask}
 use Rattle.rt_code.specs.declared.instr.Instr.TheVariants as instr
 use Rattle.rt_gen_queue.proofs.{Facts.Spawned, Facts.arguments, Facts.few_arguments, Masks.enter_named}
 use Rattle.rt_gen_queue.proofs.{Masks.leave_named, Nameable.AreClaimed, Nameable.claimed_both, Nameable.irq_declared}
@@ -57,12 +58,12 @@ after_short app task threshold slot at t facts =
     omega (arith, length-append (fill_code app task (slot + 1)) last, long, arguments app task t facts, few)
 
 -- the interrupt of the monotonic is declared
-pub timer_named : (app : App) → IsAccepted app → IsSome app.mono → HasIrq (names_of app) (queue_of app).irq
+pub timer_named : (app : App) → IsAccepted app → IsSome app.mono → IsDeclared (names_of app) (queue_of app).irq
 unfolding storage
 timer_named app accepted some = go app.mono some accepted.mono
   where
     go : (o : Option Mono) → IsSome o → IsMonoPlaced app o
-        → HasIrq (names_of app) (or_zero (then_from o (λ (m : Mono). irq_number app m.irq)))
+        → IsDeclared (names_of app) (or_zero (then_from o (λ (m : Mono). irq_number app m.irq)))
     go None some known = absurd cc
     go (Some m) some known = irq_declared app m.irq known
 
@@ -93,7 +94,7 @@ timer_short app mono at =
     omega (arith, short, length-append choices (plain (instr.Jump (at + 10)) ∷ []))
 
 -- the lines of calls and of choices name only what the application declares
-module _ (app : App) (irq : HasIrq (names_of app) (queue_of app).irq) (slot threshold : ℕ) where
+module _ (app : App) (irq : IsDeclared (names_of app) (queue_of app).irq) (slot threshold : ℕ) where
   abbrev Claimed : List Line → Type 0
   Claimed = AreClaimed (names_of app)
 
@@ -107,7 +108,7 @@ module _ (app : App) (irq : HasIrq (names_of app) (queue_of app).irq) (slot thre
     abbrev c : Target
     c = target_of app task
 
-    has : HasTask (names_of app) task
+    has : IsTask (names_of app) task
     has = task_declared app task t facts
 
     enters_free : (mask : ℕ) → IsNameable (names_of app) (enter_line (section.Free task) c.guard threshold mask)
@@ -143,7 +144,8 @@ module _ (app : App) (irq : HasIrq (names_of app) (queue_of app).irq) (slot thre
         let closes = leave_named (names_of app) x c.queue.guard threshold (slot + ARGUMENTS + 8) tt in
         assumption (has, irq, leaves, opens, level_declared app task t facts, closes)
 
-module _ (app : App) (accepted : IsAccepted app) (irq : HasIrq (names_of app) (queue_of app).irq) (threshold : ℕ) where
+module _ (app : App) (accepted : IsAccepted app) (irq : IsDeclared (names_of app) (queue_of app).irq)
+    (threshold : ℕ) where
   choices_claimed : (ts : List Task) (at n : ℕ) → AreFrom app.tasks n ts
       → AreClaimed (names_of app) (choices_code app threshold at n ts)
   choices_claimed [] at n from = tt

@@ -27,7 +27,7 @@ use Rattle.rt_code.specs.Owning.{Configuration, is_open, saved_slots, Agree, Lea
 use Rattle.rt_code.specs.Standing.{Stands, StandsFrom}
 use Rattle.rt_code.specs.declared.image.BodyRow.{BodyRow}
 use Rattle.rt_gen_queue.specs.Line.{Line, HasCodeAt}
-use Rattle.rt_gen_queue.specs.Spawning.{HoldsOff, behind, CallSite, NamesTask}
+use Rattle.rt_gen_queue.specs.Spawning.{HoldsOff, after_lines, CallSite, NamesTask}
 use Rattle.rt_gen_timer.specs.TimerCode.{after_code, cancel_code, move_code, timer_code}
 
 module _ (app : App) where
@@ -74,7 +74,7 @@ module _ (app : App) where
         ((answer used m : ℕ) (slots cells : List ℕ) (queues : Location → List Entry) (ws : Values) → n ≤ m
         → HasUsedTimer steps slot s vs answer used slots cells queues ws
         → Stands (storage app) code bodies thread who m
-        (behind app who s lines used slots cells queues (rest answer) ws))
+        (after_lines app who s lines used slots cells queues (rest answer) ws))
         → (k : ℕ) → steps + n ≤ k → Stands (storage app) code bodies thread who k s
 
 -- the steps of a `spawn_after`

@@ -47,13 +47,13 @@ abbrev pub ident_of : Token → Option Ident
 ident_of t = ident_at t.kind t.text t.at
 
 -- bytes of this kind as a number with its offset, where they are a number
-abbrev pub number_at : Kind → List ℕ → ℕ → Option Number
-number_at kind.Num text at = Some (record { value = number_value text; at = at })
-number_at other text at = None
+abbrev pub number_with_offset : Kind → List ℕ → ℕ → Option Number
+number_with_offset kind.Num text at = Some (record { value = number_value text; at = at })
+number_with_offset other text at = None
 
 -- the number that a token is, where it is one
-abbrev pub number_of : Token → Option Number
-number_of t = number_at t.kind t.text t.at
+abbrev pub number_of_token : Token → Option Number
+number_of_token t = number_with_offset t.kind t.text t.at
 
 -- this word, which may pass this limit
 abbrev pub limited_word : List ℕ → Option Limit → Language ℕ
@@ -93,7 +93,7 @@ number_limit what n = first_of (limit_if (not (nat_lt n.value (2 ^ 32))) limit.N
 
 -- a number that may pass this limit, which depends on its value, besides the one on the size of numbers
 abbrev pub limited_number : (ℕ → Option Limit) → Language Number
-limited_number what = token number_of (number_limit what)
+limited_number what = token number_of_token (number_limit what)
 
 -- a number
 abbrev pub number : Language Number

@@ -20,7 +20,7 @@ use Rattle.rt_points.specs.Leading.{IsPoint, Leads, LeadsTo, LeadsOn, owner_afte
 use Rattle.rt_points.specs.declared.rule.TheConstants.{MOST_OPEN}
 use Rattle.rt_judge.specs.Inside.Exits.{targets, ends_init}
 use Rattle.rt_judge.specs.Inside.Visits.{Spot, point_of, spot_of}
-use Rattle.rt_judge.specs.Inside.Walks.{Reached, Has, ArePoints, IsAdded, IsKnown, IsWalking, IsWalked, next}
+use Rattle.rt_judge.specs.Inside.Walks.{Reached, Has, ArePoints, IsAdded, IsReachedOrWaits, IsWalking, IsWalked, next}
 use Rattle.rt_judge.specs.Inside.Walks.{next_spots, waits_by, behind_by, waits, goes_behind, if_so}
 use Rattle.rt_judge.proofs.ExitLists.{leads_listed, listed_leads, ends, goes_on, stays, leaves}
 use Rattle.rt_judge.proofs.Seen.{all_front, all_last}
@@ -133,7 +133,7 @@ module _ (img : Image) (owner : Owner) (starts : List Spot) (old new : Reached) 
   -- a spot that is known already
   pub walks_past : Has old spot → IsWalking img owner starts old done rest bs
   walks_past has =
-      let known : (s : Spot) → IsKnown old (rest ++ spot ∷ []) s → IsKnown old rest s = λ s is. ⊎_elim
+      let known : (s : Spot) → IsReachedOrWaits old (rest ++ spot ∷ []) s → IsReachedOrWaits old rest s = λ s is. ⊎_elim
       (λ reached. inl reached)
       (λ waits. ⊎_elim (λ front. inr front) (λ same. inl (subst (Has old) same has))
       (Contains-push_cases rest spot s waits))
@@ -152,7 +152,8 @@ module _ (img : Image) (owner : Owner) (starts : List Spot) (old new : Reached) 
   -- a new spot
   module _ (added : IsAdded old new spot) (absent : old spot.address ≡ None) (shallow : length spot.inside ≤ MOST_OPEN)
     where
-      known : (s : Spot) → IsKnown old (rest ++ spot ∷ []) s → IsKnown new (rest ++ waits img owner spot) s
+      known : (s : Spot) → IsReachedOrWaits old (rest ++ spot ∷ []) s
+          → IsReachedOrWaits new (rest ++ waits img owner spot) s
       known s is = ⊎_elim
           (λ reached. inl (keeps_old old new spot added absent s reached))
           (λ waiting. ⊎_elim
@@ -184,7 +185,7 @@ module _ (img : Image) (owner : Owner) (starts : List Spot) (old new : Reached) 
             (behind_are_points img owner spot (slice_get img.code spot.address) refl point_here);
         began = λ s is. known s (before.began s is);
         closed = λ s q has to mine. of_each
-            (λ t. LeadsTo img (point_of owner t) q → IsKnown new (rest ++ waits img owner spot) (spot_of q))
+            (λ t. LeadsTo img (point_of owner t) q → IsReachedOrWaits new (rest ++ waits img owner spot) (spot_of q))
             (λ leads. inr (Contains-append_right rest (waits img owner spot) (spot_of q)
             (leads_waits img owner spot q leads mine)))
             (λ t in_old leads. known (spot_of q) (before.closed t q in_old leads mine))
@@ -201,7 +202,7 @@ module _ (img : Image) (owner : Owner) (starts : List Spot) (old new : Reached) 
 pub walked : (img : Image) (owner : Owner) (starts : List Spot) (reached : Reached) (done bs : List Spot)
     → IsWalking img owner starts reached done [] bs → IsWalked img owner starts reached done bs
 walked img owner starts reached done bs walking =
-    let known : (s : Spot) → IsKnown reached [] s → Has reached s =
+    let known : (s : Spot) → IsReachedOrWaits reached [] s → Has reached s =
     λ s is. ⊎_elim (λ has. has) (λ waits. absurd (contains_none s waits)) is in
     record {
       sound = walking.sound;

@@ -5,12 +5,12 @@ use Rattle.std.specs.List.{starts_with}
 use Rattle.rt_lex.specs.Bytes.{digit_value}
 
 -- the number that digits spell, the first the highest
-abbrev pub value_of : ℕ → List ℕ → ℕ
-value_of base digits = fold (λ n b. n * base + digit_value b) 0 digits
+abbrev pub digits_value : ℕ → List ℕ → ℕ
+digits_value base digits = fold (λ n b. n * base + digit_value b) 0 digits
 
 -- the number that a token's bytes spell: hexadecimal after 0x, else decimal
 abbrev pub number_value : List ℕ → ℕ
-number_value text = if starts_with nat_eq text (codes "0x") then value_of 16 (drop 2 text) else value_of 10 text
+number_value text = if starts_with nat_eq text (codes "0x") then digits_value 16 (drop 2 text) else digits_value 10 text
 
 -- a number where it is of 32 bits
 abbrev pub in_32_bits : ℕ → Option ℕ

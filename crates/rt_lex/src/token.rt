@@ -2,7 +2,7 @@
 
 ghost use Rattle.std.specs.Prelude.{◌≡◌, ◌<◌};
 ghost use Rattle.rt_lex.specs.Bytes.{digit_value};
-ghost use Rattle.rt_lex.specs.Number.{value_of, number_value, in_32_bits};
+ghost use Rattle.rt_lex.specs.Number.{digits_value, number_value, in_32_bits};
 ghost use Rattle.rt_lex.specs.Token.{view, is_this_word, is_this_name, is_this_sign};
 
 /// What a token is.
@@ -76,7 +76,7 @@ fn digit_value(digit: u8) -> u8
 /// The number that digits spell, the first the highest. None where it passes 32 bits.
 fn value_of(base: u32, digits: &[u8]) -> Option<u32>
     requires { 0 < base }
-    ensures { result ≡ in_32_bits (value_of base digits.now) }
+    ensures { result ≡ in_32_bits (digits_value base digits.now) }
 {
     let mut value: u32 = 0;
     for digit in digits {

@@ -17,7 +17,7 @@ use Rattle.rt_ast.specs.declared.ident.Number.{Number}
 use Rattle.rt_ast.specs.PrintableBody.{IsPrintableName, IsPrintableNumber}
 use Rattle.rt_grammar.specs.Mark.{Mark}
 use Rattle.rt_grammar.specs.Language.{Language, token}
-use Rattle.rt_grammar.specs.Tokens.{limit_if, first_of, ident_at, ident_of, number_of, name_limit, number_limit}
+use Rattle.rt_grammar.specs.Tokens.{limit_if, first_of, ident_at, ident_of, number_of_token, name_limit, number_limit}
 use Rattle.rt_grammar.specs.Tokens.{limited_word, limited_sign, limited_name, this_name, limited_number, list}
 use Rattle.rt_limits.proofs.Keeps.{AllSound, Keeps, keeps_gives, keeps_then, keeps_or, keeps_as, keeps_repeat}
 
@@ -122,7 +122,7 @@ pub record IsNumberTaken (what : ℕ → Option Limit) (n : Number) : Type 0 whe
 pub keeps_number : {what : ℕ → Option Limit} → Keeps (limited_number what) (IsNumberTaken what)
 keeps_number {what} = keeps_as keeps_token taken
   where
-    taken : (n : Number) → IsTaken number_of (number_limit what) n → IsNumberTaken what n
+    taken : (n : Number) → IsTaken number_of_token (number_limit what) n → IsNumberTaken what n
     taken n t =
         let own = limit_if (not (nat_lt n.value (2 ^ 32))) limit.Number in
         record {

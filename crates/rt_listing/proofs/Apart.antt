@@ -10,7 +10,7 @@ use Rattle.rt_lemmas.proofs.Lists.{all_both, all_map}
 use Rattle.rt_lemmas.proofs.Membership.{all_weaker}
 use Rattle.rt_ids.specs.Names.{Names}
 use Rattle.rt_code.specs.Image.{Image}
-use Rattle.rt_code.specs.Listable.{IsListable, AreWritable, HasTask, HasInstr, HasNote, IsWord, IsPlain, blanks}
+use Rattle.rt_code.specs.Listable.{IsListable, AreWritable, IsTask, HasInstr, HasNote, IsWord, IsPlain, blanks}
 use Rattle.rt_code.specs.declared.image.Handler.{Handler}
 use Rattle.rt_code.specs.declared.instr.Instr.{Instr}
 use Rattle.rt_code.specs.declared.instr.Note.{Note}
@@ -171,7 +171,7 @@ record IsGoodLine (names : Names) (code : Instr × Option Note) : Type 0 where
   pub slots : AreShort (note_numbers code.1)
 
 module _ (names : Names) (good : AreWritable names) where
-  bodies : IsKind (λ row. HasTask names row.task × AreShort (row.entry ∷ row.frame ∷ row.args ∷ []))
+  bodies : IsKind (λ row. IsTask names row.task × AreShort (row.entry ∷ row.frame ∷ row.args ∷ []))
       (λ n. body_row names) (codes "body")
   bodies = record {
     owned = λ n row. refl;
@@ -265,7 +265,7 @@ record IsTold (names : Names) (img : Image) : Type 0 where
   thread_words : IsShort img.thread_words
   cells : AllByRecursion (λ cell. IsShort cell.first) img.cells
   irqs : AllByRecursion (λ row. AreShort (row.number ∷ handler_numbers row.handler)) img.irqs
-  bodies : AllByRecursion (λ row. HasTask names row.task × AreShort (row.entry ∷ row.frame ∷ row.args ∷ [])) img.bodies
+  bodies : AllByRecursion (λ row. IsTask names row.task × AreShort (row.entry ∷ row.frame ∷ row.args ∷ [])) img.bodies
   code : AllByRecursion (IsGoodLine names) img.code
 
 told : (img : Image) → IsListable img → HasShortNumbers img → IsTold img.names img

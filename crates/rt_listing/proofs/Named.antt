@@ -19,7 +19,7 @@ use Rattle.rt_ids.specs.declared.ids.BodyId.{BodyId}
 use Rattle.rt_ids.specs.declared.ids.BodyId.TheVariants as body
 use Rattle.rt_ids.specs.declared.ids.Section.{Section}
 use Rattle.rt_ids.specs.declared.ids.Section.TheVariants as section
-use Rattle.rt_code.specs.Listable.{IsPlain, AreWritable, HasIrq, HasTask, HasSection, HasBody, HasInstr, HasNote}
+use Rattle.rt_code.specs.Listable.{IsPlain, AreWritable, IsDeclared, IsTask, HasSection, HasBody, HasInstr, HasNote}
 use Rattle.rt_code.specs.declared.instr.Instr.{Instr}
 use Rattle.rt_code.specs.declared.instr.Instr.TheVariants as instr
 use Rattle.rt_code.specs.declared.instr.Note.{Note}
@@ -83,7 +83,7 @@ is_other names i w below out = false_from_ne_true _
     (λ e. out (i, below, get_or_default names i w [] below ∙ (bytes_eq-Decides _ w).0 e))
 
 module _ (names : Names) (good : AreWritable names) where
-  irq_back : (n : ℕ) → HasIrq names n → irq_of names (irq_name names n) ≡ n
+  irq_back : (n : ℕ) → IsDeclared names n → irq_of names (irq_name names n) ≡ n
   irq_back n here =
       let name = λ (irq : List ℕ × ℕ). irq.0 in
       let test = λ (irq : List ℕ × ℕ). irq.1 == n in
@@ -101,7 +101,7 @@ module _ (names : Names) (good : AreWritable names) where
       ap (λ (k : ℕ). (get_or names.irqs k ([], 0)).1) index
       ∙ (eqb-true _ n (passes_at_first test names.irqs ([], 0) below))
 
-  task_back : (t : ℕ) → HasTask names t → index_of names.tasks (task_name names t) ≡ t
+  task_back : (t : ℕ) → IsTask names t → index_of names.tasks (task_name names t) ≡ t
   task_back t here = index_back names.tasks t good.tasks_differ here
 
   section_back : (s : Section) → HasSection names s → AreShort (section_numbers s)
@@ -125,8 +125,8 @@ module _ (names : Names) (good : AreWritable names) where
   -- a value of a kind that listings have has its name, and numbers of 64 bits
   abbrev HasName : (k : Kind) → Value k → Type 0
   HasName (Number bound) n = IsShort n
-  HasName FirstIrqName irq = HasIrq names irq
-  HasName TaskName t = HasTask names t
+  HasName FirstIrqName irq = IsDeclared names irq
+  HasName TaskName t = IsTask names t
   HasName BodyName b = HasBody names b
   HasName SectionName s = HasSection names s × AreShort (section_numbers s)
   HasName k v = ⊥

@@ -10,20 +10,20 @@ use Rattle.rt_lines.specs.Parts.{parts}
 use Rattle.rt_lines.proofs.Apart.{same_cons}
 use Rattle.rt_lines.proofs.Splitting.{split_some}
 use Rattle.rt_lines.proofs.Words.{first_part}
-use Rattle.rt_load.specs.Reading.{line_with_feed, IsLine, Form}
+use Rattle.rt_load.specs.Reading.{line_with_feed, IsOneLine, Form}
 use Rattle.rt_load.specs.Inside.Reader.{fed_lines, ended, take, told, step, listing_reader}
 use Rattle.rt_load.specs.declared.front.Front.{Front}
 
-pub fed_first : (line rest : List ℕ) → IsLine line
+pub fed_first : (line rest : List ℕ) → IsOneLine line
     → fed_lines (line_with_feed line ++ rest) ≡ line_with_feed line ∷ fed_lines rest
 fed_first [] rest own = refl
 fed_first (b ∷ line) rest own = rw (ne_eqb b 10 own.0, fed_first line rest own.1) refl
 
-pub fed_last : (b : ℕ) (text : List ℕ) → IsLine (b ∷ text) → fed_lines (b ∷ text) ≡ (b ∷ text) ∷ []
+pub fed_last : (b : ℕ) (text : List ℕ) → IsOneLine (b ∷ text) → fed_lines (b ∷ text) ≡ (b ∷ text) ∷ []
 fed_last b [] own = rw (ne_eqb b 10 own.0) refl
 fed_last b (c ∷ text) own = rw (ne_eqb b 10 own.0, fed_last c text own.1) refl
 
-pub fed_all : (ls : List (List ℕ)) (rest : List ℕ) → AllByRecursion IsLine ls
+pub fed_all : (ls : List (List ℕ)) (rest : List ℕ) → AllByRecursion IsOneLine ls
     → fed_lines (flat_map line_with_feed ls ++ rest) ≡ map line_with_feed ls ++ fed_lines rest
 fed_all [] rest all = refl
 fed_all (line ∷ ls) rest all =
@@ -33,8 +33,8 @@ fed_all (line ∷ ls) rest all =
 
 -- a text is a line with its line feed and more, or has no line feed
 pub data Cut (text : List ℕ) : Type 0 where
-  Fed : (line rest : List ℕ) → (own : IsLine line) → (is : text ≡ line_with_feed line ++ rest) → Cut text
-  Last : (own : IsLine text) → Cut text
+  Fed : (line rest : List ℕ) → (own : IsOneLine line) → (is : text ≡ line_with_feed line ++ rest) → Cut text
+  Last : (own : IsOneLine text) → Cut text
 
 pub cut_of : (text : List ℕ) → Cut text
 cut_of [] = Last tt
@@ -49,29 +49,29 @@ cut_of (b ∷ text) = by (b == 10) refl (cut_of text)
     by false e (Last own) = Last (other e, own)
 
 -- its parts
-first_of : (line rest : List ℕ) → IsLine line → parts 10 (line_with_feed line ++ rest) ≡ line ∷ parts 10 rest
+first_of : (line rest : List ℕ) → IsOneLine line → parts 10 (line_with_feed line ++ rest) ≡ line ∷ parts 10 rest
 first_of line rest own =
     ap (parts 10) (append_assoc line (10 ∷ []) rest)
     ∙ first_part 10 line rest
     (all_weaker (λ b. b ≢ 10) (λ b. (b == 10) ≡ false) (λ b other. ne_eqb b 10 other) line own)
 
-only_part : (text : List ℕ) → IsLine text → parts 10 text ≡ text ∷ []
+only_part : (text : List ℕ) → IsOneLine text → parts 10 text ≡ text ∷ []
 only_part [] own = refl
 only_part (b ∷ text) own = rw (ne_eqb b 10 own.0, only_part text own.1) refl
 
 -- and a text of such parts
 pub cut_is : (text line rest : List ℕ) → parts 10 text ≡ line ∷ parts 10 rest
-    → IsLine line × (text ≡ line_with_feed line ++ rest)
+    → IsOneLine line × (text ≡ line_with_feed line ++ rest)
 cut_is text line rest e = by (cut_of text)
   where
     joined : (t : List ℕ) → join_with_byte 10 (parts 10 t) ≡ t
     joined t = join_with_byte-slice_split 10 t
 
-    by : Cut text → IsLine line × (text ≡ line_with_feed line ++ rest)
+    by : Cut text → IsOneLine line × (text ≡ line_with_feed line ++ rest)
     by (Fed l r own is) =
         let same = same_cons l line (parts 10 r) (parts 10 rest)
         (sym (first_of l r own) ∙ ap (parts 10) (sym is) ∙ e) in (
-          subst IsLine same.0 own,
+          subst IsOneLine same.0 own,
           is ∙ ap₂ (λ (l r : List ℕ). line_with_feed l ++ r) same.0
               (sym (joined r) ∙ ap (join_with_byte 10) same.1 ∙ joined rest),
         )
@@ -81,10 +81,10 @@ cut_is text line rest e = by (cut_of text)
         sym (only_part text own) ∙ e ∙ ap (λ (ps : List (List ℕ)). line ∷ ps) some.2 in
         absurd cc
 
-pub last_is : (text line : List ℕ) → parts 10 text ≡ line ∷ [] → IsLine text
+pub last_is : (text line : List ℕ) → parts 10 text ≡ line ∷ [] → IsOneLine text
 last_is text line e = by (cut_of text)
   where
-    by : Cut text → IsLine text
+    by : Cut text → IsOneLine text
     by (Last own) = own
     by (Fed l r own is) =
         let some = split_some (λ b. b == 10) r in
@@ -93,11 +93,11 @@ last_is text line e = by (cut_of text)
         absurd cc
 
 -- what a reader makes of a line with its line feed, and of one without
-pub step_fed : (s : Option Front) (line : List ℕ) → IsLine line
+pub step_fed : (s : Option Front) (line : List ℕ) → IsOneLine line
     → listing_reader.step s (line_with_feed line) ≡ told (take s line)
 step_fed s line own =
     ap (λ t. step s (ended (parts 10 t))) (sym (append-nil (line_with_feed line)))
     ∙ ap (λ ps. step s (ended ps)) (first_of line [] own)
 
-pub step_last : (s : Option Front) (text : List ℕ) → IsLine text → listing_reader.step s text ≡ Err Form
+pub step_last : (s : Option Front) (text : List ℕ) → IsOneLine text → listing_reader.step s text ≡ Err Form
 step_last s text own = ap (λ ps. step s (ended ps)) (only_part text own)

@@ -6,7 +6,7 @@ use Rattle.rt_code.specs.Image.{Image}
 use Rattle.rt_lines.specs.Reading.{Lead}
 use Rattle.rt_listing.specs.Listing.{listing}
 use Rattle.rt_load.specs.Loadable.{IsLoadable}
-use Rattle.rt_load.specs.Reading.{line_with_feed, IsLine, Fault}
+use Rattle.rt_load.specs.Reading.{line_with_feed, IsOneLine, Fault}
 use Rattle.rt_load.specs.Inside.Reader.{fed_lines, fault_of, take, told, listing_reader}
 use Rattle.rt_load.specs.declared.front.Front.{Front}
 use Rattle.rt_load.specs.declared.operand.Wrong.{Wrong}
@@ -43,7 +43,7 @@ line_left (Some front) next line text left e =
     let goes = line_taken front next line left.0 e in
     (goes.stands, goes.text ∙ ap (λ t. t ++ line_with_feed line) left.1)
 
-pub lines_left : (lines : List (List ℕ)) (s t : Option Front) (text : List ℕ) → AllByRecursion IsLine lines
+pub lines_left : (lines : List (List ℕ)) (s t : Option Front) (text : List ℕ) → AllByRecursion IsOneLine lines
     → Left s text → Leads s lines t → Left t (text ++ flat_map line_with_feed lines)
 lines_left [] s t text all left lead =
     subst (λ u. Left u (text ++ [])) lead (subst (Left s) (sym (append-nil text)) left)
@@ -77,7 +77,7 @@ module _ (img : Image) (l : IsLoadable img) where
       (listing_led img l)
 
   -- also where it is cut behind lines
-  pub cut_leads : (before : List (List ℕ)) (rest : List ℕ) → AllByRecursion IsLine before
+  pub cut_leads : (before : List (List ℕ)) (rest : List ℕ) → AllByRecursion IsOneLine before
       → listing img ≡ flat_map line_with_feed before ++ rest → (s : Option Front) × Leads None before s
       × Lead listing_reader s (fed_lines rest) (Some (whole img l))
   cut_leads before rest all is =
@@ -85,7 +85,7 @@ module _ (img : Image) (l : IsLoadable img) where
       (subst (λ ls. Lead listing_reader None ls (Some (whole img l))) (ap fed_lines is ∙ fed_all before rest all)
       listing_leads)
 
-  pub rest_leads : (before : List (List ℕ)) (rest : List ℕ) (s : Option Front) → AllByRecursion IsLine before
+  pub rest_leads : (before : List (List ℕ)) (rest : List ℕ) (s : Option Front) → AllByRecursion IsOneLine before
       → Leads None before s → listing img ≡ flat_map line_with_feed before ++ rest
       → Lead listing_reader s (fed_lines rest) (Some (whole img l))
   rest_leads before rest s all lead is =
@@ -93,8 +93,8 @@ module _ (img : Image) (l : IsLoadable img) where
       subst (λ u. Lead listing_reader u (fed_lines rest) (Some (whole img l)))
       (one_lead (map line_with_feed before) None cut.0 s cut.1 lead) cut.2
 
-  pub next_leads : (before : List (List ℕ)) (line rest : List ℕ) (s : Option Front) → AllByRecursion IsLine before
-      → IsLine line → Leads None before s
+  pub next_leads : (before : List (List ℕ)) (line rest : List ℕ) (s : Option Front) → AllByRecursion IsOneLine before
+      → IsOneLine line → Leads None before s
       → listing img ≡ (flat_map line_with_feed before ++ line_with_feed line) ++ rest
       → Lead listing_reader s (line_with_feed line ∷ fed_lines rest) (Some (whole img l))
   next_leads before line rest s all own lead is =

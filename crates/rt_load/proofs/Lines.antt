@@ -24,7 +24,7 @@ use Rattle.rt_listing.proofs.Lines.{Row, row_text, first_row, cell_row, irq_row,
 use Rattle.rt_listing.proofs.Lines.{row_unbroken, row_spaced, first_free, cell_free, irq_free, body_free, code_free}
 use Rattle.rt_listing.proofs.Lines.{blank_free}
 use Rattle.rt_listing.proofs.Told.{instr_bytes}
-use Rattle.rt_load.specs.Reading.{IsLine}
+use Rattle.rt_load.specs.Reading.{IsOneLine}
 use Rattle.rt_load.specs.Inside.Operand.{is_end, in_front, behind}
 
 abbrev pub first_text : Image → ℕ → ℕ → List ℕ
@@ -50,11 +50,11 @@ pub record IsSpelled (row : Row) : Type 0 where
 pub words_of_spelled : (row : Row) → IsSpelled row → words (row_text row) ≡ row.0 ∷ row.1
 words_of_spelled row s = row_spaced row s.spaced
 
-pub line_of_free : (row : Row) → IsFreeRow 10 row → IsLine (row_text row)
+pub line_of_free : (row : Row) → IsFreeRow 10 row → IsOneLine (row_text row)
 line_of_free row free = all_weaker (λ b. (b == 10) ≡ false) (λ byte. byte ≢ 10)
     (λ b other. λ e. true_and_false (b == 10) (eq-eqb b 10 e) other) (row_text row) (row_unbroken row free)
 
-pub line_of_spelled : (row : Row) → IsSpelled row → IsLine (row_text row)
+pub line_of_spelled : (row : Row) → IsSpelled row → IsOneLine (row_text row)
 line_of_spelled row s = line_of_free row s.unbroken
 
 pub known_names : (names : Names) → AreNames names → AreKnown names

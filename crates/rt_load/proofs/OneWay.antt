@@ -14,7 +14,8 @@ use Rattle.rt_lines.specs.Reading.{Lead, IsRead, IsWrongNext}
 use Rattle.rt_listing.specs.Listing.{listing}
 use Rattle.rt_load.specs.Laws.{AreReadOneWay}
 use Rattle.rt_load.specs.Loadable.{IsLoadable}
-use Rattle.rt_load.specs.Reading.{IsListingText, IsViablePrefix, line_with_feed, IsLine, IsFirstWrong, IsWrong, IsFault}
+use Rattle.rt_load.specs.Reading.{IsListingText, IsViablePrefix, line_with_feed, IsOneLine, IsFirstWrongLine, IsWrong}
+use Rattle.rt_load.specs.Reading.{IsFault}
 use Rattle.rt_load.specs.Reading.{Fault, Form, Name}
 use Rattle.rt_load.specs.Inside.Reader.{fed_lines, is_whole, listing_reader}
 use Rattle.rt_load.specs.declared.front.Front.{Front}
@@ -30,7 +31,7 @@ record Parted (text : List ℕ) (ls more : List (List ℕ)) : Type 0 where
   before : List (List ℕ)
   rest : List ℕ
   is : text ≡ flat_map line_with_feed before ++ rest
-  are_lines : AllByRecursion IsLine before
+  are_lines : AllByRecursion IsOneLine before
   lines_are : ls ≡ map line_with_feed before
   more_is : more ≡ fed_lines rest
 
@@ -110,7 +111,7 @@ at_line : (f line behind : List ℕ) → f ++ ((line ++ 10 ∷ []) ++ behind) �
 at_line f line behind = simp append_assoc
 
 pub from_wrong : (text : List ℕ) (n : ℕ) (fault : Fault) → reader.IsFirstWrong listing_reader text n fault
-    → IsFirstWrong text n fault
+    → IsFirstWrongLine text n fault
 from_wrong text n fault r = by (cut_of p.rest)
   where
     p : Parted text r.before r.behind
@@ -125,8 +126,8 @@ from_wrong text n fault r = by (cut_of p.rest)
     next : IsWrongNext listing_reader r.reached (fed_lines p.rest) fault
     next = subst (λ ls. IsWrongNext listing_reader r.reached ls fault) p.more_is r.wrong
 
-    made : (line behind : List ℕ) → text ≡ front ++ line ++ behind → IsLine line → IsWrong front line behind fault
-        → IsFirstWrong text n fault
+    made : (line behind : List ℕ) → text ≡ front ++ line ++ behind → IsOneLine line → IsWrong front line behind fault
+        → IsFirstWrongLine text n fault
     made line behind is own wrong = record {
       short = r.short;
       before = p.before;
@@ -140,7 +141,7 @@ from_wrong text n fault r = by (cut_of p.rest)
       wrong = wrong;
     }
 
-    by : Cut p.rest → IsFirstWrong text n fault
+    by : Cut p.rest → IsFirstWrongLine text n fault
     by (Fed line rest own is) =
         let e = subst (λ ls. IsWrongNext listing_reader r.reached ls fault) (ap fed_lines is ∙ fed_first line rest own)
         next in
@@ -162,8 +163,9 @@ same_fault front line Name Name v w = refl
 same_fault front line Form Name v w = absurd (v w)
 same_fault front line Name Form v w = absurd (w v)
 
-module _ (before : List (List ℕ)) (s : Option Front) (all : AllByRecursion IsLine before) (lead : Leads None before s)
-    (line : List ℕ) (own : IsLine line) (fault : Fault) where
+module _ (before : List (List ℕ)) (s : Option Front) (all : AllByRecursion IsOneLine before)
+    (lead : Leads None before s)
+    (line : List ℕ) (own : IsOneLine line) (fault : Fault) where
   by_step : (r : Result (Option Front) Fault) → listing_reader.step s (line_with_feed line) ≡ r
       → ¬ IsViablePrefix (flat_map line_with_feed before ++ line_with_feed line)
       → IsFault (flat_map line_with_feed before) line fault → listing_reader.step s (line_with_feed line) ≡ Err fault
@@ -203,7 +205,7 @@ module _ (before : List (List ℕ)) (s : Option Front) (all : AllByRecursion IsL
       ∙ ap fed_lines (sym (append_assoc line (10 ∷ []) behind)) ∙ fed_first line behind own))
       (by_step (listing_reader.step s (line_with_feed line)) refl wrong.1 wrong.2)
 
-to_wrong : (text : List ℕ) (n : ℕ) (fault : Fault) → IsFirstWrong text n fault
+to_wrong : (text : List ℕ) (n : ℕ) (fault : Fault) → IsFirstWrongLine text n fault
     → reader.IsFirstWrong listing_reader text n fault
 to_wrong text n fault p =
     let b = p.begins in

@@ -19,7 +19,7 @@ use Rattle.rt_ids.specs.declared.limits.TheConstants.{IRQS, TASKS}
 use Rattle.rt_ids.proofs.Lists.{all_push}
 use Rattle.rt_ids.proofs.Declared.{irq_added, task_added, resource_added}
 use Rattle.rt_code.specs.Image.{Image}
-use Rattle.rt_code.specs.Listable.{IsWord, IsPlain, HasTask, HasInstr, HasNote}
+use Rattle.rt_code.specs.Listable.{IsWord, IsPlain, IsTask, HasInstr, HasNote}
 use Rattle.rt_code.proofs.Writable.{names_writable}
 use Rattle.rt_code.specs.declared.image.IrqRow.{IrqRow}
 use Rattle.rt_code.specs.declared.image.BodyRow.{BodyRow}
@@ -129,7 +129,7 @@ with_cell img cell more l in_cells with first few = record {
     names = names_writable more with.are;
     cells = all_push (λ (cell : CellRow). IsWord cell.name) img.cells cell l.listable.cells with.word;
     irqs = l.listable.irqs;
-    bodies = subst (λ (rows : List BodyRow). AllByRecursion (λ row. HasTask more row.task) rows) (sym in_cells.bodies)
+    bodies = subst (λ (rows : List BodyRow). AllByRecursion (λ row. IsTask more row.task) rows) (sym in_cells.bodies)
         tt;
     instrs = subst (λ (lines : List (Instr × Option Note)). AllByRecursion (λ line. HasInstr more line.0) lines)
         (sym in_cells.code) tt;
@@ -284,18 +284,18 @@ irq_goes front row stands may within =
     }
 
 -- older tasks keep their names
-older_name : (names : Names) (name : List ℕ) (task : ℕ) → HasTask names task → task_name (with_task names name) task
+older_name : (names : Names) (name : List ℕ) (task : ℕ) → IsTask names task → task_name (with_task names name) task
     ≡ task_name names task
 older_name names name task has = get_or_append_left names.tasks (name ∷ []) [] task has
 
-older_names : (names : Names) (name : List ℕ) (rows : List BodyRow) → AllByRecursion (λ row. HasTask names row.task)
+older_names : (names : Names) (name : List ℕ) (rows : List BodyRow) → AllByRecursion (λ row. IsTask names row.task)
     rows
     → map (λ row. task_name (with_task names name) row.task) rows ≡ map (λ row. task_name names row.task) rows
 older_names names name [] all = refl
 older_names names name (row ∷ rows) all = rw (older_name names name row.task all.0, older_names names name rows all.1)
     refl
 
-older_lines : (names : Names) (name : List ℕ) (rows : List BodyRow) → AllByRecursion (λ row. HasTask names row.task)
+older_lines : (names : Names) (name : List ℕ) (rows : List BodyRow) → AllByRecursion (λ row. IsTask names row.task)
     rows
     → flat_map (body_line (with_task names name)) rows ≡ flat_map (body_line names) rows
 older_lines names name [] all = refl
@@ -330,9 +330,9 @@ with_body img name row l no_code within task new =
         names = names_writable _ are;
         cells = l.listable.cells;
         irqs = l.listable.irqs;
-        bodies = all_push (λ (row : BodyRow). HasTask (with_task img.names name) row.task) img.bodies row
-            (all_weaker (λ (row : BodyRow). HasTask img.names row.task)
-            (λ (row : BodyRow). HasTask (with_task img.names name) row.task)
+        bodies = all_push (λ (row : BodyRow). IsTask (with_task img.names name) row.task) img.bodies row
+            (all_weaker (λ (row : BodyRow). IsTask img.names row.task)
+            (λ (row : BodyRow). IsTask (with_task img.names name) row.task)
             (λ row has. omega (arith, has, longer)) img.bodies l.listable.bodies)
             (omega (arith, task, longer));
         instrs = subst (λ (lines : List (Instr × Option Note)). AllByRecursion

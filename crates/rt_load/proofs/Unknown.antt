@@ -28,7 +28,7 @@ use Rattle.rt_listing.specs.Words.{note_operands, note_words, noted_words}
 use Rattle.rt_listing.proofs.Lines.{code_row}
 use Rattle.rt_listing.proofs.Told.{IsAny, instrs_agree, notes_agree}
 use Rattle.rt_load.specs.Loadable.{Is32Bits, IsNoteWithin}
-use Rattle.rt_load.specs.Reading.{line_with_feed, IsLine, AreMore, IsOfUnknownName}
+use Rattle.rt_load.specs.Reading.{line_with_feed, IsOneLine, AreMore, IsOfUnknownName}
 use Rattle.rt_load.specs.Inside.Operand.{of_line, behind}
 use Rattle.rt_load.specs.Inside.Noting.{words_at, note_after, line_at}
 use Rattle.rt_load.specs.Inside.Rows.{cell_at, irq_row_at, body_row_at}
@@ -242,14 +242,14 @@ refuted front line more address code w m are may here few right is e =
     by (Err word.Form) p over q = absurd over
 
 pub form_is : (before : List (List ℕ)) (front : Front) (line : List ℕ) (w : Wrong) → (w ≡ wrong.Name → ⊥)
-    → AllByRecursion IsLine before → Leads None before (Some front) → Stands front
+    → AllByRecursion IsOneLine before → Leads None before (Some front) → Stands front
     → take_line front line ≡ Err w → ¬ IsOfUnknownName (flat_map line_with_feed before) line
 form_is before front line w other all lead stands e u =
     let own_names = u.image.names in
     let mark : Instr × Option Note = (instr.Mark, None) in
     let text = code_text own_names u.address mark in
     let known_own = known_names own_names u.loadable.fits.names in
-    let own : IsLine text = line_of_spelled (code_row own_names u.address mark)
+    let own : IsOneLine text = line_of_spelled (code_row own_names u.address mark)
     (code_spelled own_names u.address mark known_own) in
     let goes = next_leads u.image u.loadable before text u.behind (Some front) all own lead u.goes_on in
     let next = told_ok (take_line front text) goes.0 (sym (step_fed (Some front) text own) ∙ goes.1) in

@@ -10,7 +10,7 @@ use Rattle.rt_code.specs.Image.{Image}
 use Rattle.rt_lines.specs.Reading.{Lead, IsWrongNext}
 use Rattle.rt_listing.specs.Listing.{listing}
 use Rattle.rt_load.specs.Loadable.{IsLoadable}
-use Rattle.rt_load.specs.Reading.{IsViablePrefix, line_with_feed, IsLine, Fault, Form, IsFault, IsOfUnknownName}
+use Rattle.rt_load.specs.Reading.{IsViablePrefix, line_with_feed, IsOneLine, Fault, Form, IsFault, IsOfUnknownName}
 use Rattle.rt_load.specs.Inside.Reader.{fed_lines, fault_of, take, is_whole, listing_reader}
 use Rattle.rt_load.specs.Inside.Taking.{front_of, is_complete, has_cells}
 use Rattle.rt_load.specs.declared.front.Front.{Front}
@@ -62,13 +62,13 @@ pub one_missing : (s : Option Front) → is_whole s ≡ false → listing_reader
 one_missing s e = ap (λ b. if b then None else Some Form) e
 
 -- where a text ends in a line that lacks its line feed, or without one that is missing
-pub end_wrong : (s : Option Front) (rest : List ℕ) → IsLine rest → (rest ≡ [] → is_whole s ≡ false)
+pub end_wrong : (s : Option Front) (rest : List ℕ) → IsOneLine rest → (rest ≡ [] → is_whole s ≡ false)
     → IsWrongNext listing_reader s (fed_lines rest) Form
 end_wrong s [] own missing = one_missing s (missing refl)
 end_wrong s (b ∷ rest) own missing =
     subst (λ ls. IsWrongNext listing_reader s ls Form) (sym (fed_last b rest own)) (step_last s (b ∷ rest) own)
 
-pub end_form : (s : Option Front) (rest : List ℕ) (w : Fault) → IsLine rest
+pub end_form : (s : Option Front) (rest : List ℕ) (w : Fault) → IsOneLine rest
     → IsWrongNext listing_reader s (fed_lines rest) w → w ≡ Form
 end_form s [] w own is_wrong = by (is_whole s) is_wrong
   where
@@ -94,13 +94,14 @@ first_is_no_code line u =
     let bytes : 105 ≡ 99 = ap (λ t. get_or t 0 0) u.goes_on in
     absurd (omega (arith, bytes))
 
-module _ (before : List (List ℕ)) (s : Option Front) (all : AllByRecursion IsLine before) (lead : Leads None before s)
+module _ (before : List (List ℕ)) (s : Option Front) (all : AllByRecursion IsOneLine before)
+    (lead : Leads None before s)
   where
     pub before_left : Left s (flat_map line_with_feed before)
     before_left = lines_left before None s [] all refl lead
 
     -- a line that is refused goes on no listing
-    pub not_begins : (line : List ℕ) (w : Fault) → IsLine line → listing_reader.step s (line_with_feed line) ≡ Err w
+    pub not_begins : (line : List ℕ) (w : Fault) → IsOneLine line → listing_reader.step s (line_with_feed line) ≡ Err w
         → ¬ IsViablePrefix (flat_map line_with_feed before ++ line_with_feed line)
     not_begins line w own e b =
         no_wrong (line_with_feed line ∷ fed_lines b.behind) s w b.image b.loadable e
@@ -125,7 +126,7 @@ module _ (before : List (List ℕ)) (s : Option Front) (all : AllByRecursion IsL
         form_is before front line wrong.NoMemory (λ f. absurd cc) all (subst (Leads None before) same lead) left.0 e
 
     -- and what is wrong with it is what is said
-    pub is_fault : (line : List ℕ) (fault : Fault) → IsLine line
+    pub is_fault : (line : List ℕ) (fault : Fault) → IsOneLine line
         → listing_reader.step s (line_with_feed line) ≡ Err fault → IsFault (flat_map line_with_feed before) line fault
     is_fault line fault own e =
         let refused = told_err (take s line) fault (sym (step_fed s line own) ∙ e) in

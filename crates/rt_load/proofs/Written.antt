@@ -28,20 +28,20 @@ use Rattle.rt_listing.specs.Numbers.{instr_numbers}
 use Rattle.rt_listing.specs.Words.{instr_rows, instr_first, instr_operands, instr_words, note_rows, note_first}
 use Rattle.rt_listing.specs.Words.{note_operands, noted_words}
 use Rattle.rt_listing.proofs.Told.{IsAny, instrs_agree, notes_agree}
-use Rattle.rt_load.specs.Loadable.{Is32Bits, IsSectionWithin, IsNoteWithin, IsLineWithin}
+use Rattle.rt_load.specs.Loadable.{Is32Bits, HasLevel, IsNoteWithin, IsLineWithin}
 use Rattle.rt_load.specs.Inside.Operand.{in_front, behind}
 use Rattle.rt_load.specs.Inside.Noting.{words_at, note_after, line_at}
 use Rattle.rt_load.proofs.Lines.{code_cut, words_cut, note_part, noted_is, end_words}
 use Rattle.rt_load.proofs.Read.{then_ok, make_ok, if_ok, same_ok}
 
 -- what has its names, and numbers of 32 bits, has its words
-section_has : (names : Names) (x : Section) → HasSection names x → IsSectionWithin x → IsSection names x
+section_has : (names : Names) (x : Section) → HasSection names x → HasLevel x → IsSection names x
 section_has names (section.Res r) has within = has
 section_has names (section.Free t) has within = has
 section_has names (section.Ready p) has within = within
 section_has names section.Timer has within = tt
 
-section_right : (names : Names) (x : Section) → IsSection names x → HasSection names x × IsSectionWithin x
+section_right : (names : Names) (x : Section) → IsSection names x → HasSection names x × HasLevel x
 section_right names (section.Res r) h = (h, tt)
 section_right names (section.Free t) h = (h, tt)
 section_right names (section.Ready p) h = (tt, h)

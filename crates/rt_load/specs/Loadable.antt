@@ -39,14 +39,14 @@ pub record IsBodyWithin (row : BodyRow) : Type 0 where
   pub args : row.args ≤ ARGUMENTS
 
 -- a level of 8 bits, where the section is that of a level
-abbrev pub IsSectionWithin : Section → Type 0
-IsSectionWithin (section.Ready level) = level < 2 ^ 8
-IsSectionWithin s = Unit {0}
+abbrev pub HasLevel : Section → Type 0
+HasLevel (section.Ready level) = level < 2 ^ 8
+HasLevel s = Unit {0}
 
 -- what a note says in numbers
 abbrev pub IsNoteWithin : Option Note → Type 0
-IsNoteWithin (Some (note.Enter s)) = IsSectionWithin s
-IsNoteWithin (Some (note.Leave s)) = IsSectionWithin s
+IsNoteWithin (Some (note.Enter s)) = HasLevel s
+IsNoteWithin (Some (note.Leave s)) = HasLevel s
 IsNoteWithin (Some (note.Start t s)) = Is32Bits s
 IsNoteWithin (Some (note.Arm t s)) = Is32Bits s
 IsNoteWithin (Some (note.Cancel t s)) = Is32Bits s

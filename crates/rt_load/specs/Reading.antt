@@ -36,8 +36,8 @@ abbrev pub line_with_feed : List ℕ → List ℕ
 line_with_feed line = line ++ 10 ∷ []
 
 -- bytes without a line feed, as one line
-abbrev pub IsLine : List ℕ → Type 0
-IsLine line = AllByRecursion (λ byte. byte ≢ 10) line
+abbrev pub IsOneLine : List ℕ → Type 0
+IsOneLine line = AllByRecursion (λ byte. byte ≢ 10) line
 
 -- tables that go on where these end: what they name besides is of the form of a name, whatever its length and
 -- whether or not it is a word of the language, and stands in them once
@@ -91,21 +91,21 @@ IsWrong front line (b ∷ behind) fault = (b ≡ 10) × (¬ IsViablePrefix (fron
     × IsFault front line fault
 
 -- the first wrong line of these bytes has this number, from 1, and this fault
-pub record IsFirstWrong (text : List ℕ) (number : ℕ) (fault : Fault) : Type 0 where
+pub record IsFirstWrongLine (text : List ℕ) (number : ℕ) (fault : Fault) : Type 0 where
   pub short : length text ≤ IMAGE_BYTES
   pub before : List (List ℕ)
   pub line : List ℕ
   pub behind : List ℕ
   pub is : text ≡ flat_map line_with_feed before ++ line ++ behind
-  pub are_lines : AllByRecursion IsLine before
-  pub is_line : IsLine line
+  pub are_lines : AllByRecursion IsOneLine before
+  pub is_line : IsOneLine line
   pub number_is : number ≡ suc (length before)
   pub begins : IsViablePrefix (flat_map line_with_feed before)
   pub wrong : IsWrong (flat_map line_with_feed before) line behind fault
 
 -- the refusal of bytes; want of memory has no cause in them
-abbrev pub IsRefused : List ℕ → LoadRefused → Type 0
-IsRefused text refused.TooLong = IMAGE_BYTES < length text
-IsRefused text (refused.BadLine number) = IsFirstWrong text number Form
-IsRefused text (refused.UnknownName number) = IsFirstWrong text number Name
-IsRefused text refused.NoMemory = Unit {0}
+abbrev pub IsListingRefused : List ℕ → LoadRefused → Type 0
+IsListingRefused text refused.TooLong = IMAGE_BYTES < length text
+IsListingRefused text (refused.BadLine number) = IsFirstWrongLine text number Form
+IsListingRefused text (refused.UnknownName number) = IsFirstWrongLine text number Name
+IsListingRefused text refused.NoMemory = Unit {0}

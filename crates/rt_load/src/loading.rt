@@ -2,7 +2,7 @@
 
 ghost use Rattle.std.specs.Prelude.{◌≡◌, ◌≢◌, ◌<◌, ◌∷◌, [], length, Ok, Err, IfOk, IfErr, OnOk, IfSome, MatchOption};
 ghost use Rattle.rt_lines.specs.Parts.{parts};
-ghost use Rattle.rt_load.specs.Reading.{IsListingText, IsRefused};
+ghost use Rattle.rt_load.specs.Reading.{IsListingText, IsListingRefused};
 ghost use Rattle.rt_load.specs.Inside.Reader as spec;
 ghost use Rattle.rt_load.specs.declared.refusal.TheConstants.{IMAGE_BYTES};
 
@@ -17,7 +17,7 @@ use std::alloc::Global;
 /// of no loadable image are refused at the first line with which the lines begin no such listing.
 pub fn load(alloc: Global, bytes: &[u8]) -> Result<Image, LoadRefused>
     ensures read { IfOk result (λ img. IsListingText bytes.now img) }
-    ensures refused { IfErr result (λ refusal. IsRefused bytes.now refusal) }
+    ensures refused { IfErr result (λ refusal. IsListingRefused bytes.now refusal) }
     ensures long { IMAGE_BYTES < length bytes.now → result ≡ Err LoadRefused.TooLong }
 {
     if bytes.len() > IMAGE_BYTES as usize {

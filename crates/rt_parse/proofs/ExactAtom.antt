@@ -13,7 +13,7 @@ use Rattle.rt_ast.specs.declared.ident.Ident.{Ident}
 use Rattle.rt_ast.specs.declared.ident.Number.{Number}
 use Rattle.rt_grammar.specs.Language.{Language, gives, ◌>>=◌, ◌or◌}
 use Rattle.rt_grammar.specs.Tokens.{free, limit_if, name, number, sign, ident_at}
-use Rattle.rt_grammar.specs.Tokens.{number_at, name_limit, number_limit}
+use Rattle.rt_grammar.specs.Tokens.{number_with_offset, name_limit, number_limit}
 use Rattle.rt_grammar.specs.Expression.{Operand, operator, comparisons, strengths, joined_operand, chains, comparison}
 use Rattle.rt_grammar.specs.Expression.{plain_atom, atom, ends, expression}
 use Rattle.rt_grammar.specs.Reach.{is_of, goes_on}
@@ -38,7 +38,8 @@ is_name other = false
 abbrev pub is_plain : Token → Bool
 is_plain t = is_num t.kind || is_name t.kind
 
-pub num_kind : (k : Kind) (text : List ℕ) (at : ℕ) (n : Number) → number_at k text at ≡ Some n → is_num k ≡ true
+pub num_kind : (k : Kind) (text : List ℕ) (at : ℕ) (n : Number) → number_with_offset k text at ≡ Some n
+    → is_num k ≡ true
 num_kind kind.Num text at n e = refl
 num_kind other text at n e = absurd cc
 

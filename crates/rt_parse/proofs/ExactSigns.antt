@@ -10,7 +10,8 @@ use Rattle.rt_lex.specs.declared.token.Kind.TheVariants as kind
 use Rattle.rt_lex.specs.Token.{Token, is_this_word, is_this_sign, is_this_name, if_word, if_sign, if_name}
 use Rattle.rt_ast.specs.declared.ident.Ident.{Ident}
 use Rattle.rt_ast.specs.declared.ident.Number.{Number}
-use Rattle.rt_grammar.specs.Tokens.{free, word_of, sign_of, name_of, ident_of, number_of, limited_word, limited_sign}
+use Rattle.rt_grammar.specs.Tokens.{free, word_of, sign_of, name_of, ident_of, number_of_token, limited_word}
+use Rattle.rt_grammar.specs.Tokens.{limited_sign}
 use Rattle.rt_grammar.specs.Tokens.{limited_name, this_name, limited_number, name_limit, number_limit}
 use Rattle.rt_parse.specs.Inside.Reading.{token_at}
 use Rattle.rt_parse.proofs.Exact.{Starts, IsInhabited, ReadsAfter, nothing}
@@ -38,7 +39,7 @@ pub means_name : (t : Token) × (x : Ident) × (ident_of t ≡ Some x)
 unfolding at_kind
 means_name = (at_kind kind.Name [], _, refl)
 
-pub means_number : (t : Token) × (x : Number) × (number_of t ≡ Some x)
+pub means_number : (t : Token) × (x : Number) × (number_of_token t ≡ Some x)
 unfolding at_kind
 means_number = (at_kind kind.Num [], _, refl)
 
@@ -125,5 +126,6 @@ pub reads_name : {B : Type 0} {before : Token → Bool} (what : Option Limit)
 reads_name what = reads_token means_name
 
 pub reads_number : {B : Type 0} {before : Token → Bool} (what : ℕ → Option Limit)
-    → ReadsAfter B before nothing nothing suc (λ x. x) (limited_number what) (token_at number_of (number_limit what))
+    → ReadsAfter B before nothing nothing suc (λ x. x) (limited_number what) (token_at number_of_token
+    (number_limit what))
 reads_number what = reads_token means_number

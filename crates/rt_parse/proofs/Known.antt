@@ -14,7 +14,8 @@ use Rattle.rt_ast.specs.declared.ident.Number.{Number}
 use Rattle.rt_grammar.specs.Mark.{Mark, Takes, Ends}
 use Rattle.rt_grammar.specs.Language.{Language, gives, ◌>>=◌, ◌or◌, or_else, only_if, never, token, times, repeat}
 use Rattle.rt_grammar.specs.Tokens.{free, limited_word, limited_sign, limited_name, this_name, limited_number, word_of}
-use Rattle.rt_grammar.specs.Tokens.{sign_of, name_of, ident_of, ident_at, number_of, number_at, name_limit}
+use Rattle.rt_grammar.specs.Tokens.{sign_of, name_of, ident_of, ident_at, number_of_token, number_with_offset}
+use Rattle.rt_grammar.specs.Tokens.{name_limit}
 use Rattle.rt_grammar.specs.Tokens.{number_limit, list, adds}
 use Rattle.rt_grammar.specs.Expression.{Operand, Signs, op_of, operator, comparisons, strengths, chains, comparison}
 use Rattle.rt_grammar.specs.Expression.{plain_atom, atom, ends, expression}
@@ -90,7 +91,8 @@ name_kind : (k : Kind) (text : List ℕ) (at : ℕ) (x : Ident) → ident_at k t
 name_kind kind.Foreign text at x e = absurd cc
 name_kind other text at x e = λ f. absurd cc
 
-number_kind : (k : Kind) (text : List ℕ) (at : ℕ) (x : Number) → number_at k text at ≡ Some x → k ≢ kind.Foreign
+number_kind : (k : Kind) (text : List ℕ) (at : ℕ) (x : Number) → number_with_offset k text at ≡ Some x
+    → k ≢ kind.Foreign
 number_kind kind.Foreign text at x e = absurd cc
 number_kind other text at x e = λ f. absurd cc
 
@@ -110,7 +112,7 @@ pub known_name : (what : Option Limit) → Known (limited_name what)
 known_name what = known_token ident_of (name_limit what) (λ t x e. name_kind t.kind t.text t.at x e)
 
 pub known_number : (what : ℕ → Option Limit) → Known (limited_number what)
-known_number what = known_token number_of (number_limit what) (λ t x e. number_kind t.kind t.text t.at x e)
+known_number what = known_token number_of_token (number_limit what) (λ t x e. number_kind t.kind t.text t.at x e)
 
 pub known_list : {S : Type 0} (closing : List ℕ) {item : S → Language S} → ((s : S) → Known (item s)) → (s : S)
     → Known (list closing item s)

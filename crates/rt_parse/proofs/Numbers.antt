@@ -28,8 +28,9 @@ module _ (judge : ℕ → Option Limit) where
   by_size false at value tokens = refl
 
   by_kind : (k : Kind) (text : List ℕ) (at : ℕ) (tokens : List Token) →
-      take_meaning (grammar.number_at k text at) (number_limit judge) (record { at = at; kind = k; text = text }) tokens
-      ≡ then_judged (take_meaning (grammar.number_at k text at) (number_limit (λ _. free))
+      take_meaning (grammar.number_with_offset k text at) (number_limit judge)
+      (record { at = at; kind = k; text = text }) tokens
+      ≡ then_judged (take_meaning (grammar.number_with_offset k text at) (number_limit (λ _. free))
       (record { at = at; kind = k; text = text }) tokens)
   by_kind kind.Num text at tokens = by_size (not (nat_lt (number_value text) (2 ^ 32))) at (number_value text) tokens
   by_kind kind.Name text at tokens = refl

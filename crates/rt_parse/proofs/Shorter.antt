@@ -4,7 +4,7 @@ use Rattle.std.proofs.Common.{None, Result, Ok, Err, refl, ap, arith}
 use Rattle.rt_lex.specs.Token.{Token}
 use Rattle.rt_ids.specs.declared.limit.Limit.{Limit}
 use Rattle.std.specs.Prelude.{IfOk}
-use Rattle.rt_parse.specs.Inside.Reading.{Reader, Gives, ◌>>=◌, token_at, take_meaning, unless_limited, repeat_at}
+use Rattle.rt_parse.specs.Inside.Reading.{Reader, GivesRead, ◌>>=◌, token_at, take_meaning, unless_limited, repeat_at}
 use Rattle.rt_parse.specs.Inside.Reading.{begins_with}
 use Rattle.rt_parse.specs.declared.stop.Stop.{Stop}
 use Rattle.rt_parse.specs.declared.stop.Found.{Found}
@@ -112,7 +112,7 @@ no_longer_repeat starts step h (suc n) s = no_longer_if (begins_with starts) _ _
 
 -- what a reader of the code gave comes after a token at least
 pub given_shorter : {A : Type 0} {reader : Reader A} → IsShorter reader
-    → (tokens : List Token) (result : Result (A × List Token) Stop) → Gives (λ x. x) result (reader tokens)
+    → (tokens : List Token) (result : Result (A × List Token) Stop) → GivesRead (λ x. x) result (reader tokens)
     → IfOk result (λ x. length x.1 < length tokens)
 given_shorter h tokens (Ok x) given = h tokens x.0 x.1 given
 given_shorter h tokens (Err e) given = tt

@@ -2,7 +2,7 @@
 use Rattle.std.proofs.Common.{ℕ, zero, suc, List, [], ◌∷◌, length, Option, Some, None}
 use Rattle.rt_grammar.specs.Expression.{Signs, strengths, comparisons}
 use Rattle.rt_grammar.specs.Reach.{is_of}
-use Rattle.rt_grammar.specs.Tokens.{free, ident_of, number_of, name_limit, number_limit}
+use Rattle.rt_grammar.specs.Tokens.{free, ident_of, number_of_token, name_limit, number_limit}
 use Rattle.rt_parse.specs.Inside.Reading.{Reader, begins_with, fault_found_at}
 use Rattle.rt_parse.specs.Inside.ReadingDepth.{Measured, Kept}
 use Rattle.rt_parse.specs.Inside.ReadingExpression.{operator_at, joined_operand_at, chain_at, chains_at}
@@ -52,7 +52,7 @@ shorter_comparison atom h =
 
 shorter_number : IsShorter number_atom_at
 unfolding number_atom_at
-shorter_number = shorter_then (shorter_token number_of (number_limit (λ _. free))) (λ n. no_longer_ok _)
+shorter_number = shorter_then (shorter_token number_of_token (number_limit (λ _. free))) (λ n. no_longer_ok _)
 
 shorter_name : IsShorter name_atom_at
 unfolding name_atom_at

@@ -5,7 +5,7 @@ ghost use Rattle.rt_lex.specs.Token.{is_this_sign, is_this_word};
 ghost use Rattle.rt_ast.specs.View.{block_of, body_of, task_of, app_of, option_map};
 ghost use Rattle.rt_grammar.specs.Options.{no_options, is_task, is_init};
 ghost use Rattle.rt_grammar.specs.Bodies.{or_empty};
-ghost use Rattle.rt_parse.specs.Inside.Reading.{Gives, begins_with, repeat_at};
+ghost use Rattle.rt_parse.specs.Inside.Reading.{GivesRead, begins_with, repeat_at};
 ghost use Rattle.rt_parse.specs.Inside.ReadingList.{items_at, adds_at};
 ghost use Rattle.rt_parse.specs.Inside.ReadingOptions.{binds_at, priority_at, capacity_at, shared_list_at};
 ghost use Rattle.rt_parse.specs.Inside.ReadingOptions.{local_list_at, takes, option_at, some_options_at, options_at};
@@ -87,7 +87,7 @@ fn binds<'a>(
     tokens: Tokens<'a>,
     options: BodyOptions,
 ) -> Result<(BodyOptions, Tokens<'a>), Stop>
-    ensures { Gives (λ x. (options_view x.0, x.1)) result (binds_at (options_view options) tokens.entry) }
+    ensures { GivesRead (λ x. (options_view x.0, x.1)) result (binds_at (options_view options) tokens.entry) }
 {
     let (_, tokens) = word(tokens, b"binds")?;
     let (_, tokens) = sign(tokens, b"=")?;
@@ -99,7 +99,7 @@ fn binds<'a>(
 /// The priority of a task, added to the options so far.
 #[tactic(auto, unfolding(crate::specs::Inside::ReadingOptions::priority_at))]
 fn priority<'a>(tokens: Tokens<'a>, options: BodyOptions) -> Result<(BodyOptions, Tokens<'a>), Stop>
-    ensures { Gives (λ x. (options_view x.0, x.1)) result (priority_at (options_view options) tokens.entry) }
+    ensures { GivesRead (λ x. (options_view x.0, x.1)) result (priority_at (options_view options) tokens.entry) }
 {
     let (_, tokens) = word(tokens, b"priority")?;
     let (_, tokens) = sign(tokens, b"=")?;
@@ -117,7 +117,7 @@ fn priority<'a>(tokens: Tokens<'a>, options: BodyOptions) -> Result<(BodyOptions
 /// The capacity of a task, added to the options so far.
 #[tactic(auto, unfolding(crate::specs::Inside::ReadingOptions::capacity_at))]
 fn capacity<'a>(tokens: Tokens<'a>, options: BodyOptions) -> Result<(BodyOptions, Tokens<'a>), Stop>
-    ensures { Gives (λ x. (options_view x.0, x.1)) result (capacity_at (options_view options) tokens.entry) }
+    ensures { GivesRead (λ x. (options_view x.0, x.1)) result (capacity_at (options_view options) tokens.entry) }
 {
     let (_, tokens) = word(tokens, b"capacity")?;
     let (_, tokens) = sign(tokens, b"=")?;
@@ -139,7 +139,7 @@ fn shared_list<'a>(
     tokens: Tokens<'a>,
     options: BodyOptions,
 ) -> Result<(BodyOptions, Tokens<'a>), Stop>
-    ensures { Gives (λ x. (options_view x.0, x.1)) result (shared_list_at (options_view options) tokens.entry) }
+    ensures { GivesRead (λ x. (options_view x.0, x.1)) result (shared_list_at (options_view options) tokens.entry) }
 {
     let (_, tokens) = word(tokens, b"shared")?;
     let (_, tokens) = sign(tokens, b"=")?;
@@ -156,7 +156,7 @@ fn local_list<'a>(
     tokens: Tokens<'a>,
     options: BodyOptions,
 ) -> Result<(BodyOptions, Tokens<'a>), Stop>
-    ensures { Gives (λ x. (options_view x.0, x.1)) result (local_list_at (options_view options) tokens.entry) }
+    ensures { GivesRead (λ x. (options_view x.0, x.1)) result (local_list_at (options_view options) tokens.entry) }
 {
     let (_, tokens) = word(tokens, b"local")?;
     let (_, tokens) = sign(tokens, b"=")?;
@@ -222,7 +222,7 @@ fn option<'a>(
     owner: Owner,
     options: BodyOptions,
 ) -> Result<(BodyOptions, Tokens<'a>), Stop>
-    ensures { Gives (λ x. (options_view x.0, x.1)) result
+    ensures { GivesRead (λ x. (options_view x.0, x.1)) result
         (option_at (owner_view owner) (options_view options) tokens.entry) }
 {
     if takes(&tokens, options.may_have_binds(owner), b"binds") {
@@ -246,7 +246,7 @@ fn option_list<'a>(
     tokens: Tokens<'a>,
     owner: Owner,
 ) -> Result<(BodyOptions, Tokens<'a>), Stop>
-    ensures { Gives (λ x. (options_view x.0, x.1)) result
+    ensures { GivesRead (λ x. (options_view x.0, x.1)) result
         (items_at (codes ")") (option_at (owner_view owner)) (length tokens.entry) no_options tokens.entry) }
 {
     let mut options = no_options();
@@ -267,7 +267,7 @@ fn some_options<'a>(
     tokens: Tokens<'a>,
     owner: Owner,
 ) -> Result<(BodyOptions, Tokens<'a>), Stop>
-    ensures { Gives (λ x. (options_view x.0, x.1)) result (some_options_at (owner_view owner) tokens.entry) }
+    ensures { GivesRead (λ x. (options_view x.0, x.1)) result (some_options_at (owner_view owner) tokens.entry) }
 {
     let (_, tokens) = sign(tokens, b"(")?;
     option_list(alloc, tokens, owner)
@@ -280,7 +280,7 @@ fn options<'a>(
     tokens: Tokens<'a>,
     owner: Owner,
 ) -> Result<(BodyOptions, Tokens<'a>), Stop>
-    ensures { Gives (λ x. (options_view x.0, x.1)) result (options_at (owner_view owner) tokens.entry) }
+    ensures { GivesRead (λ x. (options_view x.0, x.1)) result (options_at (owner_view owner) tokens.entry) }
 {
     if begins_sign(&tokens, b"(") {
         some_options(alloc, tokens, owner)
@@ -307,7 +307,8 @@ fn thread<'a>(
     owner: Owner,
     text: &[u8],
 ) -> Result<(Option<BodyTree>, Tokens<'a>), Stop>
-    ensures { Gives (λ x. (option_map body_of x.0, x.1)) result (thread_at (owner_view owner) text.now tokens.entry) }
+    ensures { GivesRead (λ x. (option_map body_of x.0, x.1)) result (thread_at
+        (owner_view owner) text.now tokens.entry) }
 {
     let (at, tokens) = word(tokens, text)?;
     let (options, tokens) = options(alloc, tokens, owner)?;
@@ -329,7 +330,7 @@ fn thread_body<'a>(
     owner: Owner,
     text: &[u8],
 ) -> Result<(Option<BodyTree>, Tokens<'a>), Stop>
-    ensures { Gives (λ x. (option_map body_of x.0, x.1)) result
+    ensures { GivesRead (λ x. (option_map body_of x.0, x.1)) result
         (thread_body_at (owner_view owner) text.now tokens.entry) }
 {
     if begins_word(&tokens, text) {
@@ -346,7 +347,7 @@ fn argument<'a>(
     tokens: Tokens<'a>,
     before: usize,
 ) -> Result<(Ident, Tokens<'a>), Stop>
-    ensures { Gives (λ x. x) result (one_argument_at before tokens.entry) }
+    ensures { GivesRead (λ x. x) result (one_argument_at before tokens.entry) }
 {
     let (_, tokens) = sign(tokens, b",")?;
     let limit = at_most(ARGUMENTS, Limit::Arguments, before);
@@ -359,7 +360,7 @@ fn more_arguments<'a>(
     tokens: Tokens<'a>,
     first: Ident,
 ) -> Result<(Vec<Ident>, Tokens<'a>), Stop>
-    ensures { Gives (λ x. (x.0.items, x.1)) result
+    ensures { GivesRead (λ x. (x.0.items, x.1)) result
         (repeat_at (is_this_sign (codes ",")) argument_at (length tokens.entry) (first ∷ []) tokens.entry) }
 {
     let mut arguments = Vec::new(alloc);
@@ -376,7 +377,7 @@ fn more_arguments<'a>(
 /// The arguments of a task from `with` on.
 #[tactic(auto, unfolding(crate::specs::Inside::ReadingBodies::parameters_at))]
 fn parameters<'a>(alloc: Global, tokens: Tokens<'a>) -> Result<(Vec<Ident>, Tokens<'a>), Stop>
-    ensures { Gives (λ x. (x.0.items, x.1)) result (parameters_at tokens.entry) }
+    ensures { GivesRead (λ x. (x.0.items, x.1)) result (parameters_at tokens.entry) }
 {
     let (_, tokens) = word(tokens, b"with")?;
     let (first, tokens) = name(alloc, tokens)?;
@@ -386,7 +387,7 @@ fn parameters<'a>(alloc: Global, tokens: Tokens<'a>) -> Result<(Vec<Ident>, Toke
 /// The arguments of a task, where there are any.
 #[tactic(auto, unfolding(crate::specs::Inside::ReadingBodies::task_arguments_at))]
 fn task_arguments<'a>(alloc: Global, tokens: Tokens<'a>) -> Result<(Vec<Ident>, Tokens<'a>), Stop>
-    ensures { Gives (λ x. (x.0.items, x.1)) result (task_arguments_at tokens.entry) }
+    ensures { GivesRead (λ x. (x.0.items, x.1)) result (task_arguments_at tokens.entry) }
 {
     if begins_word(&tokens, b"with") {
         parameters(alloc, tokens)
@@ -428,7 +429,7 @@ fn task_block<'a>(
     name: Ident,
     options: BodyOptions,
 ) -> Result<(TaskTree, Tokens<'a>), Stop>
-    ensures { Gives (λ x. (task_of x.0, x.1)) result (task_block_at name (options_view options) tokens.entry) }
+    ensures { GivesRead (λ x. (task_of x.0, x.1)) result (task_block_at name (options_view options) tokens.entry) }
 {
     let (args, tokens) = task_arguments(alloc, tokens)?;
     let ((block, _), tokens) = block(alloc, tokens, NESTING, STATEMENTS as u32)?;
@@ -442,7 +443,7 @@ fn task<'a>(
     tokens: Tokens<'a>,
     before: usize,
 ) -> Result<(TaskTree, Tokens<'a>), Stop>
-    ensures { Gives (λ x. (task_of x.0, x.1)) result (task_at before tokens.entry) }
+    ensures { GivesRead (λ x. (task_of x.0, x.1)) result (task_at before tokens.entry) }
 {
     let limit = at_most(TASKS, Limit::Tasks, before);
     let (_, tokens) = limited_word(tokens, b"task", limit)?;
@@ -453,7 +454,7 @@ fn task<'a>(
 
 /// The tasks.
 fn tasks<'a>(alloc: Global, tokens: Tokens<'a>) -> Result<(Vec<TaskTree>, Tokens<'a>), Stop>
-    ensures { Gives (λ x. (map task_of x.0.items, x.1)) result
+    ensures { GivesRead (λ x. (map task_of x.0.items, x.1)) result
         (repeat_at (is_this_word (codes "task")) (adds_at task_at) (length tokens.entry) [] tokens.entry) }
 {
     let mut tasks = Vec::new(alloc);
@@ -514,7 +515,7 @@ fn bodies<'a>(
     tokens: Tokens<'a>,
     declared: Declared,
 ) -> Result<(AppTree, Tokens<'a>), Stop>
-    ensures { Gives (λ x. (app_of x.0, x.1)) result (bodies_at (declared_view declared) tokens.entry) }
+    ensures { GivesRead (λ x. (app_of x.0, x.1)) result (bodies_at (declared_view declared) tokens.entry) }
 {
     let (init, tokens) = thread_body(alloc, tokens, Owner::Init, b"init")?;
     let (idle, tokens) = thread_body(alloc, tokens, Owner::Idle, b"idle")?;
@@ -528,7 +529,7 @@ fn declarations<'a>(
     tokens: Tokens<'a>,
     first: Head,
 ) -> Result<(AppTree, Tokens<'a>), Stop>
-    ensures { Gives (λ x. (app_of x.0, x.1)) result (declarations_at (head_view first) tokens.entry) }
+    ensures { GivesRead (λ x. (app_of x.0, x.1)) result (declarations_at (head_view first) tokens.entry) }
 {
     let (irqs, tokens) = interrupts(alloc, tokens)?;
     let (mono, tokens) = monotonic(alloc, tokens)?;
@@ -547,7 +548,7 @@ fn declarations<'a>(
 /// A whole application.
 #[tactic(auto, unfolding(crate::specs::Inside::ReadingDeclaration::application_at))]
 fn application<'a>(alloc: Global, tokens: Tokens<'a>) -> Result<(AppTree, Tokens<'a>), Stop>
-    ensures { Gives (λ x. (app_of x.0, x.1)) result (application_at tokens.entry) }
+    ensures { GivesRead (λ x. (app_of x.0, x.1)) result (application_at tokens.entry) }
 {
     let (first, tokens) = first_declaration(alloc, tokens)?;
     declarations(alloc, tokens, first)
@@ -556,7 +557,7 @@ fn application<'a>(alloc: Global, tokens: Tokens<'a>) -> Result<(AppTree, Tokens
 /// An application, and nothing after it.
 #[tactic(auto, unfolding(crate::specs::Inside::ReadingDeclaration::text_at))]
 pub(crate) fn whole(alloc: Global, tokens: Tokens<'_>) -> Result<AppTree, Stop>
-    ensures { Gives app_of result (text_at tokens.entry) }
+    ensures { GivesRead app_of result (text_at tokens.entry) }
 {
     let (app, tokens) = application(alloc, tokens)?;
     match tokens.peek() {

@@ -1,7 +1,7 @@
 // The parser of declarations: the first one, interrupts, the monotonic and resources; and of a listed resource.
 
 ghost use Rattle.rt_parse.specs.Inside.DeclarationView.{head_view};
-ghost use Rattle.rt_parse.specs.Inside.Reading.{Gives, name_at};
+ghost use Rattle.rt_parse.specs.Inside.Reading.{GivesRead, name_at};
 ghost use Rattle.rt_parse.specs.Inside.ReadingList.{names_at};
 ghost use Rattle.rt_parse.specs.Inside.ReadingResources.{interrupt_at, interrupts_at, clock_priority_at, clock_at};
 ghost use Rattle.rt_parse.specs.Inside.ReadingResources.{monotonic_at, first_value_at, lock_free_at};
@@ -38,7 +38,7 @@ impl Item for Ident {
 /// Names in square brackets.
 #[tactic(auto, unfolding(crate::specs::Inside::ReadingList::names_at))]
 pub(crate) fn names<'a>(alloc: Global, tokens: Tokens<'a>) -> Result<(Vec<Ident>, Tokens<'a>), Stop>
-    ensures { Gives (λ x. (x.0.items, x.1)) result (names_at tokens.entry) }
+    ensures { GivesRead (λ x. (x.0.items, x.1)) result (names_at tokens.entry) }
 {
     let (_, tokens) = sign(tokens, b"[")?;
     list(alloc, tokens, b"]")
@@ -51,7 +51,7 @@ fn interrupt<'a>(
     tokens: Tokens<'a>,
     before: usize,
 ) -> Result<(IrqTree, Tokens<'a>), Stop>
-    ensures { Gives (λ x. x) result (interrupt_at before tokens.entry) }
+    ensures { GivesRead (λ x. x) result (interrupt_at before tokens.entry) }
 {
     let limit = at_most(IRQS, Limit::Interrupts, before);
     let (name, tokens) = limited_name(alloc, tokens, limit)?;
@@ -79,7 +79,7 @@ pub(crate) fn interrupts<'a>(
     alloc: Global,
     tokens: Tokens<'a>,
 ) -> Result<(Vec<IrqTree>, Tokens<'a>), Stop>
-    ensures { Gives (λ x. (x.0.items, x.1)) result (interrupts_at tokens.entry) }
+    ensures { GivesRead (λ x. (x.0.items, x.1)) result (interrupts_at tokens.entry) }
 {
     let (_, tokens) = word(tokens, b"interrupts")?;
     let (_, tokens) = sign(tokens, b"{")?;
@@ -89,7 +89,7 @@ pub(crate) fn interrupts<'a>(
 /// The dispatchers, after their comma.
 #[tactic(auto, unfolding(crate::specs::Inside::ReadingDeclaration::dispatchers_at))]
 fn dispatchers<'a>(alloc: Global, tokens: Tokens<'a>) -> Result<(Vec<Ident>, Tokens<'a>), Stop>
-    ensures { Gives (λ x. (x.0.items, x.1)) result (dispatchers_at tokens.entry) }
+    ensures { GivesRead (λ x. (x.0.items, x.1)) result (dispatchers_at tokens.entry) }
 {
     let (_, tokens) = word(tokens, b"dispatchers")?;
     let (_, tokens) = sign(tokens, b"=")?;
@@ -99,7 +99,7 @@ fn dispatchers<'a>(alloc: Global, tokens: Tokens<'a>) -> Result<(Vec<Ident>, Tok
 /// That the core has the floating-point extension, after its comma.
 #[tactic(auto, unfolding(crate::specs::Inside::ReadingDeclaration::extension_at))]
 fn extension(tokens: Tokens<'_>) -> Result<(bool, Tokens<'_>), Stop>
-    ensures { Gives (λ x. x) result (extension_at tokens.entry) }
+    ensures { GivesRead (λ x. x) result (extension_at tokens.entry) }
 {
     let (_, tokens) = this_name(tokens, b"fpu")?;
     let (_, tokens) = sign(tokens, b"=")?;
@@ -110,7 +110,7 @@ fn extension(tokens: Tokens<'_>) -> Result<(bool, Tokens<'_>), Stop>
 /// Whether the core has the floating-point extension, after the dispatchers.
 #[tactic(auto, unfolding(crate::specs::Inside::ReadingDeclaration::fpu_at))]
 fn fpu(tokens: Tokens<'_>) -> Result<(bool, Tokens<'_>), Stop>
-    ensures { Gives (λ x. x) result (fpu_at tokens.entry) }
+    ensures { GivesRead (λ x. x) result (fpu_at tokens.entry) }
 {
     if !begins_sign(&tokens, b",") {
         return Ok((false, tokens));
@@ -125,7 +125,7 @@ fn behind_comma<'a>(
     alloc: Global,
     tokens: Tokens<'a>,
 ) -> Result<((Vec<Ident>, bool), Tokens<'a>), Stop>
-    ensures { Gives (λ x. ((x.0.0.items, x.0.1), x.1)) result (behind_comma_at tokens.entry) }
+    ensures { GivesRead (λ x. ((x.0.0.items, x.0.1), x.1)) result (behind_comma_at tokens.entry) }
 {
     if begins_this_name(&tokens, b"fpu") {
         let (fpu, tokens) = extension(tokens)?;
@@ -140,7 +140,7 @@ fn behind_comma<'a>(
 /// The dispatchers, and whether the core has the floating-point extension.
 #[tactic(auto, unfolding(crate::specs::Inside::ReadingDeclaration::features_at))]
 fn features<'a>(alloc: Global, tokens: Tokens<'a>) -> Result<((Vec<Ident>, bool), Tokens<'a>), Stop>
-    ensures { Gives (λ x. ((x.0.0.items, x.0.1), x.1)) result (features_at tokens.entry) }
+    ensures { GivesRead (λ x. ((x.0.0.items, x.0.1), x.1)) result (features_at tokens.entry) }
 {
     if !begins_sign(&tokens, b",") {
         return Ok(((Vec::new(alloc), false), tokens));
@@ -165,7 +165,7 @@ fn head_rest<'a>(
     name: Ident,
     bits: u32,
 ) -> Result<(Head, Tokens<'a>), Stop>
-    ensures { Gives (λ x. (head_view x.0, x.1)) result (head_rest_at name bits tokens.entry) }
+    ensures { GivesRead (λ x. (head_view x.0, x.1)) result (head_rest_at name bits tokens.entry) }
 {
     let ((dispatchers, fpu), tokens) = features(alloc, tokens)?;
     let (_, tokens) = sign(tokens, b")")?;
@@ -185,7 +185,7 @@ fn priority_bits<'a>(
     tokens: Tokens<'a>,
     name: Ident,
 ) -> Result<(Head, Tokens<'a>), Stop>
-    ensures { Gives (λ x. (head_view x.0, x.1)) result (priority_bits_at name tokens.entry) }
+    ensures { GivesRead (λ x. (head_view x.0, x.1)) result (priority_bits_at name tokens.entry) }
 {
     let (_, tokens) = sign(tokens, b"(")?;
     let (_, tokens) = word(tokens, b"bits")?;
@@ -200,7 +200,7 @@ pub(crate) fn first_declaration<'a>(
     alloc: Global,
     tokens: Tokens<'a>,
 ) -> Result<(Head, Tokens<'a>), Stop>
-    ensures { Gives (λ x. (head_view x.0, x.1)) result (head_at tokens.entry) }
+    ensures { GivesRead (λ x. (head_view x.0, x.1)) result (head_at tokens.entry) }
 {
     let (_, tokens) = word(tokens, b"app")?;
     let (name, tokens) = name(alloc, tokens)?;
@@ -212,7 +212,7 @@ fn clock_priority<'a>(
     tokens: Tokens<'a>,
     binds: Ident,
 ) -> Result<(Option<MonoTree>, Tokens<'a>), Stop>
-    ensures { Gives (λ x. x) result (clock_priority_at binds tokens.entry) }
+    ensures { GivesRead (λ x. x) result (clock_priority_at binds tokens.entry) }
 {
     let (_, tokens) = sign(tokens, b",")?;
     let (_, tokens) = word(tokens, b"priority")?;
@@ -226,7 +226,7 @@ fn clock_priority<'a>(
 /// The monotonic from its word on.
 #[tactic(auto, unfolding(crate::specs::Inside::ReadingResources::clock_at))]
 fn clock<'a>(alloc: Global, tokens: Tokens<'a>) -> Result<(Option<MonoTree>, Tokens<'a>), Stop>
-    ensures { Gives (λ x. x) result (clock_at tokens.entry) }
+    ensures { GivesRead (λ x. x) result (clock_at tokens.entry) }
 {
     let (_, tokens) = word(tokens, b"monotonic")?;
     let (_, tokens) = sign(tokens, b"(")?;
@@ -242,7 +242,7 @@ pub(crate) fn monotonic<'a>(
     alloc: Global,
     tokens: Tokens<'a>,
 ) -> Result<(Option<MonoTree>, Tokens<'a>), Stop>
-    ensures { Gives (λ x. x) result (monotonic_at tokens.entry) }
+    ensures { GivesRead (λ x. x) result (monotonic_at tokens.entry) }
 {
     if begins_word(&tokens, b"monotonic") {
         clock(alloc, tokens)
@@ -254,7 +254,7 @@ pub(crate) fn monotonic<'a>(
 /// The first value of a resource.
 #[tactic(auto, unfolding(crate::specs::Inside::ReadingResources::first_value_at))]
 fn first_value(tokens: Tokens<'_>) -> Result<(u32, Tokens<'_>), Stop>
-    ensures { Gives (λ x. x) result (first_value_at tokens.entry) }
+    ensures { GivesRead (λ x. x) result (first_value_at tokens.entry) }
 {
     let (_, tokens) = sign(tokens, b"=")?;
     let (number, tokens) = number(tokens)?;
@@ -268,7 +268,7 @@ fn lock_free<'a>(
     tokens: Tokens<'a>,
     before: usize,
 ) -> Result<(SharedTree, Tokens<'a>), Stop>
-    ensures { Gives (λ x. x) result (lock_free_at before tokens.entry) }
+    ensures { GivesRead (λ x. x) result (lock_free_at before tokens.entry) }
 {
     let limit = at_most(SHARED, Limit::Shared, before);
     let (_, tokens) = limited_word(tokens, b"lock_free", limit)?;
@@ -292,7 +292,7 @@ fn locked_resource<'a>(
     tokens: Tokens<'a>,
     before: usize,
 ) -> Result<(SharedTree, Tokens<'a>), Stop>
-    ensures { Gives (λ x. x) result (locked_resource_at before tokens.entry) }
+    ensures { GivesRead (λ x. x) result (locked_resource_at before tokens.entry) }
 {
     let limit = at_most(SHARED, Limit::Shared, before);
     let (name, tokens) = limited_name(alloc, tokens, limit)?;
@@ -315,7 +315,7 @@ fn resource<'a>(
     tokens: Tokens<'a>,
     before: usize,
 ) -> Result<(SharedTree, Tokens<'a>), Stop>
-    ensures { Gives (λ x. x) result (resource_at before tokens.entry) }
+    ensures { GivesRead (λ x. x) result (resource_at before tokens.entry) }
 {
     if begins_word(&tokens, b"lock_free") {
         lock_free(alloc, tokens, before)
@@ -339,7 +339,7 @@ impl Item for SharedTree {
 /// The shared resources from their word on.
 #[tactic(auto, unfolding(crate::specs::Inside::ReadingResources::resources_at))]
 fn resources<'a>(alloc: Global, tokens: Tokens<'a>) -> Result<(Vec<SharedTree>, Tokens<'a>), Stop>
-    ensures { Gives (λ x. (x.0.items, x.1)) result (resources_at tokens.entry) }
+    ensures { GivesRead (λ x. (x.0.items, x.1)) result (resources_at tokens.entry) }
 {
     let (_, tokens) = word(tokens, b"shared")?;
     let (_, tokens) = sign(tokens, b"{")?;
@@ -352,7 +352,7 @@ pub(crate) fn shared_resources<'a>(
     alloc: Global,
     tokens: Tokens<'a>,
 ) -> Result<(Vec<SharedTree>, Tokens<'a>), Stop>
-    ensures { Gives (λ x. (x.0.items, x.1)) result (shared_resources_at tokens.entry) }
+    ensures { GivesRead (λ x. (x.0.items, x.1)) result (shared_resources_at tokens.entry) }
 {
     if begins_word(&tokens, b"shared") {
         resources(alloc, tokens)
@@ -368,7 +368,7 @@ fn local<'a>(
     tokens: Tokens<'a>,
     before: usize,
 ) -> Result<(LocalTree, Tokens<'a>), Stop>
-    ensures { Gives (λ x. x) result (local_at before tokens.entry) }
+    ensures { GivesRead (λ x. x) result (local_at before tokens.entry) }
 {
     let limit = at_most(LOCALS, Limit::Locals, before);
     let (name, tokens) = limited_name(alloc, tokens, limit)?;
@@ -394,7 +394,7 @@ fn local_resources<'a>(
     alloc: Global,
     tokens: Tokens<'a>,
 ) -> Result<(Vec<LocalTree>, Tokens<'a>), Stop>
-    ensures { Gives (λ x. (x.0.items, x.1)) result (local_resources_at tokens.entry) }
+    ensures { GivesRead (λ x. (x.0.items, x.1)) result (local_resources_at tokens.entry) }
 {
     let (_, tokens) = word(tokens, b"local")?;
     let (_, tokens) = sign(tokens, b"{")?;
@@ -407,7 +407,7 @@ pub(crate) fn locals<'a>(
     alloc: Global,
     tokens: Tokens<'a>,
 ) -> Result<(Vec<LocalTree>, Tokens<'a>), Stop>
-    ensures { Gives (λ x. (x.0.items, x.1)) result (locals_at tokens.entry) }
+    ensures { GivesRead (λ x. (x.0.items, x.1)) result (locals_at tokens.entry) }
 {
     if begins_word(&tokens, b"local") {
         local_resources(alloc, tokens)
@@ -419,7 +419,7 @@ pub(crate) fn locals<'a>(
 /// A shared resource that a body lists by reference, from its `&` on.
 #[tactic(auto, unfolding(crate::specs::Inside::ReadingOptions::ref_resource_at))]
 fn ref_resource<'a>(alloc: Global, tokens: Tokens<'a>) -> Result<(ListedTree, Tokens<'a>), Stop>
-    ensures { Gives (λ x. x) result (ref_resource_at tokens.entry) }
+    ensures { GivesRead (λ x. x) result (ref_resource_at tokens.entry) }
 {
     let (at, tokens) = sign(tokens, b"&")?;
     let (name, tokens) = name(alloc, tokens)?;
@@ -430,7 +430,7 @@ fn ref_resource<'a>(alloc: Global, tokens: Tokens<'a>) -> Result<(ListedTree, To
 /// A shared resource that a body lists by its name.
 #[tactic(auto, unfolding(crate::specs::Inside::ReadingOptions::named_resource_at))]
 fn named_resource<'a>(alloc: Global, tokens: Tokens<'a>) -> Result<(ListedTree, Tokens<'a>), Stop>
-    ensures { Gives (λ x. x) result (named_resource_at tokens.entry) }
+    ensures { GivesRead (λ x. x) result (named_resource_at tokens.entry) }
 {
     let (name, tokens) = name(alloc, tokens)?;
     let (by_ref, at) = (false, name.at);
@@ -440,7 +440,7 @@ fn named_resource<'a>(alloc: Global, tokens: Tokens<'a>) -> Result<(ListedTree, 
 /// A shared resource that a body lists, by its name or by reference.
 #[tactic(auto, unfolding(crate::specs::Inside::ReadingOptions::listed_resource_at))]
 fn listed_resource<'a>(alloc: Global, tokens: Tokens<'a>) -> Result<(ListedTree, Tokens<'a>), Stop>
-    ensures { Gives (λ x. x) result (listed_resource_at tokens.entry) }
+    ensures { GivesRead (λ x. x) result (listed_resource_at tokens.entry) }
 {
     if begins_sign(&tokens, b"&") {
         ref_resource(alloc, tokens)

@@ -5,7 +5,7 @@ ghost use Rattle.rt_lex.specs.Token.{view};
 ghost use Rattle.rt_ast.specs.View.{expression_of};
 ghost use Rattle.rt_grammar.specs.Expression.{op_of, comparisons, strengths};
 ghost use Rattle.rt_grammar.specs.Reach.{is_of};
-ghost use Rattle.rt_parse.specs.Inside.Reading.{Gives, Leaves, begins_with};
+ghost use Rattle.rt_parse.specs.Inside.Reading.{GivesRead, Leaves, begins_with};
 ghost use Rattle.rt_parse.specs.Inside.ReadingDepth.{joined_measure, atomic};
 ghost use Rattle.rt_parse.specs.Inside.ReadingExpression.{joined_operand_at, chains_at, comparison_at, number_atom_at};
 ghost use Rattle.rt_parse.specs.Inside.ReadingExpression.{name_atom_at, parenthesized_expression_at};
@@ -177,7 +177,7 @@ fn comparison_ahead(tokens: &Tokens<'_>) -> Option<Op>
 
 /// Both sides of an operator as one.
 fn join(alloc: Global, op: Op, left: Measured, right: Measured) -> Result<Measured, Stop>
-    ensures { Gives measured_view result (Ok (joined_measure op (measured_view left) (measured_view right))) }
+    ensures { GivesRead measured_view result (Ok (joined_measure op (measured_view left) (measured_view right))) }
 {
     let at = left.at;
     let (Some(first), Some(second)) = (left.kept, right.kept) else {
@@ -197,7 +197,7 @@ fn join(alloc: Global, op: Op, left: Measured, right: Measured) -> Result<Measur
 
 /// A tree that is 1 deep.
 fn atomic(alloc: Global, at: u32, tree: Expr) -> Result<Measured, Stop>
-    ensures { Gives measured_view result (Ok (atomic at (expression_of tree))) }
+    ensures { GivesRead measured_view result (Ok (atomic at (expression_of tree))) }
 {
     let tree = Box::new(alloc, tree)?;
     Ok(Measured {
@@ -352,7 +352,7 @@ fn comparison(alloc: Global, tokens: &mut Tokens<'_>, more: u32) -> Result<Measu
 /// An expression that is part of no other.
 #[tactic(auto, unfolding(crate::specs::Inside::ReadingExpression::expression_at))]
 pub(crate) fn expression<'a>(alloc: Global, tokens: Tokens<'a>) -> Result<(Expr, Tokens<'a>), Stop>
-    ensures { Gives (λ x. (expression_of x.0, x.1)) result (expression_at tokens.entry) }
+    ensures { GivesRead (λ x. (expression_of x.0, x.1)) result (expression_at tokens.entry) }
 {
     let mut tokens = tokens;
     let whole = comparison(alloc, &mut tokens, PARENTHESES)?;

@@ -1,7 +1,7 @@
 // Lists up to the sign that closes them.
 
 ghost use Rattle.std.specs.Prelude.{◌≡◌, ◌<◌, ℕ, [], length, IfOk};
-ghost use Rattle.rt_parse.specs.Inside.Reading.{Reader, Gives};
+ghost use Rattle.rt_parse.specs.Inside.Reading.{Reader, GivesRead};
 ghost use Rattle.rt_parse.specs.Inside.ReadingList.{comma_at, goes_past, items_at, adds_at};
 
 use crate::stop::Stop;
@@ -20,13 +20,13 @@ pub(crate) trait Item: Sized {
         tokens: Tokens<'a>,
         before: usize,
     ) -> Result<(Self, Tokens<'a>), Stop>
-        ensures given { Gives (λ x. x) result (reads before tokens.entry) }
+        ensures given { GivesRead (λ x. x) result (reads before tokens.entry) }
         ensures shorter { IfOk result (λ x. length x.1 < length tokens.entry) };
 }
 
 /// A comma, or nothing in front of the sign that closes the list.
 pub(crate) fn comma<'a>(tokens: Tokens<'a>, closing: &[u8]) -> Result<Tokens<'a>, Stop>
-    ensures { Gives (λ x. x) result (comma_at closing.now tokens.entry) }
+    ensures { GivesRead (λ x. x) result (comma_at closing.now tokens.entry) }
 {
     if begins_sign(&tokens, closing) {
         Ok(tokens)
@@ -52,7 +52,7 @@ pub(crate) fn list<'a, T: Item + Drop>(
     tokens: Tokens<'a>,
     closing: &[u8],
 ) -> Result<(Vec<T>, Tokens<'a>), Stop>
-    ensures { Gives (λ x. (x.0.items, x.1)) result
+    ensures { GivesRead (λ x. (x.0.items, x.1)) result
         (items_at closing.now (adds_at T.reads) (length tokens.entry) [] tokens.entry) }
 {
     let mut items = Vec::new(alloc);

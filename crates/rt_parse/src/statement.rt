@@ -4,7 +4,7 @@
 ghost use Rattle.std.specs.Prelude.{◌≡◌, [], codes, length, map, Ok};
 ghost use Rattle.rt_ast.specs.Tree as tree;
 ghost use Rattle.rt_ast.specs.View.{expression_of, statement_of, spawn_of, value_of, block_of};
-ghost use Rattle.rt_parse.specs.Inside.Reading.{Gives, begins_with, repeat_at};
+ghost use Rattle.rt_parse.specs.Inside.Reading.{GivesRead, begins_with, repeat_at};
 ghost use Rattle.rt_parse.specs.Inside.ReadingList.{items_at, adds_at};
 ghost use Rattle.rt_parse.specs.Inside.ReadingExpression.{expression_at};
 ghost use Rattle.rt_parse.specs.Inside.ReadingSpawn.{is_spawn, arguments_at, enclosed_expression_at, delayed_task_at};
@@ -44,7 +44,7 @@ fn nested_limit(left: u32) -> Option<Limit>
 
 /// The arguments of a spawn, up to the parenthesis that closes them.
 fn expressions<'a>(alloc: Global, tokens: Tokens<'a>) -> Result<(Vec<Expr>, Tokens<'a>), Stop>
-    ensures { Gives (λ x. (map expression_of x.0.items, x.1)) result
+    ensures { GivesRead (λ x. (map expression_of x.0.items, x.1)) result
         (items_at (codes ")") (adds_at (λ before. expression_at)) (length tokens.entry) [] tokens.entry) }
 {
     let mut items = Vec::new(alloc);
@@ -61,7 +61,7 @@ fn expressions<'a>(alloc: Global, tokens: Tokens<'a>) -> Result<(Vec<Expr>, Toke
 /// The arguments of a message, in parentheses.
 #[tactic(auto, unfolding(crate::specs::Inside::ReadingSpawn::arguments_at))]
 fn arguments<'a>(alloc: Global, tokens: Tokens<'a>) -> Result<(Vec<Expr>, Tokens<'a>), Stop>
-    ensures { Gives (λ x. (map expression_of x.0.items, x.1)) result (arguments_at tokens.entry) }
+    ensures { GivesRead (λ x. (map expression_of x.0.items, x.1)) result (arguments_at tokens.entry) }
 {
     let (_, tokens) = sign(tokens, b"(")?;
     expressions(alloc, tokens)
@@ -70,7 +70,7 @@ fn arguments<'a>(alloc: Global, tokens: Tokens<'a>) -> Result<(Vec<Expr>, Tokens
 /// An expression in parentheses: a delay, or the handle of a message.
 #[tactic(auto, unfolding(crate::specs::Inside::ReadingSpawn::enclosed_expression_at))]
 fn enclosed_expression<'a>(alloc: Global, tokens: Tokens<'a>) -> Result<(Expr, Tokens<'a>), Stop>
-    ensures { Gives (λ x. (expression_of x.0, x.1)) result (enclosed_expression_at tokens.entry) }
+    ensures { GivesRead (λ x. (expression_of x.0, x.1)) result (enclosed_expression_at tokens.entry) }
 {
     let (_, tokens) = sign(tokens, b"(")?;
     let (expr, tokens) = expression(alloc, tokens)?;
@@ -81,7 +81,7 @@ fn enclosed_expression<'a>(alloc: Global, tokens: Tokens<'a>) -> Result<(Expr, T
 /// A delay, and the task after it.
 #[tactic(auto, unfolding(crate::specs::Inside::ReadingSpawn::delayed_task_at))]
 fn delayed_task<'a>(alloc: Global, tokens: Tokens<'a>) -> Result<((Expr, Ident), Tokens<'a>), Stop>
-    ensures { Gives (λ x. ((expression_of x.0.0, x.0.1), x.1)) result (delayed_task_at tokens.entry) }
+    ensures { GivesRead (λ x. ((expression_of x.0.0, x.0.1), x.1)) result (delayed_task_at tokens.entry) }
 {
     let (delay, tokens) = enclosed_expression(alloc, tokens)?;
     let (task, tokens) = name(alloc, tokens)?;
@@ -95,7 +95,7 @@ fn soon<'a>(
     tokens: Tokens<'a>,
     limit: Option<Limit>,
 ) -> Result<(Spawn, Tokens<'a>), Stop>
-    ensures { Gives (λ x. (spawn_of x.0, x.1)) result (soon_at limit tokens.entry) }
+    ensures { GivesRead (λ x. (spawn_of x.0, x.1)) result (soon_at limit tokens.entry) }
 {
     let (_, tokens) = limited_word(tokens, b"spawn", limit)?;
     let (task, tokens) = name(alloc, tokens)?;
@@ -110,7 +110,7 @@ fn after<'a>(
     tokens: Tokens<'a>,
     limit: Option<Limit>,
 ) -> Result<(Spawn, Tokens<'a>), Stop>
-    ensures { Gives (λ x. (spawn_of x.0, x.1)) result (after_at limit tokens.entry) }
+    ensures { GivesRead (λ x. (spawn_of x.0, x.1)) result (after_at limit tokens.entry) }
 {
     let (at, tokens) = limited_word(tokens, b"spawn_after", limit)?;
     let ((delay, task), tokens) = delayed_task(alloc, tokens)?;
@@ -125,7 +125,7 @@ fn cancel<'a>(
     tokens: Tokens<'a>,
     limit: Option<Limit>,
 ) -> Result<(Spawn, Tokens<'a>), Stop>
-    ensures { Gives (λ x. (spawn_of x.0, x.1)) result (cancel_at limit tokens.entry) }
+    ensures { GivesRead (λ x. (spawn_of x.0, x.1)) result (cancel_at limit tokens.entry) }
 {
     let (at, tokens) = limited_word(tokens, b"cancel", limit)?;
     let (task, tokens) = name(alloc, tokens)?;
@@ -140,7 +140,7 @@ fn reschedule<'a>(
     tokens: Tokens<'a>,
     limit: Option<Limit>,
 ) -> Result<(Spawn, Tokens<'a>), Stop>
-    ensures { Gives (λ x. (spawn_of x.0, x.1)) result (move_at limit tokens.entry) }
+    ensures { GivesRead (λ x. (spawn_of x.0, x.1)) result (move_at limit tokens.entry) }
 {
     let (at, tokens) = limited_word(tokens, b"reschedule_after", limit)?;
     let ((delay, task), tokens) = delayed_task(alloc, tokens)?;
@@ -156,7 +156,7 @@ fn spawn<'a>(
     tokens: Tokens<'a>,
     limit: Option<Limit>,
 ) -> Result<(Spawn, Tokens<'a>), Stop>
-    ensures { Gives (λ x. (spawn_of x.0, x.1)) result (spawn_at limit tokens.entry) }
+    ensures { GivesRead (λ x. (spawn_of x.0, x.1)) result (spawn_at limit tokens.entry) }
 {
     if begins_word(&tokens, b"spawn") {
         soon(alloc, tokens, limit)
@@ -187,7 +187,7 @@ fn begins_spawn(tokens: &Tokens<'_>) -> bool
 /// `now` as a value.
 #[tactic(auto, unfolding(crate::specs::Inside::ReadingSpawn::now_at))]
 fn now_value(tokens: Tokens<'_>) -> Result<(Value, Tokens<'_>), Stop>
-    ensures { Gives (λ x. (value_of x.0, x.1)) result (now_at tokens.entry) }
+    ensures { GivesRead (λ x. (value_of x.0, x.1)) result (now_at tokens.entry) }
 {
     let (at, tokens) = word(tokens, b"now")?;
     Ok((Value::Now(at), tokens))
@@ -196,7 +196,7 @@ fn now_value(tokens: Tokens<'_>) -> Result<(Value, Tokens<'_>), Stop>
 /// A spawn as a value.
 #[tactic(auto, unfolding(crate::specs::Inside::ReadingSpawn::call_value_at))]
 fn call_value<'a>(alloc: Global, tokens: Tokens<'a>) -> Result<(Value, Tokens<'a>), Stop>
-    ensures { Gives (λ x. (value_of x.0, x.1)) result (call_value_at tokens.entry) }
+    ensures { GivesRead (λ x. (value_of x.0, x.1)) result (call_value_at tokens.entry) }
 {
     let (spawn, tokens) = spawn(alloc, tokens, None)?;
     Ok((Value::Call(spawn), tokens))
@@ -205,7 +205,7 @@ fn call_value<'a>(alloc: Global, tokens: Tokens<'a>) -> Result<(Value, Tokens<'a
 /// An expression as a value.
 #[tactic(auto, unfolding(crate::specs::Inside::ReadingSpawn::calc_at))]
 fn calc_value<'a>(alloc: Global, tokens: Tokens<'a>) -> Result<(Value, Tokens<'a>), Stop>
-    ensures { Gives (λ x. (value_of x.0, x.1)) result (calc_at tokens.entry) }
+    ensures { GivesRead (λ x. (value_of x.0, x.1)) result (calc_at tokens.entry) }
 {
     let (expr, tokens) = expression(alloc, tokens)?;
     Ok((Value::Calc(expr), tokens))
@@ -214,7 +214,7 @@ fn calc_value<'a>(alloc: Global, tokens: Tokens<'a>) -> Result<(Value, Tokens<'a
 /// What a variable is bound to.
 #[tactic(auto, unfolding(crate::specs::Inside::ReadingSpawn::value_at))]
 fn value<'a>(alloc: Global, tokens: Tokens<'a>) -> Result<(Value, Tokens<'a>), Stop>
-    ensures { Gives (λ x. (value_of x.0, x.1)) result (value_at tokens.entry) }
+    ensures { GivesRead (λ x. (value_of x.0, x.1)) result (value_at tokens.entry) }
 {
     if begins_word(&tokens, b"now") {
         now_value(tokens)
@@ -228,7 +228,7 @@ fn value<'a>(alloc: Global, tokens: Tokens<'a>) -> Result<(Value, Tokens<'a>), S
 /// A `let`.
 #[tactic(auto, unfolding(crate::specs::Inside::ReadingSimple::bind_at))]
 fn bind<'a>(alloc: Global, tokens: Tokens<'a>, room: u32) -> Result<((Stmt, u32), Tokens<'a>), Stop>
-    ensures { Gives (λ x. ((statement_of x.0.0, x.0.1), x.1)) result (bind_at room tokens.entry) }
+    ensures { GivesRead (λ x. ((statement_of x.0.0, x.0.1), x.1)) result (bind_at room tokens.entry) }
 {
     let (_, tokens) = limited_word(tokens, b"let", counted_limit(room))?;
     let (variable, tokens) = name(alloc, tokens)?;
@@ -248,7 +248,7 @@ fn assign<'a>(
     tokens: Tokens<'a>,
     room: u32,
 ) -> Result<((Stmt, u32), Tokens<'a>), Stop>
-    ensures { Gives (λ x. ((statement_of x.0.0, x.0.1), x.1)) result (assign_at room tokens.entry) }
+    ensures { GivesRead (λ x. ((statement_of x.0.0, x.0.1), x.1)) result (assign_at room tokens.entry) }
 {
     let (target, tokens) = limited_name(alloc, tokens, counted_limit(room))?;
     let (_, tokens) = sign(tokens, b"=")?;
@@ -260,7 +260,7 @@ fn assign<'a>(
 /// An `emit`.
 #[tactic(auto, unfolding(crate::specs::Inside::ReadingSimple::emit_at))]
 fn emit<'a>(alloc: Global, tokens: Tokens<'a>, room: u32) -> Result<((Stmt, u32), Tokens<'a>), Stop>
-    ensures { Gives (λ x. ((statement_of x.0.0, x.0.1), x.1)) result (emit_at room tokens.entry) }
+    ensures { GivesRead (λ x. ((statement_of x.0.0, x.0.1), x.1)) result (emit_at room tokens.entry) }
 {
     let (_, tokens) = limited_word(tokens, b"emit", counted_limit(room))?;
     let (expr, tokens) = expression(alloc, tokens)?;
@@ -271,7 +271,7 @@ fn emit<'a>(alloc: Global, tokens: Tokens<'a>, room: u32) -> Result<((Stmt, u32)
 /// A `pend`.
 #[tactic(auto, unfolding(crate::specs::Inside::ReadingSimple::pend_at))]
 fn pend<'a>(alloc: Global, tokens: Tokens<'a>, room: u32) -> Result<((Stmt, u32), Tokens<'a>), Stop>
-    ensures { Gives (λ x. ((statement_of x.0.0, x.0.1), x.1)) result (pend_at room tokens.entry) }
+    ensures { GivesRead (λ x. ((statement_of x.0.0, x.0.1), x.1)) result (pend_at room tokens.entry) }
 {
     let (_, tokens) = limited_word(tokens, b"pend", counted_limit(room))?;
     let (irq, tokens) = name(alloc, tokens)?;
@@ -282,7 +282,7 @@ fn pend<'a>(alloc: Global, tokens: Tokens<'a>, room: u32) -> Result<((Stmt, u32)
 /// A spawn as a statement.
 #[tactic(auto, unfolding(crate::specs::Inside::ReadingSimple::call_at))]
 fn call<'a>(alloc: Global, tokens: Tokens<'a>, room: u32) -> Result<((Stmt, u32), Tokens<'a>), Stop>
-    ensures { Gives (λ x. ((statement_of x.0.0, x.0.1), x.1)) result (call_at room tokens.entry) }
+    ensures { GivesRead (λ x. ((statement_of x.0.0, x.0.1), x.1)) result (call_at room tokens.entry) }
 {
     let (spawn, tokens) = spawn(alloc, tokens, counted_limit(room))?;
     let (_, tokens) = sign(tokens, b";")?;
@@ -298,7 +298,7 @@ fn else_block<'a>(
     left: u32,
     room: u32,
 ) -> Result<((Vec<Stmt>, u32), Tokens<'a>), Stop>
-    ensures { Gives (λ x. ((block_of x.0.0.items, x.0.1), x.1)) result (else_at (block_at left) room tokens.entry) }
+    ensures { GivesRead (λ x. ((block_of x.0.0.items, x.0.1), x.1)) result (else_at (block_at left) room tokens.entry) }
 {
     if begins_word(&tokens, b"else") {
         let (_, tokens) = word(tokens, b"else")?;
@@ -317,7 +317,7 @@ fn branch<'a>(
     left: u32,
     room: u32,
 ) -> Result<((Stmt, u32), Tokens<'a>), Stop>
-    ensures { Gives (λ x. ((statement_of x.0.0, x.0.1), x.1)) result (branch_at (block_at left) room tokens.entry) }
+    ensures { GivesRead (λ x. ((statement_of x.0.0, x.0.1), x.1)) result (branch_at (block_at left) room tokens.entry) }
 {
     let (_, tokens) = limited_word(tokens, b"if", counted_limit(room))?;
     let (condition, tokens) = expression(alloc, tokens)?;
@@ -335,7 +335,7 @@ fn repeat<'a>(
     left: u32,
     room: u32,
 ) -> Result<((Stmt, u32), Tokens<'a>), Stop>
-    ensures { Gives (λ x. ((statement_of x.0.0, x.0.1), x.1)) result (loop_at (block_at left) room tokens.entry) }
+    ensures { GivesRead (λ x. ((statement_of x.0.0, x.0.1), x.1)) result (loop_at (block_at left) room tokens.entry) }
 {
     let (_, tokens) = limited_word(tokens, b"for", counted_limit(room))?;
     let (variable, tokens) = name(alloc, tokens)?;
@@ -357,7 +357,7 @@ fn lock<'a>(
     left: u32,
     room: u32,
 ) -> Result<((Stmt, u32), Tokens<'a>), Stop>
-    ensures { Gives (λ x. ((statement_of x.0.0, x.0.1), x.1)) result (lock_at (inside_at left) room tokens.entry) }
+    ensures { GivesRead (λ x. ((statement_of x.0.0, x.0.1), x.1)) result (lock_at (inside_at left) room tokens.entry) }
 {
     let (_, tokens) = limited_word(tokens, b"lock", counted_limit(room))?;
     let (resource, tokens) = name(alloc, tokens)?;
@@ -371,7 +371,7 @@ fn simple<'a>(
     tokens: Tokens<'a>,
     room: u32,
 ) -> Result<((Stmt, u32), Tokens<'a>), Stop>
-    ensures { Gives (λ x. ((statement_of x.0.0, x.0.1), x.1)) result (simple_at room tokens.entry) }
+    ensures { GivesRead (λ x. ((statement_of x.0.0, x.0.1), x.1)) result (simple_at room tokens.entry) }
 {
     if begins_word(&tokens, b"emit") {
         emit(alloc, tokens, room)
@@ -390,7 +390,7 @@ fn compound<'a>(
     left: u32,
     room: u32,
 ) -> Result<((Stmt, u32), Tokens<'a>), Stop>
-    ensures { Gives (λ x. ((statement_of x.0.0, x.0.1), x.1)) result
+    ensures { GivesRead (λ x. ((statement_of x.0.0, x.0.1), x.1)) result
         (compound_at (block_at left) (inside_at left) room tokens.entry) }
 {
     if begins_word(&tokens, b"if") {
@@ -413,7 +413,7 @@ fn statement<'a>(
     left: u32,
     room: u32,
 ) -> Result<((Stmt, u32), Tokens<'a>), Stop>
-    ensures { Gives (λ x. ((statement_of x.0.0, x.0.1), x.1)) result
+    ensures { GivesRead (λ x. ((statement_of x.0.0, x.0.1), x.1)) result
         (statement_at (block_at left) (inside_at left) room tokens.entry) }
 {
     if begins_name(&tokens) {
@@ -433,7 +433,7 @@ fn statements<'a>(
     left: u32,
     first_room: u32,
 ) -> Result<((Vec<Stmt>, u32), Tokens<'a>), Stop>
-    ensures { Gives (λ x. ((map statement_of x.0.0.items, x.0.1), x.1)) result
+    ensures { GivesRead (λ x. ((map statement_of x.0.0.items, x.0.1), x.1)) result
         (repeat_at is_inside (one_more_at (block_at left) (inside_at left)) (length tokens.entry) ([], first_room)
         tokens.entry) }
 {
@@ -458,7 +458,7 @@ fn braced_block<'a>(
     left: u32,
     room: u32,
 ) -> Result<((Vec<Stmt>, u32), Tokens<'a>), Stop>
-    ensures { Gives (λ x. ((block_of x.0.0.items, x.0.1), x.1)) result
+    ensures { GivesRead (λ x. ((block_of x.0.0.items, x.0.1), x.1)) result
         (braced_block_at (block_at left) (inside_at left) room tokens.entry) }
 {
     let (_, tokens) = sign(tokens, b"{")?;
@@ -470,7 +470,7 @@ fn braced_block<'a>(
 /// Where no more blocks may be opened.
 #[tactic(auto, unfolding(crate::specs::Inside::ReadingStatement::closed_block_at))]
 fn closed_block(tokens: Tokens<'_>) -> Result<((Vec<Stmt>, u32), Tokens<'_>), Stop>
-    ensures { Gives (λ x. ((block_of x.0.0.items, x.0.1), x.1)) result (closed_block_at tokens.entry) }
+    ensures { GivesRead (λ x. ((block_of x.0.0.items, x.0.1), x.1)) result (closed_block_at tokens.entry) }
 {
     let (_, tokens) = limited_sign(tokens, b"{", Some(Limit::Nesting))?;
     Err(Stop::At(fault_found(&tokens)))
@@ -485,7 +485,7 @@ pub(crate) fn block<'a>(
     left: u32,
     room: u32,
 ) -> Result<((Vec<Stmt>, u32), Tokens<'a>), Stop>
-    ensures { Gives (λ x. ((block_of x.0.0.items, x.0.1), x.1)) result (block_at left room tokens.entry) }
+    ensures { GivesRead (λ x. ((block_of x.0.0.items, x.0.1), x.1)) result (block_at left room tokens.entry) }
 {
     match left.checked_sub(1) {
         Some(fewer) => braced_block(alloc, tokens, fewer, room),
@@ -502,7 +502,7 @@ fn below<'a>(
     left: u32,
     room: u32,
 ) -> Result<((Vec<Stmt>, u32), Tokens<'a>), Stop>
-    ensures { Gives (λ x. ((block_of x.0.0.items, x.0.1), x.1)) result (below_at left room tokens.entry) }
+    ensures { GivesRead (λ x. ((block_of x.0.0.items, x.0.1), x.1)) result (below_at left room tokens.entry) }
 {
     match left.checked_sub(1) {
         Some(fewer) => inside(alloc, tokens, fewer, room),
@@ -512,7 +512,7 @@ fn below<'a>(
 
 /// A block of one statement.
 fn only(alloc: Global, statement: Stmt) -> Result<Vec<Stmt>, Stop>
-    ensures { Gives (λ v. block_of v.items) result (Ok (tree.Then (statement_of statement) tree.Empty)) }
+    ensures { GivesRead (λ v. block_of v.items) result (Ok (tree.Then (statement_of statement) tree.Empty)) }
 {
     let mut block = Vec::new(alloc);
     block.push(statement)?;
@@ -528,7 +528,7 @@ fn further<'a>(
     left: u32,
     room: u32,
 ) -> Result<((Vec<Stmt>, u32), Tokens<'a>), Stop>
-    ensures { Gives (λ x. ((block_of x.0.0.items, x.0.1), x.1)) result
+    ensures { GivesRead (λ x. ((block_of x.0.0.items, x.0.1), x.1)) result
         (further_at (below_at left) left room tokens.entry) }
 {
     let (_, tokens) = sign(tokens, b",")?;
@@ -548,7 +548,7 @@ fn inside<'a>(
     left: u32,
     room: u32,
 ) -> Result<((Vec<Stmt>, u32), Tokens<'a>), Stop>
-    ensures { Gives (λ x. ((block_of x.0.0.items, x.0.1), x.1)) result (inside_at left room tokens.entry) }
+    ensures { GivesRead (λ x. ((block_of x.0.0.items, x.0.1), x.1)) result (inside_at left room tokens.entry) }
 {
     if begins_sign(&tokens, b",") {
         further(alloc, tokens, left, room)

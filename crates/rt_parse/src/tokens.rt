@@ -6,7 +6,7 @@ ghost use Rattle.rt_ids.specs.declared.refusal.Refusal.TheVariants as refusal;
 ghost use Rattle.rt_parse.specs.declared.stop.Stop.TheVariants.{At};
 ghost use Rattle.rt_lex.specs.Token.{view, is_this_sign, is_this_word, is_this_name};
 ghost use Rattle.rt_grammar.specs.Tokens.{limit_if};
-ghost use Rattle.rt_parse.specs.Inside.Reading.{Gives, Leaves, begins_with, fault_found_at, wrong_token};
+ghost use Rattle.rt_parse.specs.Inside.Reading.{GivesRead, Leaves, begins_with, fault_found_at, wrong_token};
 ghost use Rattle.rt_parse.specs.Inside.Reading.{limited_word_at, word_at, limited_sign_at, sign_at, limited_name_at};
 ghost use Rattle.rt_parse.specs.Inside.Reading.{name_at, this_name_at, number_at, limited_number_at, unless_limited};
 ghost use Rattle.rt_parse.specs.Inside.ReadingExpression.{is_name};
@@ -87,7 +87,7 @@ pub(crate) fn limited_word<'a>(
     word: &[u8],
     limit: Option<Limit>,
 ) -> Result<(u32, Tokens<'a>), Stop>
-    ensures { Gives (λ x. x) result (limited_word_at word.now limit tokens.entry) }
+    ensures { GivesRead (λ x. x) result (limited_word_at word.now limit tokens.entry) }
 {
     match tokens.next() {
         Some(token) if token.is_word(word) => unless_limited(token.at, limit, token.at, tokens),
@@ -97,7 +97,7 @@ pub(crate) fn limited_word<'a>(
 
 /// A word. Gives its offset.
 pub(crate) fn word<'a>(tokens: Tokens<'a>, word: &[u8]) -> Result<(u32, Tokens<'a>), Stop>
-    ensures { Gives (λ x. x) result (word_at word.now tokens.entry) }
+    ensures { GivesRead (λ x. x) result (word_at word.now tokens.entry) }
 {
     limited_word(tokens, word, None)
 }
@@ -115,7 +115,7 @@ pub(crate) fn begins_this_name(tokens: &Tokens<'_>, name: &[u8]) -> bool
 /// A name that has a meaning here, a contextual keyword. Gives its offset.
 #[tactic(auto, unfolding(crate::specs::Inside::Reading::token_at))]
 pub(crate) fn this_name<'a>(mut tokens: Tokens<'a>, name: &[u8]) -> Result<(u32, Tokens<'a>), Stop>
-    ensures { Gives (λ x. x) result (this_name_at name.now tokens.entry) }
+    ensures { GivesRead (λ x. x) result (this_name_at name.now tokens.entry) }
 {
     match tokens.next() {
         Some(token) if token.is_name(name) => Ok((token.at, tokens)),
@@ -166,7 +166,7 @@ pub(crate) fn limited_sign<'a>(
     sign: &[u8],
     limit: Option<Limit>,
 ) -> Result<(u32, Tokens<'a>), Stop>
-    ensures { Gives (λ x. x) result (limited_sign_at sign.now limit tokens.entry) }
+    ensures { GivesRead (λ x. x) result (limited_sign_at sign.now limit tokens.entry) }
 {
     let at = take_sign(&mut tokens, sign, limit)?;
     Ok((at, tokens))
@@ -174,7 +174,7 @@ pub(crate) fn limited_sign<'a>(
 
 /// A sign. Gives its offset.
 pub(crate) fn sign<'a>(tokens: Tokens<'a>, sign: &[u8]) -> Result<(u32, Tokens<'a>), Stop>
-    ensures { Gives (λ x. x) result (sign_at sign.now tokens.entry) }
+    ensures { GivesRead (λ x. x) result (sign_at sign.now tokens.entry) }
 {
     limited_sign(tokens, sign, None)
 }
@@ -207,7 +207,7 @@ pub(crate) fn limited_name<'a>(
     mut tokens: Tokens<'a>,
     limit: Option<Limit>,
 ) -> Result<(Ident, Tokens<'a>), Stop>
-    ensures { Gives (λ x. x) result (limited_name_at limit tokens.entry) }
+    ensures { GivesRead (λ x. x) result (limited_name_at limit tokens.entry) }
 {
     let name = take_name(alloc, &mut tokens, limit)?;
     Ok((name, tokens))
@@ -215,7 +215,7 @@ pub(crate) fn limited_name<'a>(
 
 /// A name. Its own limit is judged, and no other.
 pub(crate) fn name<'a>(alloc: Global, tokens: Tokens<'a>) -> Result<(Ident, Tokens<'a>), Stop>
-    ensures { Gives (λ x. x) result (name_at tokens.entry) }
+    ensures { GivesRead (λ x. x) result (name_at tokens.entry) }
 {
     limited_name(alloc, tokens, None)
 }
@@ -240,7 +240,7 @@ pub(crate) fn take_number(tokens: &mut Tokens<'_>) -> Result<Number, Stop>
 
 /// A number. Its own limit is judged, and no other.
 pub(crate) fn number(mut tokens: Tokens<'_>) -> Result<(Number, Tokens<'_>), Stop>
-    ensures { Gives (λ x. x) result (number_at tokens.entry) }
+    ensures { GivesRead (λ x. x) result (number_at tokens.entry) }
 {
     let number = take_number(&mut tokens)?;
     Ok((number, tokens))
@@ -283,7 +283,7 @@ fn unless_limited<T: Drop>(
     read: T,
     tokens: Tokens<'_>,
 ) -> Result<(T, Tokens<'_>), Stop>
-    ensures { Gives (λ x. x) result (unless_limited at limit read tokens.entry) }
+    ensures { GivesRead (λ x. x) result (unless_limited at limit read tokens.entry) }
 {
     match limit {
         None => Ok((read, tokens)),
@@ -305,7 +305,7 @@ pub(crate) fn number_within(
     greatest: u32,
     limit: Limit,
 ) -> Result<(Number, Tokens<'_>), Stop>
-    ensures { Gives (λ x. x) result (limited_number_at (within least greatest limit) tokens.entry) }
+    ensures { GivesRead (λ x. x) result (limited_number_at (within least greatest limit) tokens.entry) }
 {
     let (number, tokens) = number(tokens)?;
     let passes = !is_within(number.value, least, greatest);
@@ -315,7 +315,7 @@ pub(crate) fn number_within(
 
 /// The number that a loop from the first one does not reach. The limit is on its turns.
 pub(crate) fn last_number(tokens: Tokens<'_>, first: u32) -> Result<(Number, Tokens<'_>), Stop>
-    ensures { Gives (λ x. x) result (limited_number_at (turn_limit first) tokens.entry) }
+    ensures { GivesRead (λ x. x) result (limited_number_at (turn_limit first) tokens.entry) }
 {
     let (number, tokens) = number(tokens)?;
     let turns = number.value.saturating_sub(first);

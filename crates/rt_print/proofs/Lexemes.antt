@@ -29,7 +29,8 @@ use Rattle.rt_lex.specs.Bytes.{is_blank, digit_value}
 use Rattle.rt_ids.specs.Byte.{is_digit, is_letter, is_lower, is_upper, is_name_byte}
 use Rattle.rt_lex.specs.Front.{Front, skips, makes, front_of, name_front, number_front, sign_front, hex_digits, comment}
 use Rattle.rt_lex.proofs.Lexing.{takes}
-use Rattle.rt_grammar.specs.Tokens.{free, word_of, sign_of, name_of, ident_of, number_of, name_limit, number_limit}
+use Rattle.rt_grammar.specs.Tokens.{free, word_of, sign_of, name_of, ident_of, number_of_token, name_limit}
+use Rattle.rt_grammar.specs.Tokens.{number_limit}
 use Rattle.rt_grammar.specs.Tokens.{limited_word, limited_sign, limited_name, this_name, limited_number}
 use Rattle.rt_print.proofs.Reading.{Reads, Any, read_token}
 
@@ -223,6 +224,6 @@ read_number n what Y low free stop at =
     let m : Number = record { value = number_value (decimal n); at = at } in
     let short : nat_lt n (2 ^ 32) ≡ true = lt-ltb n (2 ^ 32) low in
     let no_limit : number_limit what m ≡ None = rw (value, short, free) refl in
-    read_token number_of (number_limit what) (IsNumber n) (decimal n ++ Y) Y at (at + length (decimal n))
+    read_token number_of_token (number_limit what) (IsNumber n) (decimal n ++ Y) Y at (at + length (decimal n))
     (record { at = at; kind = kind.Num; text = decimal n }) m refl no_limit value
     (token_first (decimal n) kind.Num Y at (number_is_front (decimal n) Y numeral.0.0 numeral.0.1 stop))

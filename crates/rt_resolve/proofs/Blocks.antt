@@ -1,4 +1,4 @@
--- A block that grows by a statement, and the scope behind each statement.
+-- A block that grows by a statement, and the scope names_after each statement.
 use Rattle.std.proofs.Common.{◌≡◌, ℕ, ◌+◌, ◌-◌, ◌<◌, ◌≤◌, ◌++◌, List, [], ◌∷◌, length, take, drop, get_or, refl, ap}
 use Rattle.std.proofs.Common.{sym, ◌∙◌, arith, zero, suc, Bool, true, false, append_assoc, append-nil, if◌then◌else◌}
 use Rattle.std.specs.List.{list_any}
@@ -14,11 +14,11 @@ use Rattle.rt_app.specs.Tree.{Block, Empty, Then}
 use Rattle.rt_app.specs.View.{statement_of, block_of}
 use Rattle.rt_app.specs.declared.stmt.Stmt.{Stmt}
 use Rattle.rt_resolve.specs.Scope.{Names, Scope, Variable, is_variable, scope_with_variable}
-use Rattle.rt_resolve.specs.Resolving.{statement, block, behind, binders_in, binders}
+use Rattle.rt_resolve.specs.Resolving.{statement, block, names_after, binders_in, binders}
 use Rattle.rt_resolve.specs.Misnamed.{statement_faults, block_faults}
 use Rattle.rt_resolve.specs.Inside.Bindings.{scope_after_block}
 
--- the statements of a block and behind them those of another
+-- the statements of a block and names_after them those of another
 abbrev pub followed : Block → Block → Block
 followed Empty b = b
 followed (Then s rest) b = Then s (followed rest b)
@@ -32,7 +32,7 @@ pushed_followed : (xs : List Stmt) (s : Stmt) (b : Block) → followed (block_of
 pushed_followed [] s b = refl
 pushed_followed (x ∷ xs) s b = ap (Then (statement_of x)) (pushed_followed xs s b)
 
--- the statement at an index, and those behind it
+-- the statement at an index, and those names_after it
 pub statement_and_rest : (stmts : List source_stmt.Stmt) (i : ℕ) (s : source_stmt.Stmt) → i < length stmts → s
     ≡ get_or stmts i s
     → source.block_of (drop i stmts) ≡ written.Then (source.statement_of s) (source.block_of (drop (i + 1) stmts))
@@ -60,32 +60,32 @@ statement_within stmts i s h is = omega (
 pub tree_more : (names names' : Names) (n n' : ℕ) (s : written.Statement) (all rest : written.Block)
     (old now : List Stmt) (made : Stmt) (whole : Block)
     → all ≡ written.Then s rest → statement_of made ≡ statement names n s → now ≡ old ++ made ∷ [] → n' ≡ n
-    + binders_in s → names' ≡ behind names n s
+    + binders_in s → names' ≡ names_after names n s
     → followed (block_of old) (block names n all) ≡ whole → followed (block_of now) (block names' n' rest) ≡ whole
 tree_more names names' n n' s all rest old now made whole a e f g h k =
     ap (λ xs. followed (block_of xs) (block names' n' rest)) f ∙ pushed_followed old made (block names' n' rest)
     ∙ ap (λ x. followed (block_of old) (Then x (block names' n' rest))) e
     ∙ ap (λ x. followed (block_of old) (Then (statement names n s) (block x n' rest))) h
-    ∙ ap (λ x. followed (block_of old) (Then (statement names n s) (block (behind names n s) x rest))) g
+    ∙ ap (λ x. followed (block_of old) (Then (statement names n s) (block (names_after names n s) x rest))) g
     ∙ ap (λ b. followed (block_of old) (block names n b)) (sym a) ∙ k
 
 pub faults_more : (names names' : Names) (n n' : ℕ) (s : written.Statement) (all rest : written.Block)
     (old new whole : List Violation)
     → all ≡ written.Then s rest → new ≡ old ++ statement_faults names n s → n' ≡ n + binders_in s → names'
-    ≡ behind names n s
+    ≡ names_after names n s
     → old ++ block_faults names n all ≡ whole → new ++ block_faults names' n' rest ≡ whole
 faults_more names names' n n' s all rest old new whole a f g h k =
     ap (λ xs. xs ++ block_faults names' n' rest) f
     ∙ append_assoc old (statement_faults names n s) (block_faults names' n' rest)
     ∙ ap (λ x. old ++ (statement_faults names n s ++ block_faults x n' rest)) h
-    ∙ ap (λ x. old ++ (statement_faults names n s ++ block_faults (behind names n s) x rest)) g
+    ∙ ap (λ x. old ++ (statement_faults names n s ++ block_faults (names_after names n s) x rest)) g
     ∙ ap (λ b. old ++ block_faults names n b) (sym a) ∙ k
 
 pub next_more : (n n' whole : ℕ) (s : written.Statement) (all rest : written.Block) → all ≡ written.Then s rest → n' ≡ n
     + binders_in s → n + binders all ≡ whole → n' + binders rest ≡ whole
 next_more n n' whole s all rest a g k = omega (arith, ap binders a)
 
-pub app_kept : (names : Names) (n : ℕ) (s : written.Statement) → (behind names n s).app ≡ names.app
+pub app_kept : (names : Names) (n : ℕ) (s : written.Statement) → (names_after names n s).app ≡ names.app
 app_kept names n (Bind x v) = refl
 app_kept names n (Assign x e) = refl
 app_kept names n (Branch e first second) = refl
@@ -95,7 +95,7 @@ app_kept names n (Emit e) = refl
 app_kept names n (Pend i) = refl
 app_kept names n (Spawns s) = refl
 
-pub local_kept : (names : Names) (n : ℕ) (s : written.Statement) → (behind names n s).local ≡ names.local
+pub local_kept : (names : Names) (n : ℕ) (s : written.Statement) → (names_after names n s).local ≡ names.local
 local_kept names n (Bind x v) = refl
 local_kept names n (Assign x e) = refl
 local_kept names n (Branch e first second) = refl
@@ -120,7 +120,7 @@ declared_if false s name n = let e : s.here + 1 ≡ suc s.here = omega arith in 
 pub declared_outside : (s : Scope) (name : List ℕ) (n : ℕ) → outside (scope_with_variable s name n) ≡ outside s
 declared_outside s name n = declared_if (list_any (is_variable name) (take s.here s.variables)) s name n
 
-pub outside_kept : (names : Names) (n : ℕ) (s : written.Statement) → outside (behind names n s).scope
+pub outside_kept : (names : Names) (n : ℕ) (s : written.Statement) → outside (names_after names n s).scope
     ≡ outside names.scope
 outside_kept names n (Bind x v) = declared_outside names.scope x.name n
 outside_kept names n (Assign x e) = refl
@@ -131,7 +131,7 @@ outside_kept names n (Emit e) = refl
 outside_kept names n (Pend i) = refl
 outside_kept names n (Spawns s) = refl
 
--- behind a block the scope is the one before it
+-- names_after a block the scope is the one before it
 pub left_back : (s before : Scope) (outer : ℕ) → outside s ≡ before.variables → outer
     ≡ length before.variables - before.here → before.here ≤ length before.variables → scope_after_block s outer
     ≡ before

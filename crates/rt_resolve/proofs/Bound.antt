@@ -12,7 +12,7 @@ use Rattle.rt_resolve.specs.declared.variables.Meaning.{Meaning}
 use Rattle.rt_resolve.specs.declared.variables.Binding.{Binding}
 use Rattle.rt_resolve.specs.Scope.{Variable, is_variable}
 use Rattle.rt_resolve.specs.Inside.Bindings.{Meanings, variable_of, meaning_at, meaning_in, AreHiding, AreIndexed}
-use Rattle.rt_resolve.specs.Inside.Bindings.{IsKnown, IsRestored}
+use Rattle.rt_resolve.specs.Inside.Bindings.{HasMeaning, IsRestored}
 
 number_chosen : (t : Bool) (b : Binding) (n : ℕ) (m : Option Meaning) (v : Option Variable)
     → option_map (λ m. m.number) m ≡ option_map (λ v. v.number) v
@@ -91,7 +91,7 @@ pushed_indexed bindings m n outer b i h r =
 
 -- the name of the variable that is declared last has a meaning
 pub last_known : (bindings rest : List Binding) (m : Meanings) (outer : ℕ) (b : Binding) → AreIndexed bindings m outer
-    → bindings ≡ rest ++ b ∷ [] → IsKnown m b.name.now
+    → bindings ≡ rest ++ b ∷ [] → HasMeaning m b.name.now
 last_known bindings rest m outer b i is = rw (
   i.meanings b.name.now,
   is,

@@ -11,7 +11,8 @@ use Rattle.rt_app.specs.Limits as kept
 use Rattle.rt_ids.specs.Lists.{greatest}
 use Rattle.rt_app.specs.Frame.{depth, spawn_depth, value_depth, statement_depth, block_depth}
 use Rattle.rt_resolve.specs.Scope.{Names, inside}
-use Rattle.rt_resolve.specs.Resolving.{expression, spawn, value, statement, block, behind, in_loop, binders_in, binders}
+use Rattle.rt_resolve.specs.Resolving.{expression, spawn, value, statement, block, names_after, in_loop, binders_in}
+use Rattle.rt_resolve.specs.Resolving.{binders}
 
 mutual
   pub statements_in_are : (names : Names) (n : ℕ) (s : Statement) → kept.statements_in (statement names n s)
@@ -33,7 +34,7 @@ mutual
   statements_are names n Empty = refl
   statements_are names n (Then s rest) = rw (
     statements_in_are names n s,
-    statements_are (behind names n s) (n + binders_in s) rest,
+    statements_are (names_after names n s) (n + binders_in s) rest,
   ) refl
 
 mutual
@@ -55,7 +56,7 @@ mutual
   blocks_are names n Empty = refl
   blocks_are names n (Then s rest) = rw (
     inner_blocks_are names n s,
-    blocks_are (behind names n s) (n + binders_in s) rest,
+    blocks_are (names_after names n s) (n + binders_in s) rest,
   ) refl
 
 depth_is : (names : Names) (e : Expression) → depth (expression names e) ≡ depth_of e
@@ -105,5 +106,5 @@ mutual
   block_shallow names n (Then s rest) p = omega (
     arith,
     statement_shallow names n s p.0,
-    block_shallow (behind names n s) (n + binders_in s) rest p.1,
+    block_shallow (names_after names n s) (n + binders_in s) rest p.1,
   )

@@ -7,7 +7,8 @@ use Rattle.rt_ast.specs.PrintableBody.{IsSpelledOut, IsPrintableExpression, IsPr
 use Rattle.rt_ast.specs.PrintableBody.{IsPrintableStatement, ArePrintable}
 use Rattle.rt_app.specs.Limits.{ExpressionFits, SpawnFits, ValueFits, StatementFits, BlockFits}
 use Rattle.rt_resolve.specs.Scope.{Names, inside}
-use Rattle.rt_resolve.specs.Resolving.{expression, spawn, value, statement, block, behind, in_loop, binders_in, binders}
+use Rattle.rt_resolve.specs.Resolving.{expression, spawn, value, statement, block, names_after, in_loop, binders_in}
+use Rattle.rt_resolve.specs.Resolving.{binders}
 
 expression_fits : (names : Names) (e : Expression) → IsSpelledOut e → ExpressionFits (expression names e)
 expression_fits names (Num n) p = p
@@ -53,5 +54,5 @@ mutual
   block_fits names n Empty p = tt
   block_fits names n (Then s rest) p = (
     statement_fits names n s p.0,
-    block_fits (behind names n s) (n + binders_in s) rest p.1,
+    block_fits (names_after names n s) (n + binders_in s) rest p.1,
   )

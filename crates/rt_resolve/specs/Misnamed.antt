@@ -11,7 +11,7 @@ use Rattle.rt_app.specs.Violation.{when}
 use Rattle.rt_resolve.specs.Scope.{Names, irq_named, task_named, shared_resource_named, local_named, is_variable}
 use Rattle.rt_resolve.specs.Scope.{inside}
 use Rattle.rt_resolve.specs.Scope.{meaning}
-use Rattle.rt_resolve.specs.Resolving.{binders, binders_in, behind, in_loop}
+use Rattle.rt_resolve.specs.Resolving.{binders, binders_in, names_after, in_loop}
 
 -- a name that is not found
 abbrev pub if_unknown : {A : Type 0} → Option A → ℕ → List Violation
@@ -76,4 +76,4 @@ abbrev mutual
   pub block_faults : Names → ℕ → Block → List Violation
   block_faults names n Empty = []
   block_faults names n (Then s rest) =
-      statement_faults names n s ++ block_faults (behind names n s) (n + binders_in s) rest
+      statement_faults names n s ++ block_faults (names_after names n s) (n + binders_in s) rest

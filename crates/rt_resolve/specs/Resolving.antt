@@ -52,16 +52,16 @@ abbrev mutual
   binders Empty = 0
   binders (Then s rest) = binders_in s + binders rest
 
--- the names behind a statement that so many variables stand before: a `let` holds to the end of its block
-abbrev pub behind : Names → ℕ → Statement → Names
-behind names n (Bind x v) = with_variable names x n
-behind names n (Assign x e) = names
-behind names n (Branch e first second) = names
-behind names n (Repeat x first last turn) = names
-behind names n (Locked r inner) = names
-behind names n (Emit e) = names
-behind names n (Pend i) = names
-behind names n (Spawns s) = names
+-- the names names_after a statement that so many variables stand before: a `let` holds to the end of its block
+abbrev pub names_after : Names → ℕ → Statement → Names
+names_after names n (Bind x v) = with_variable names x n
+names_after names n (Assign x e) = names
+names_after names n (Branch e first second) = names
+names_after names n (Repeat x first last turn) = names
+names_after names n (Locked r inner) = names
+names_after names n (Emit e) = names
+names_after names n (Pend i) = names
+names_after names n (Spawns s) = names
 
 -- the names in the block of a `for`
 abbrev pub in_loop : Names → Ident → ℕ → Names
@@ -81,7 +81,7 @@ abbrev mutual
   statement names n (Pend i) = tree.Pend (or_unknown (irq_named names.app i.name))
   statement names n (Spawns s) = tree.Spawns (spawn names s)
 
-  -- the statements of a block, each with the names that hold behind those before it
+  -- the statements of a block, each with the names that hold names_after those before it
   pub block : Names → ℕ → Block → tree.Block
   block names n Empty = tree.Empty
-  block names n (Then s rest) = tree.Then (statement names n s) (block (behind names n s) (n + binders_in s) rest)
+  block names n (Then s rest) = tree.Then (statement names n s) (block (names_after names n s) (n + binders_in s) rest)

@@ -116,7 +116,7 @@ fn resolve_statement<'a>(
     ensures faults { OnOk result (faults.new.items ≡
         faults.old.items ++ wrong.statement_faults (names_of names.old) next.old (written.statement_of stmt.now)) }
     ensures names { OnOk result (names_of names.new ≡
-        meant.behind (names_of names.old) next.old (written.statement_of stmt.now)) }
+        meant.names_after (names_of names.old) next.old (written.statement_of stmt.now)) }
     ensures next { OnOk result (next.new ≡ next.old + meant.binders_in (written.statement_of stmt.now)) }
 {
     match stmt {

@@ -3,7 +3,7 @@
 ghost use Rattle.std.specs.Prelude.{◌≡◌, ◌-◌, ◌≤◌, ◌<◌, [], length, take, drop, find, option_map, OnOk};
 ghost use Rattle.std.specs.List.{list_any};
 ghost use Rattle.rt_resolve.specs.Scope as named;
-ghost use Rattle.rt_resolve.specs.Inside.Bindings.{scope_after_block, IsKnown, IsRestored};
+ghost use Rattle.rt_resolve.specs.Inside.Bindings.{scope_after_block, HasMeaning, IsRestored};
 
 use rt_ids::NoMemory;
 use std::alloc::Global;
@@ -49,7 +49,7 @@ impl<'a> Model for Variables<'a> {
 
 /// Gives a name that means a variable the meaning that it has outside.
 fn restore<'a>(meanings: &mut HashMap<&'a [u8], Meaning>, name: &'a [u8], hidden: Option<Meaning>)
-    requires { IsKnown meanings.old name.now }
+    requires { HasMeaning meanings.old name.now }
     ensures { IsRestored meanings.old meanings.new name.now hidden }
 {
     match hidden {

@@ -21,7 +21,7 @@ use Rattle.rt_app.specs.Waiting.{waiting_bound}
 use Rattle.rt_rta.specs.declared.limits.Limit.{Limit}
 use Rattle.rt_rta.specs.declared.load.Load.{Load}
 use Rattle.rt_rta.specs.declared.response.ResponseTime.{ResponseTime}
-use Rattle.rt_rta.specs.Limits.{number_of, every_of, AreLimits}
+use Rattle.rt_rta.specs.Limits.{bound_number, every_of, AreLimits}
 use Rattle.rt_rta.specs.Response.{most_requests, requests, handling_steps, task_demand, demand, Suffices, IsResponse}
 use Rattle.rt_rta.specs.Response.{AreResponseTimes}
 use Rattle.rt_rta.specs.Inside.Loads.{load_of, task_loads, loads, load_demand, loads_demand}
@@ -113,7 +113,7 @@ module _ (app : App) (limits : List Limit) where
       tasks_small [] = tt
       tasks_small (t ∷ ts) =
           all_append IsSmall (task_loads app limits t) (flat_map (task_loads app limits) ts)
-          (one t (then_from (number_of app t) (every_of limits)) (λ every is. row t (number_of app t) every is))
+          (one t (then_from (bound_number app t) (every_of limits)) (λ every is. row t (bound_number app t) every is))
           (tasks_small ts)
 
   pub loads_few : length app.tasks ≤ 64 → length (loads app limits) ≤ 64
@@ -127,14 +127,14 @@ module _ (app : App) (limits : List Limit) where
       tasks_few [] = omega arith
       tasks_few (t ∷ ts) =
           let both = length-append (task_loads app limits t) (flat_map (task_loads app limits) ts) in
-          let here = one t (then_from (number_of app t) (every_of limits)) in
+          let here = one t (then_from (bound_number app t) (every_of limits)) in
           let rest = tasks_few ts in
           omega arith
 
 -- the loads ask for what the tasks do
 module _ (app : App) (limits : List Limit) (p steps : ℕ) where
   one_demand : (t : Task) → loads_demand p steps (task_loads app limits t) ≡ task_demand app limits p steps t
-  one_demand t = of (then_from (number_of app t) (every_of limits))
+  one_demand t = of (then_from (bound_number app t) (every_of limits))
     where
       none : (b : Bool) → 0 ≡ (if b then 0 * handling_steps app t else 0)
       none true = omega arith

@@ -14,7 +14,7 @@ use Rattle.rt_app.specs.Tree.{Task, App}
 use Rattle.rt_laws.specs.State.{Job, State}
 use Rattle.rt_laws.specs.Preemption.{system_ceiling}
 use Rattle.rt_rta.specs.declared.limits.Limit.{Limit}
-use Rattle.rt_rta.specs.Limits.{number_of, every_of}
+use Rattle.rt_rta.specs.Limits.{bound_number, every_of}
 use Rattle.rt_rta.specs.Response.{requests, handling_steps, task_demand}
 
 -- as many as this, where the priority is at least the priority
@@ -124,14 +124,14 @@ still_none false a h = refl
 -- of tasks, to a priority
 module _ (app : App) (p : ℕ) where
   abbrev pub owed_to : List Bool → Task → ℕ
-  owed_to pending t = at_priority p t.priority (asked pending (number_of app t) (handling_steps app t))
+  owed_to pending t = at_priority p t.priority (asked pending (bound_number app t) (handling_steps app t))
 
   abbrev pub owed_pending : List Bool → List Task → ℕ
   owed_pending pending [] = 0
   owed_pending pending (t ∷ ts) = owed_to pending t + owed_pending pending ts
 
   abbrev pub raised_by : Counts → Task → ℕ
-  raised_by counts t = at_priority p t.priority (counted counts (number_of app t) * handling_steps app t)
+  raised_by counts t = at_priority p t.priority (counted counts (bound_number app t) * handling_steps app t)
 
   abbrev pub raised : Counts → List Task → ℕ
   raised counts [] = 0
@@ -152,7 +152,8 @@ module _ (app : App) (p : ℕ) where
       let rest = request_raises pending counts irq ts in
       let here : owed_to (slice_set pending irq true) t + raised_by counts t
       ≤ owed_to pending t + raised_by (one_more irq counts) t =
-      both_less (nat_le p t.priority) _ _ _ _ (asked_raised pending counts irq (number_of app t) (handling_steps app t))
+      both_less (nat_le p t.priority) _ _ _ _ (asked_raised pending counts irq (bound_number app t)
+      (handling_steps app t))
       in
       omega (arith, rest, here)
 
@@ -162,25 +163,25 @@ module _ (app : App) (p : ℕ) where
   take_lowers pending irq (t ∷ ts) =
       let rest = take_lowers pending irq ts in
       let here : owed_to (slice_set pending irq false) t ≤ owed_to pending t =
-      one_less (nat_le p t.priority) _ _ (asked_cleared pending irq (number_of app t) (handling_steps app t)) in
+      one_less (nat_le p t.priority) _ _ (asked_cleared pending irq (bound_number app t) (handling_steps app t)) in
       omega (arith, rest, here)
 
   -- what is asked for a task whose interrupt is pending, and where it is not
-  owes_handling : (pending : List Bool) (irq : ℕ) (t : Task) → p ≤ t.priority → number_of app t ≡ Some irq
+  owes_handling : (pending : List Bool) (irq : ℕ) (t : Task) → p ≤ t.priority → bound_number app t ≡ Some irq
       → slice_index_or pending irq false ≡ true → owed_to pending t ≡ handling_steps app t
   owes_handling pending irq t over number set =
-      at_priority_is p t.priority (asked pending (number_of app t) (handling_steps app t)) over
+      at_priority_is p t.priority (asked pending (bound_number app t) (handling_steps app t)) over
       ∙ ap (λ o. asked pending o (handling_steps app t)) number ∙ ap (λ b. if b then handling_steps app t else 0) set
 
-  owes_none : (pending : List Bool) (irq : ℕ) (t : Task) → p ≤ t.priority → number_of app t ≡ Some irq
+  owes_none : (pending : List Bool) (irq : ℕ) (t : Task) → p ≤ t.priority → bound_number app t ≡ Some irq
       → slice_index_or pending irq false ≡ false → owed_to pending t ≡ 0
   owes_none pending irq t over number clear =
-      at_priority_is p t.priority (asked pending (number_of app t) (handling_steps app t)) over
+      at_priority_is p t.priority (asked pending (bound_number app t) (handling_steps app t)) over
       ∙ ap (λ o. asked pending o (handling_steps app t)) number ∙ ap (λ b. if b then handling_steps app t else 0) clear
 
   -- a take of the interrupt of such a task
   pub take_clears : (pending : List Bool) (irq : ℕ) (ts : List Task) (k : ℕ) (t : Task) → slice_get ts k ≡ Some t
-      → p ≤ t.priority → number_of app t ≡ Some irq → slice_index_or pending irq false ≡ true
+      → p ≤ t.priority → bound_number app t ≡ Some irq → slice_index_or pending irq false ≡ true
       → owed_pending (slice_set pending irq false) ts + handling_steps app t ≤ owed_pending pending ts
   take_clears pending irq [] k t at over number set = absurd (none-some t at)
   take_clears pending irq (u ∷ ts) zero t at over number set =
@@ -199,7 +200,7 @@ module _ (app : App) (p : ℕ) where
 
   -- a pending interrupt of the priority owes
   pub pending_owes : (pending : List Bool) (irq : ℕ) (ts : List Task) (k : ℕ) (t : Task) → slice_get ts k ≡ Some t
-      → p ≤ t.priority → number_of app t ≡ Some irq → slice_index_or pending irq false ≡ true
+      → p ≤ t.priority → bound_number app t ≡ Some irq → slice_index_or pending irq false ≡ true
       → 0 < owed_pending pending ts
   pending_owes pending irq ts k t at over number set =
       let clears = take_clears pending irq ts k t at over number set in omega (arith, clears)
@@ -210,14 +211,14 @@ module _ (app : App) (p : ℕ) where
     pub at : slice_get ts index ≡ Some task
     pub over : p ≤ task.priority
     pub irq : ℕ
-    pub number : number_of app task ≡ Some irq
+    pub number : bound_number app task ≡ Some irq
     pub set : slice_index_or pending irq false ≡ true
 
   -- and the other way round
   pub owes_pending : (pending : List Bool) (ts : List Task) → 0 < owed_pending pending ts → IsAsked pending ts
   owes_pending pending [] some = absurd (omega arith)
   owes_pending pending (t ∷ ts) some =
-      level_of (λ more. owes_pending pending ts more) (nat_le p t.priority) refl (number_of app t) refl
+      level_of (λ more. owes_pending pending ts more) (nat_le p t.priority) refl (bound_number app t) refl
     where
       deeper : (0 < owed_pending pending ts → IsAsked pending ts) → owed_to pending t ≡ 0 → IsAsked pending (t ∷ ts)
       deeper next none =
@@ -233,7 +234,7 @@ module _ (app : App) (p : ℕ) where
             set = one.set;
           }
 
-      set_or_not : (0 < owed_pending pending ts → IsAsked pending ts) → p ≤ t.priority → (n : ℕ) → number_of app t
+      set_or_not : (0 < owed_pending pending ts → IsAsked pending ts) → p ≤ t.priority → (n : ℕ) → bound_number app t
           ≡ Some n → (b : Bool) → slice_index_or pending n false ≡ b → IsAsked pending (t ∷ ts)
       set_or_not next over n number true set = record {
         index = 0;
@@ -247,18 +248,19 @@ module _ (app : App) (p : ℕ) where
       }
       set_or_not next over n number false clear = deeper next (owes_none pending n t over number clear)
 
-      numbered : (0 < owed_pending pending ts → IsAsked pending ts) → p ≤ t.priority → (o : Option ℕ) → number_of app t
+      numbered : (0 < owed_pending pending ts → IsAsked pending ts) → p ≤ t.priority → (o : Option ℕ)
+          → bound_number app t
           ≡ o → IsAsked pending (t ∷ ts)
       numbered next over (Some n) number = set_or_not next over n number (slice_index_or pending n false) refl
       numbered next over None number =
-          deeper next (at_priority_is p t.priority (asked pending (number_of app t) (handling_steps app t)) over
+          deeper next (at_priority_is p t.priority (asked pending (bound_number app t) (handling_steps app t)) over
           ∙ ap (λ o. asked pending o (handling_steps app t)) number)
 
       level_of : (0 < owed_pending pending ts → IsAsked pending ts) → (b : Bool) → nat_le p t.priority ≡ b
-          → (o : Option ℕ) → number_of app t ≡ o → IsAsked pending (t ∷ ts)
+          → (o : Option ℕ) → bound_number app t ≡ o → IsAsked pending (t ∷ ts)
       level_of next true test o number = numbered next (leb-true p t.priority test) o number
       level_of next false test o number = deeper next
-          (ap (λ b. if b then asked pending (number_of app t) (handling_steps app t) else 0) test)
+          (ap (λ b. if b then asked pending (bound_number app t) (handling_steps app t) else 0) test)
 
   -- no more requests than may begin in so many steps ask for no more than they do
   pub raised_within : (limits : List Limit) (counts : Counts) (steps : ℕ)
@@ -268,7 +270,7 @@ module _ (app : App) (p : ℕ) where
   raised_within limits counts steps few (t ∷ ts) =
       let rest = raised_within limits counts steps few ts in
       let here : raised_by counts t ≤ task_demand app limits p steps t =
-      one_less (nat_le p t.priority) _ _ (of (number_of app t)) in
+      one_less (nat_le p t.priority) _ _ (of (bound_number app t)) in
       omega (arith, rest, here, sum_by-cons (task_demand app limits p steps) t ts)
     where
       of : (o : Option ℕ) → counted counts o * handling_steps app t ≤ requests (then_from o (every_of limits)) steps
@@ -293,7 +295,7 @@ module _ (app : App) (p : ℕ) where
   raised_none [] = refl
   raised_none (t ∷ ts) =
       let rest = raised_none ts in
-      let here : raised_by (λ irq. 0) t ≡ 0 = still_none (nat_le p t.priority) _ (of (number_of app t)) in
+      let here : raised_by (λ irq. 0) t ≡ 0 = still_none (nat_le p t.priority) _ (of (bound_number app t)) in
       omega (arith, rest, here)
     where
       of : (o : Option ℕ) → counted (λ irq. 0) o * handling_steps app t ≡ 0
@@ -306,7 +308,7 @@ module _ (app : App) (p : ℕ) where
   pending_raises pending (t ∷ ts) =
       let rest = pending_raises pending ts in
       let here : owed_to pending t ≤ raised_by (once pending) t =
-      one_less (nat_le p t.priority) _ _ (of (number_of app t)) in
+      one_less (nat_le p t.priority) _ _ (of (bound_number app t)) in
       omega (arith, rest, here)
     where
       by : (b : Bool) → (if b then handling_steps app t else 0) ≤ (if b then 1 else 0) * handling_steps app t

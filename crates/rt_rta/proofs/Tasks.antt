@@ -20,7 +20,7 @@ use Rattle.rt_app.specs.Forms.{has_response_times}
 use Rattle.rt_laws.specs.Services.{service_at}
 use Rattle.rt_laws.proofs.Pending.{found_passes, some_number}
 use Rattle.rt_laws.proofs.Dispatchers.{only_service}
-use Rattle.rt_rta.specs.Limits.{number_of}
+use Rattle.rt_rta.specs.Limits.{bound_number}
 use Rattle.rt_rta.proofs.Quiet.{hardware, untimed}
 
 module _ (app : App) (accepted : IsAccepted app) (form : has_response_times app ≡ true) where
@@ -79,7 +79,7 @@ module _ (app : App) (accepted : IsAccepted app) (form : has_response_times app 
   served_runs irq v at = find_has RunsTask _ (services app) v all_run at
 
   pub served_number : (irq : ℕ) (v : Service) (at : service_at app irq ≡ Some v)
-      → number_of app (served_runs irq v at).row ≡ Some irq
+      → bound_number app (served_runs irq v at).row ≡ Some irq
   served_number irq v at =
       let runs = served_runs irq v at in
       let passes = found_passes (λ (s : Service). is_some_and (λ n. n == irq) (irq_number app s.irq)) (services app) v
@@ -115,7 +115,7 @@ module _ (app : App) (accepted : IsAccepted app) (form : has_response_times app 
     pub at : service_at app number ≡ Some service
     pub priority : service.priority ≡ t.priority
 
-  pub task_serves : (k : ℕ) (t : Task) (number : ℕ) → slice_get app.tasks k ≡ Some t → number_of app t ≡ Some number
+  pub task_serves : (k : ℕ) (t : Task) (number : ℕ) → slice_get app.tasks k ≡ Some t → bound_number app t ≡ Some number
       → Serves t number
   task_serves k t number at is = go t.binds refl is
     where

@@ -20,7 +20,7 @@ use Rattle.rt_rta.specs.declared.limits.Limit.{Limit}
 use Rattle.rt_rta.specs.declared.line.Wrong.TheVariants as wrong
 use Rattle.rt_rta.specs.Limits.{is_bound, every_of, AreLimits}
 use Rattle.rt_rta.specs.Text.{limits_reader}
-use Rattle.rt_rta.specs.Wording.{irq_of, if_bound, bound_irq, distance_of, limit_for, limit_of, words_tell, line_of}
+use Rattle.rt_rta.specs.Wording.{irq_of, if_bound, bound_irq, distance_of, limit_for, limit_of, words_tell, limit_line}
 
 module _ (app : App) (limits : List Limit) where
   abbrev IsBound : ℕ → Type 0
@@ -60,7 +60,7 @@ module _ (app : App) (limits : List Limit) where
   words_new (verb ∷ name ∷ count ∷ []) = let limit = limit_new name count in search (if_ok_chosen, limit)
   words_new (verb ∷ name ∷ count ∷ more ∷ words) = tt
 
-  line_new : (line : List ℕ) → IfOk (line_of app limits line) (λ told. IfSome told IsNew)
+  line_new : (line : List ℕ) → IfOk (limit_line app limits line) (λ told. IfSome told IsNew)
   line_new line =
       let tells = if_ok_make (λ told. IfSome told IsNew) (words_tell app limits (spaced_words line)) Some _
       (words_new (spaced_words line)) (λ told is. is) in
@@ -103,6 +103,7 @@ pub lead_fine : (app : App) (ls : List (List ℕ)) (limits : List Limit) → Lea
     → AreLimits app limits
 lead_fine app ls limits lead =
     kept (limits_reader app) (AreLimits app)
-    (λ limits line fine. if_ok_make (AreLimits app) (line_of app limits line) (λ told. limits ++ option_to_list told) _
+    (λ limits line fine. if_ok_make (AreLimits app) (limit_line app limits line)
+    (λ told. limits ++ option_to_list told) _
     (line_new app limits line) (λ told. joined app limits told fine))
     [] limits ls lead (record { bound = tt; once = different_none; positive = tt })

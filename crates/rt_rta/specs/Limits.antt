@@ -9,12 +9,12 @@ use Rattle.rt_app.specs.Handlers.{irq_number}
 use Rattle.rt_rta.specs.declared.limits.Limit.{Limit}
 
 -- the number of the interrupt that a task binds
-abbrev pub number_of : App → Task → Option ℕ
-number_of app t = then_from t.binds (irq_number app)
+abbrev pub bound_number : App → Task → Option ℕ
+bound_number app t = then_from t.binds (irq_number app)
 
 -- a task binds the interrupt of this number
 abbrev pub is_bound : App → ℕ → Bool
-is_bound app irq = list_any (λ t. is_some_and (λ n. n == irq) (number_of app t)) app.tasks
+is_bound app irq = list_any (λ t. is_some_and (λ n. n == irq) (bound_number app t)) app.tasks
 
 -- the least distance between requests of this interrupt, where the limits have one
 abbrev pub every_of : List Limit → ℕ → Option ℕ

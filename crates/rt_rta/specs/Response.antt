@@ -13,7 +13,7 @@ use Rattle.rt_app.specs.Tree.{Task, App}
 use Rattle.rt_app.specs.BodyCost.{body_cost, cost_measure}
 use Rattle.rt_app.specs.Stack.{handler_priorities}
 use Rattle.rt_app.specs.Waiting.{waiting_bound}
-use Rattle.rt_rta.specs.Limits.{number_of, every_of}
+use Rattle.rt_rta.specs.Limits.{bound_number, every_of}
 use Rattle.rt_rta.specs.declared.limits.Limit.{Limit}
 use Rattle.rt_rta.specs.declared.response.ResponseTime.{ResponseTime}
 use Rattle.rt_rta.specs.declared.response.TheConstants.{MOST_STEPS}
@@ -36,7 +36,8 @@ module _ (app : App) (limits : List Limit) (p : ℕ) where
   -- what a task of this priority or a higher one asks for in so many core steps
   abbrev pub task_demand : ℕ → Task → ℕ
   task_demand steps t =
-      if nat_le p t.priority then requests (then_from (number_of app t) (every_of limits)) steps * handling_steps app t
+      if nat_le p t.priority then requests (then_from (bound_number app t)
+      (every_of limits)) steps * handling_steps app t
       else 0
 
   -- what all tasks of this priority and higher ones ask for

@@ -6,7 +6,7 @@ use Rattle.rt_ids.specs.declared.limits.TheConstants.{SCRIPT_BYTES}
 use Rattle.rt_lines.specs.Answers.{and_make}
 use Rattle.rt_lines.specs.Reading.{Reader, IsRead, IsFirstWrong, IsTooLong}
 use Rattle.rt_app.specs.Tree.{App}
-use Rattle.rt_rta.specs.Wording.{line_of}
+use Rattle.rt_rta.specs.Wording.{limit_line}
 use Rattle.rt_rta.specs.declared.limits.Limit.{Limit}
 use Rattle.rt_rta.specs.declared.line.Wrong.{Wrong}
 use Rattle.rt_rta.specs.declared.line.Wrong.TheVariants as wrong
@@ -19,7 +19,7 @@ limits_reader app = record {
   most = SCRIPT_BYTES;
   lines = lines;
   start = [];
-  step = λ limits line. and_make (line_of app limits line) (λ told. limits ++ option_to_list told);
+  step = λ limits line. and_make (limit_line app limits line) (λ told. limits ++ option_to_list told);
   missing = λ limits. None;
 }
 
@@ -33,7 +33,8 @@ refusal_of n wrong.Form = refused.BadLine n
 refusal_of n wrong.Interrupt = refused.UnknownInterrupt n
 
 -- the refusal of a text; want of memory has no cause in it
-pub data IsRefused (app : App) (text : List ℕ) : LimitsRefused → Type 0 where
-  too_long : IsTooLong (limits_reader app) text → IsRefused app text refused.TooLong
-  first_wrong : (n : ℕ) (w : Wrong) → IsFirstWrong (limits_reader app) text n w → IsRefused app text (refusal_of n w)
-  no_memory : IsRefused app text refused.NoMemory
+pub data AreLimitsRefused (app : App) (text : List ℕ) : LimitsRefused → Type 0 where
+  too_long : IsTooLong (limits_reader app) text → AreLimitsRefused app text refused.TooLong
+  first_wrong : (n : ℕ) (w : Wrong) → IsFirstWrong (limits_reader app) text n w
+      → AreLimitsRefused app text (refusal_of n w)
+  no_memory : AreLimitsRefused app text refused.NoMemory

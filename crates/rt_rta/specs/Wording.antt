@@ -57,7 +57,7 @@ module _ (app : App) (limits : List Limit) where
   words_tell words = Err wrong.Form
 
   -- what a line tells: nothing where it is skipped
-  abbrev pub line_of : List ℕ → Result (Option Limit) Wrong
-  line_of line =
+  abbrev pub limit_line : List ℕ → Result (Option Limit) Wrong
+  limit_line line =
       if is_blank line || is_comment line then Ok None
       else if is_loose line then Err wrong.Form else and_make (words_tell (spaced_words line)) Some

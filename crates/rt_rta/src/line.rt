@@ -27,7 +27,7 @@ pub enum Wrong {
 
 /// What a line tells behind these limits; None where it is blank or a comment.
 pub(crate) fn read_line(app: &App, so_far: &Limits, line: &[u8]) -> Result<Option<Limit>, Wrong>
-    ensures { result ≡ spec.line_of (app_of app.now) so_far.now line.now }
+    ensures { result ≡ spec.limit_line (app_of app.now) so_far.now line.now }
 {
     if is_blank(line) || is_comment(line) {
         return Ok(None);
@@ -112,14 +112,14 @@ fn is_bound(app: &App, irq: Irq) -> bool
 /// Whether one of these tasks does.
 fn one_binds(app: &App, tasks: &[Task], irq: Irq) -> bool
     ensures { let all = app_of app.now in
-        result ≡ list_any (λ t. is_some_and (λ n. n == irq) (limits.number_of all (task_of t))) tasks.now }
+        result ≡ list_any (λ t. is_some_and (λ n. n == irq) (limits.bound_number all (task_of t))) tasks.now }
 {
     tasks.iter().any(|task| binds(app, task, irq))
 }
 
 /// Whether this task does.
 fn binds(app: &App, task: &Task, irq: Irq) -> bool
-    ensures { result ≡ is_some_and (λ n. n == irq) (limits.number_of (app_of app.now) (task_of task.now)) }
+    ensures { result ≡ is_some_and (λ n. n == irq) (limits.bound_number (app_of app.now) (task_of task.now)) }
 {
     match number_of(app, task) {
         None => false,

@@ -26,7 +26,7 @@ pub(crate) struct Load {
 
 /// The number of the interrupt that a task binds.
 pub(crate) fn number_of(app: &App, task: &Task) -> Option<Irq>
-    ensures { result ≡ spec.number_of (app_of app.now) (task_of task.now) }
+    ensures { result ≡ spec.bound_number (app_of app.now) (task_of task.now) }
 {
     let index = task.binds?;
     app.irqs.get(usize::from(index)).map(|irq| irq.number)
@@ -34,7 +34,7 @@ pub(crate) fn number_of(app: &App, task: &Task) -> Option<Irq>
 
 /// The least distance between requests of a task, where it has a limit.
 fn every_of(app: &App, limits: &Limits, task: &Task) -> Option<u32>
-    ensures { result ≡ then_from (spec.number_of (app_of app.now) (task_of task.now)) (spec.every_of limits.now) }
+    ensures { result ≡ then_from (spec.bound_number (app_of app.now) (task_of task.now)) (spec.every_of limits.now) }
 {
     limits.every(number_of(app, task)?)
 }

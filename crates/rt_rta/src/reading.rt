@@ -21,7 +21,7 @@ use std::alloc::Global;
 pub fn read_limits(alloc: Global, bytes: &[u8], app: &App) -> Result<Limits, LimitsRefused>
     ensures read { IfOk result (λ limits. spec.IsLimitsText (app_of app.now) bytes.now limits) }
     ensures fine { IfOk result (λ limits. AreLimits (app_of app.now) limits) }
-    ensures refused { IfErr result (λ refusal. spec.IsRefused (app_of app.now) bytes.now refusal) }
+    ensures refused { IfErr result (λ refusal. spec.AreLimitsRefused (app_of app.now) bytes.now refusal) }
 {
     if bytes.len() > SCRIPT_BYTES as usize {
         return Err(LimitsRefused::TooLong);

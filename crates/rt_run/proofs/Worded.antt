@@ -17,7 +17,7 @@ use Rattle.rt_code.specs.Cells.{resource_cell, cell_named}
 use Rattle.rt_code.specs.Effect.{effect, unchecked_effect, next, slot}
 use Rattle.rt_code.specs.Image.{Image, entry_words}
 use Rattle.rt_code.specs.Lines.{HasLines, HasCell}
-use Rattle.rt_code.specs.Listable.{HasIrq, HasTask, HasSection, HasBody, HasInstr, HasNote}
+use Rattle.rt_code.specs.Listable.{IsDeclared, IsTask, HasSection, HasBody, HasInstr, HasNote}
 use Rattle.rt_code.specs.Operands.{slots_of, are_there}
 use Rattle.rt_code.specs.Access.{cells_of}
 use Rattle.rt_code.specs.Processor.{Processor, Effect, Traps, Leads}
@@ -109,11 +109,11 @@ if_known img false x y this that = that
 
 -- what is asked of the core has its names
 abbrev AsksWords : Names → Request → Type 0
-AsksWords names (request.Post irq) = HasIrq names irq
+AsksWords names (request.Post irq) = IsDeclared names irq
 AsksWords names asked = Unit {0}
 
 module _ (img : Image) (c : Core) (known : IsKnown img c) where
-  enter_known : (irq : ℕ) (h : Option Handler) → HasIrq img.names irq
+  enter_known : (irq : ℕ) (h : Option Handler) → IsDeclared img.names irq
       → IsKnownAfter img (transfer.exception_entry img c irq h)
   enter_known irq None is = (known, tt)
   enter_known irq (Some h) is =
@@ -122,7 +122,8 @@ module _ (img : Image) (c : Core) (known : IsKnown img c) where
       (Done after (Some (what.Take irq (depth img after)))) (Trapped c trap.Stack)
       (record { cells = known.cells; below = (is, known.below) }, is) known
 
-  return_known : (caller : Option (List ℕ)) (below : List Context) → AllByRecursion (λ x. HasIrq img.names x.irq) below
+  return_known : (caller : Option (List ℕ)) (below : List Context)
+      → AllByRecursion (λ x. IsDeclared img.names x.irq) below
       → IsKnownAfter img (transfer.outcome_of_return c (interrupted_context caller below))
   return_known None [] all = known
   return_known None (x ∷ below) all = (record { cells = known.cells; below = all.1 }, all.0)
@@ -162,22 +163,22 @@ module _ (img : Image) (c : Core) (known : IsKnown img c) where
   answer_known request.Back h = back_known c.caller
   answer_known request.Return h = return_known c.caller c.below known.below
 
-  start_known : (t : ℕ) (args : Option (List ℕ)) → HasTask img.names t
+  start_known : (t : ℕ) (args : Option (List ℕ)) → IsTask img.names t
       → IsKnownAfter img (stepping.outcome_of_note c (option_map (what.Start t) args))
   start_known t None h = known
   start_known t (Some args) h = (known, h)
 
-  arm_known : (t : ℕ) (instant : Option ℕ) → HasTask img.names t
+  arm_known : (t : ℕ) (instant : Option ℕ) → IsTask img.names t
       → IsKnownAfter img (stepping.outcome_of_note c (option_map (what.Arm t) instant))
   arm_known t None h = known
   arm_known t (Some instant) h = (known, h)
 
-  cancel_known : (t : ℕ) (handle : Option ℕ) → HasTask img.names t
+  cancel_known : (t : ℕ) (handle : Option ℕ) → IsTask img.names t
       → IsKnownAfter img (stepping.outcome_of_note c (option_map (what.Cancel t) handle))
   cancel_known t None h = known
   cancel_known t (Some handle) h = (known, h)
 
-  move_known : (t : ℕ) (handle instant : Option ℕ) → HasTask img.names t
+  move_known : (t : ℕ) (handle instant : Option ℕ) → IsTask img.names t
       → IsKnownAfter img (stepping.outcome_of_note c (then_from handle (λ n. option_map (what.Move t n) instant)))
   move_known t None instant h = known
   move_known t (Some handle) None h = known
@@ -272,7 +273,7 @@ module _ (img : Image) (lines : HasLines img) (c : Core) (known : IsKnown img c)
       (all_at (λ l. HasNote img.names l.1) img.code address line lines.listable.notes at)
       (all_at (λ l. HasCell img l.1) img.code address line lines.left at)
 
-  row_named : (row : IrqRow) → IsIn img.irqs row → HasIrq img.names row.number
+  row_named : (row : IrqRow) → IsIn img.irqs row → IsDeclared img.names row.number
   row_named row is =
       let stands : Contains img.names.irqs (row.name, row.number) =
       all_at (λ (r : IrqRow). Contains img.names.irqs (r.name, r.number)) img.irqs is.0 row lines.irqs is.1 in

@@ -8,7 +8,7 @@ ghost use Rattle.rt_trace.specs.Label.{Ticked, Rang, items_of};
 ghost use Rattle.rt_trace.specs.Lined.{HasLine};
 ghost use Rattle.rt_trace.specs.Text as spec;
 ghost use Rattle.rt_trace.specs.declared.buffer.TheConstants.{BUFFER_BYTES};
-ghost use Rattle.rt_run.specs.Inside.Writing.{HasRoom, HasWords, Wrote};
+ghost use Rattle.rt_run.specs.Inside.Writing.{HasRoomForLine, HasWords, Wrote};
 
 use crate::numbers::numbers_fit;
 use rt_ids::Names;
@@ -33,7 +33,7 @@ pub(crate) fn put_held<K: Sink>(out: &mut K, held: &mut LineBuffer) -> Result<()
 /// Makes room for a line: what is held goes out where the buffer has none.
 fn make_room<K: Sink>(out: &mut K, held: &mut LineBuffer) -> Result<(), Failed>
     ensures ok { OnOk result (Wrote (K.taken out.old) (K.taken out.new) held.old held.new []) }
-    ensures room { OnOk result (HasRoom held.new) }
+    ensures room { OnOk result (HasRoomForLine held.new) }
     ensures err { OnErr result (TookPrefix (K.taken out.old) (K.taken out.new) held.old) }
     ensures few { length held.old ≤ BUFFER_BYTES }
     ensures none_left { OnErr result (held.new ≡ []) }

@@ -20,7 +20,7 @@ use Rattle.rt_points.specs.Leading.{IsPoint, Begins, Enters, Leads, StandsAt, ow
 use Rattle.rt_points.specs.ExecutionPriority.{owner_value, execution_priority}
 use Rattle.rt_points.specs.Point.{Point, sections}
 use Rattle.rt_points.specs.Rules.{closing_instr, EntersAt}
-use Rattle.rt_safe.specs.Inside.Lines.{opening_instr, is_simple, IsLine, Simply, Anew, Opens, Closes, EndsInit}
+use Rattle.rt_safe.specs.Inside.Lines.{opening_instr, is_simple, ActsOnSections, Simply, Anew, Opens, Closes, EndsInit}
 use Rattle.rt_safe.specs.Inside.Lines.{Returns}
 use Rattle.rt_safe.proofs.PointPriorities.{IsRaisedWell, AreRaisedWell, lowered_falls}
 use Rattle.rt_safe.proofs.Lines.{line_told}
@@ -51,7 +51,8 @@ module _ (img : Image) (checked : IsChecked img) where
       → P p.owner (record { section = x; kind = kind } ∷ p.inside))
       (less : (owner : Owner) (o : Opened) (outer : List Opened) → P owner (o ∷ outer) → P owner outer) where
     -- behind a line
-    one_on : (p : Point) (i : Instr) (told : Option Note) → StandsAt img p i told → IsLine p i told → P p.owner p.inside
+    one_on : (p : Point) (i : Instr) (told : Option Note) → StandsAt img p i told → ActsOnSections p i told
+        → P p.owner p.inside
         → P (owner_after i p.owner) (inside_after i told p.inside)
     one_on p i told at (Simply simple untold unsaved) before =
         subst (λ n. P (owner_after i p.owner) (inside_after i n p.inside)) (sym untold)

@@ -26,7 +26,7 @@ use Rattle.rt_points.specs.Point.{Point}
 use Rattle.rt_points.specs.Rules.{is_supported, touched_cell, HasItsCell, IsOperable, IsNotedWell, opens}
 use Rattle.rt_points.specs.Rules.{ClosesInnermost}
 use Rattle.rt_points.specs.Rules.{JumpsInThread}
-use Rattle.rt_safe.specs.Inside.Lines.{IsLine, Simply, Anew, Opens, Closes, EndsInit, Returns}
+use Rattle.rt_safe.specs.Inside.Lines.{ActsOnSections, Simply, Anew, Opens, Closes, EndsInit, Returns}
 
 -- slots that are below the words of a frame are in it
 pub slots_there : (indices words : List ℕ) (n : ℕ) → n ≡ length words → AllByRecursion (λ index. index < n) indices
@@ -56,7 +56,7 @@ cells_there i q n supported long has =
         and_both _ true (lt-ltb (cell_of a) (length q.cells) (subst (λ m. cell_of a < m) long has)) refl
 
 module _ (img : Image) (p : Point) where
-  unnoted : (i : Instr) → IsOperable img p i → IsNotedWell img p i None → IsLine p i None
+  unnoted : (i : Instr) → IsOperable img p i → IsNotedWell img p i None → ActsOnSections p i None
   unnoted (instr.LoadAt d c s) op noted = absurd (false≢true op.supported)
   unnoted (instr.StoreAt c s a) op noted = absurd (false≢true op.supported)
   unnoted (instr.Alarm s irq) op noted = absurd (false≢true op.supported)
@@ -71,23 +71,24 @@ module _ (img : Image) (p : Point) where
   unnoted instr.Ret op noted = Returns op.ends.0.0 refl refl op.ends.0.1 op.ends.1
   unnoted i op noted = Simply refl refl noted.unsaved
 
-  entered : (x : Section) (i : Instr) → opens i ≡ true → IsLine p i (Some (note.Enter x))
+  entered : (x : Section) (i : Instr) → opens i ≡ true → ActsOnSections p i (Some (note.Enter x))
   entered x instr.Mark is = Opens x Mark refl refl
   entered x (instr.Raise d v) is = Opens x (Raise d v) refl refl
   entered x (instr.Mask d) is = Opens x (Mask d) refl refl
   entered x i is = absurd (false≢true is)
 
   left : (x : Section) (i : Instr) (inside : List Opened) → p.inside ≡ inside → ClosesInnermost inside x i
-      → IsLine p i (Some (note.Leave x))
+      → ActsOnSections p i (Some (note.Leave x))
   left x i [] is closes = absurd closes
   left x i (o ∷ outer) is closes =
       Closes x o.kind outer (is ∙ ap (λ s. record { section = s; kind = o.kind } ∷ outer) closes.0) closes.1 refl
 
-  begins_anew : (i : Instr) → JumpsInThread p.owner i → IsLine p i (Some (note.End body.Idle))
+  begins_anew : (i : Instr) → JumpsInThread p.owner i → ActsOnSections p i (Some (note.End body.Idle))
   begins_anew (instr.Jump to) is = Anew to refl refl is
   begins_anew i is = absurd is
 
-  pub line_is : (i : Instr) (told : Option Note) → IsOperable img p i → IsNotedWell img p i told → IsLine p i told
+  pub line_is : (i : Instr) (told : Option Note) → IsOperable img p i → IsNotedWell img p i told
+      → ActsOnSections p i told
   line_is i None op noted = unnoted i op noted
   line_is i (Some (note.Enter x)) op noted = entered x i noted.stands
   line_is i (Some (note.Leave x)) op noted = left x i p.inside refl noted.stands
@@ -103,10 +104,10 @@ pub record HasLine (img : Image) (p : Point) : Type 0 where
   pub stands : StandsAt img p instr told
   pub operable : IsOperable img p instr
   pub noted : IsNotedWell img p instr told
-  pub kind : IsLine p instr told
+  pub kind : ActsOnSections p instr told
 
 module _ (img : Image) (checked : IsChecked img) where
-  pub line_told : (p : Point) (i : Instr) (told : Option Note) → StandsAt img p i told → IsLine p i told
+  pub line_told : (p : Point) (i : Instr) (told : Option Note) → StandsAt img p i told → ActsOnSections p i told
   line_told p i told at = line_is img p i told (checked rule.Operands p i told at) (checked rule.Notes p i told at)
 
   pub line_at : (p : Point) → IsPoint img p → HasLine img p

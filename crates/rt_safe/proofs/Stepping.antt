@@ -15,7 +15,7 @@ use Rattle.rt_points.specs.Leading.{owner_after, inside_after}
 use Rattle.rt_points.specs.Point.{Point}
 use Rattle.rt_points.specs.Rules.{EntersAt}
 use Rattle.rt_safe.specs.Inside.RunsAtPoints.{RunsAtPoints}
-use Rattle.rt_safe.specs.Inside.Lines.{opening_instr, IsLine, Simply, Anew, Opens, Closes, EndsInit, Returns}
+use Rattle.rt_safe.specs.Inside.Lines.{opening_instr, ActsOnSections, Simply, Anew, Opens, Closes, EndsInit, Returns}
 use Rattle.rt_safe.specs.Inside.Steps.{Steps}
 use Rattle.rt_safe.proofs.Advancing.{Advances, simply, anew, advances}
 use Rattle.rt_safe.proofs.Apart.{finds_none}
@@ -27,7 +27,7 @@ use Rattle.rt_safe.proofs.Taking.{takes}
 
 module _ (img : Image) (checked : IsChecked img) (c : Core) (p : Point) (qs : List Point)
     (fits : RunsAtPoints img c p qs) where
-  by_line : (line : HasLine img p) → pick img c ≡ None → IsLine p line.instr line.told → Steps img c p qs
+  by_line : (line : HasLine img p) → pick img c ≡ None → ActsOnSections p line.instr line.told → Steps img c p qs
   by_line line picked (Simply simple untold unsaved) =
       advances img checked c p qs fits line picked
       (subst (λ n. Advances img c p.inside line.instr n (unchecked_effect line.instr c.time c.processor)) (sym untold)

@@ -25,11 +25,11 @@ request_of (irq ∷ irqs) index = Pends (slice_index (irq ∷ irqs) (index % len
 
 -- The line of a word, by its remainder by 8: up to 64 steps for a remainder below 5, up to 16 ticks for 5, and a
 -- request for 6 and 7. The quotient by 8 says how many, or which interrupt.
-abbrev pub line_of : List ℕ → ℕ → Line
-line_of irqs word =
+abbrev pub generated_line : List ℕ → ℕ → Line
+generated_line irqs word =
     if nat_lt (word % 8) 5 then Steps (1 + word / 8 % 64)
     else if word % 8 == 5 then Ticks (1 + word / 8 % 16) else request_of irqs (word / 8)
 
 -- the script, where these interrupts are declared, in order
 abbrev pub generated : List ℕ → ℕ → ℕ → List Line
-generated irqs number stream = map (line_of irqs) (drawn_words 200 (generator_of number stream))
+generated irqs number stream = map (generated_line irqs) (drawn_words 200 (generator_of number stream))

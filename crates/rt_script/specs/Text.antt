@@ -44,8 +44,8 @@ refusal_of n wrong.Device = refused.TooManyDevices n
 refusal_of n wrong.Events = refused.TooManyEvents n
 
 -- the refusal of a text; want of memory has no cause in it
-pub data IsRefused (names : Names) (text : List ℕ) : ScriptRefused → Type 0 where
-  too_long : IsTooLong (script_reader names) text → IsRefused names text refused.TooLong
+pub data IsScriptRefused (names : Names) (text : List ℕ) : ScriptRefused → Type 0 where
+  too_long : IsTooLong (script_reader names) text → IsScriptRefused names text refused.TooLong
   first_wrong : (n : ℕ) (w : Wrong) → IsFirstWrong (script_reader names) text n w
-      → IsRefused names text (refusal_of n w)
-  no_memory : IsRefused names text refused.NoMemory
+      → IsScriptRefused names text (refusal_of n w)
+  no_memory : IsScriptRefused names text refused.NoMemory

@@ -39,7 +39,7 @@ pub fn generated(alloc: Global, number: u64, stream: u64, irqs: &[Irq]) -> Resul
 
 /// The line of a word.
 fn line_of(irqs: &[Irq], word: u32) -> Line
-    ensures line { result ≡ spec.line_of irqs.now word }
+    ensures line { result ≡ spec.generated_line irqs.now word }
     ensures device { HasDeviceInRange result }
     ensures few { count_of result ≤ 64 }
 {

@@ -20,7 +20,7 @@ use std::alloc::Global;
 pub fn read_script(alloc: Global, bytes: &[u8], names: &Names) -> Result<Script, ScriptRefused>
     ensures read { IfOk result (λ script. spec.IsScriptText names.now bytes.now script) }
     ensures names { IfOk result (λ script. HasNames names.now script) }
-    ensures refused { IfErr result (λ refusal. spec.IsRefused names.now bytes.now refusal) }
+    ensures refused { IfErr result (λ refusal. spec.IsScriptRefused names.now bytes.now refusal) }
 {
     if bytes.len() > SCRIPT_BYTES as usize {
         return Err(ScriptRefused::TooLong);

@@ -19,7 +19,7 @@ use Rattle.rt_core.specs.Trace.{tick, happen, labels}
 use Rattle.rt_core.specs.Transfer.{core_after_pend}
 use Rattle.rt_laws.specs.Services.{is_declared}
 use Rattle.rt_laws.proofs.Pending.{found_passes, some_number, made_number}
-use Rattle.rt_rta.specs.Limits.{number_of, is_bound, every_of, AreLimits}
+use Rattle.rt_rta.specs.Limits.{bound_number, is_bound, every_of, AreLimits}
 use Rattle.rt_rta.specs.declared.limits.Limit.{Limit}
 use Rattle.rt_rta.proofs.Responding.{runs_respond, runs_respond_once_init_ends}
 use Rattle.rt_sim.specs.Good.{AreDeclared}
@@ -31,8 +31,8 @@ module _ (app : App) where
   -- an interrupt that a task binds is declared
   bound_declared : (irq : ℕ) → is_bound app irq ≡ true → is_declared app irq ≡ true
   bound_declared irq bound =
-      let one = any_one (λ (t : Task). is_some_and (λ n. n == irq) (number_of app t)) app.tasks bound in
-      of_index one.1.binds (some_number (number_of app one.1) irq one.3)
+      let one = any_one (λ (t : Task). is_some_and (λ n. n == irq) (bound_number app t)) app.tasks bound in
+      of_index one.1.binds (some_number (bound_number app one.1) irq one.3)
     where
       of_index : (o : Option ℕ) → then_from o (irq_number app) ≡ Some irq → is_declared app irq ≡ true
       of_index None is = absurd (none-some irq is)

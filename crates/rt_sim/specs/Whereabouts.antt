@@ -60,7 +60,7 @@ pub record Takes (x : Section) (t : ℕ) (before : List Entry) (w v : Whereabout
   }
 
 -- the place of a task that the running job took last goes into a section's queue, to where it is put
-pub record Gives (x : Section) (t : ℕ) (put : Entry → List Entry → List Entry) (w v : Whereabouts) : Type 0 where
+pub record HandsPlace (x : Section) (t : ℕ) (put : Entry → List Entry → List Entry) (w v : Whereabouts) : Type 0 where
   pub entry : Entry
   pub mine : List Entry
   pub others : List (List Entry)
@@ -94,9 +94,9 @@ IsMovedBy (what.Placed t) w v = Takes (section.Free t) t [] w v
 IsMovedBy (what.Start t args) w v = (p : ℕ) × Takes (section.Ready p) t [] w v
 IsMovedBy (what.Fire t) w v = (before : List Entry) × Takes section.Timer t before w v
 IsMovedBy (what.Cancel t handle) w v = (before : List Entry) × Takes section.Timer t before w v
-IsMovedBy (what.Ready t) w v = (p : ℕ) × Gives (section.Ready p) t to_back w v
-IsMovedBy (what.Arm t instant) w v = Gives section.Timer t to_back w v
-IsMovedBy (what.Free t) w v = Gives (section.Free t) t to_front w v
+IsMovedBy (what.Ready t) w v = (p : ℕ) × HandsPlace (section.Ready p) t to_back w v
+IsMovedBy (what.Arm t instant) w v = HandsPlace section.Timer t to_back w v
+IsMovedBy (what.Free t) w v = HandsPlace (section.Free t) t to_front w v
 IsMovedBy (what.Move t handle instant) w v = GoesLast t w v
 -- a job begins with empty hands, and ends so
 IsMovedBy (what.Take irq depth) w v = v ≡ record w { in_hands = [] ∷ w.in_hands }

@@ -20,8 +20,8 @@ abbrev pub used_words : Region → ℕ
 used_words r = length r.words
 
 -- so many words more have room in a region
-abbrev pub Fits : Region → ℕ → Type 0
-Fits r n = used_words r + n ≤ r.size
+abbrev pub HasRoomFor : Region → ℕ → Type 0
+HasRoomFor r n = used_words r + n ≤ r.size
 
 -- the last so many words of a region
 abbrev pub top : Region → ℕ → List ℕ

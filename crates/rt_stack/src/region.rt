@@ -3,7 +3,7 @@
 ghost use Rattle.std.specs.Prelude.{◌≡◌, ℕ, ◌*◌, ◌%◌, ◌/◌, ◌≤◌, ◌^◌, ◌<◌, ◌↔◌, List, ◌++◌, IsTrue, length, IfOk};
 ghost use Rattle.std.specs.Borrow.{sem};
 ghost use Rattle.rt_stack.specs.Region as region;
-ghost use Rattle.rt_stack.specs.Region.{Fits};
+ghost use Rattle.rt_stack.specs.Region.{HasRoomFor};
 ghost use Rattle.rt_stack.specs.Top.{with_top, LendsTop};
 
 use rt_ids::NoMemory;
@@ -55,14 +55,14 @@ impl Region {
 
     /// Whether so many words more have room.
     pub fn fits(&self, words: u32) -> bool
-        ensures { IsTrue result ↔ Fits self.now words }
+        ensures { IsTrue result ↔ HasRoomFor self.now words }
     {
         words <= self.size - self.used_words()
     }
 
     /// Takes so many words more into use, each 0.
     pub fn push(&mut self, words: u32)
-        requires { Fits self.old words }
+        requires { HasRoomFor self.old words }
         ensures { self.new ≡ region.region_after_push self.old words }
     {
         let used = self.words.len() + words as usize;

@@ -18,7 +18,7 @@ use Rattle.rt_baker.specs.declared.judge.Judge.{Judge}
 use Rattle.rt_baker.specs.declared.verdict.Verdict.{Verdict}
 use Rattle.rt_baker_moves.specs.declared.machine.Machine.{Machine}
 use Rattle.rt_trace.specs.Reader.{refusal_of, standing}
-use Rattle.rt_trace.specs.Reading.{IsRefused, IsTraceText, line_told, missing, total_of, trace_reader}
+use Rattle.rt_trace.specs.Reading.{IsTraceRefused, IsTraceText, line_told, missing, total_of, trace_reader}
 use Rattle.rt_trace.specs.Trace.{Trace}
 use Rattle.rt_trace.specs.declared.item.Item.{Item}
 use Rattle.rt_lines.specs.declared.operand.Wrong.{Wrong}
@@ -111,10 +111,10 @@ module _ {chosen : Option App} {names : Names} {machine : Machine} {reader : Tra
   same_names : names ≡ names_of app
   same_names = h.named ∙ ap names_of same_app
 
-  pub end_wrong : (refusal : TraceRefused) → refusing ≡ Some refusal → IsRefused (names_of app) text refusal
+  pub end_wrong : (refusal : TraceRefused) → refusing ≡ Some refusal → IsTraceRefused (names_of app) text refusal
   end_wrong refusal wrong =
       let refuses = rw wrong at h.stands in
-      subst (λ (n : Names). IsRefused n text refusal) same_names
+      subst (λ (n : Names). IsTraceRefused n text refusal) same_names
       (refuses text [] short (sym (append-nil (lines text))))
 
   goes : refusing ≡ None → Goes (app_of machine.code.now.app.now) names (lines text) reader judge
@@ -122,9 +122,9 @@ module _ {chosen : Option App} {names : Names} {machine : Machine} {reader : Tra
 
   pub end_unended : refusing ≡ None → (count : ℕ) (refusal : TraceRefused) → length (lines text) ≡ count
       → (w : Wrong) × (missing reader.phase ≡ Some w) × (refusal ≡ refusal_of w (count + 1))
-      → IsRefused (names_of app) text refusal
+      → IsTraceRefused (names_of app) text refusal
   end_unended none count refusal counted (w, misses, says) =
-      subst (λ (n : Names). IsRefused n text refusal) same_names
+      subst (λ (n : Names). IsTraceRefused n text refusal) same_names
       (refused_so names text (count + 1) w refusal (record {
         short = short;
         before = lines text;

@@ -78,7 +78,7 @@ passes IsOf IsRefused Says excludes text more line app is s read r =
 -- a script, over the names
 script_read : (names : Names) (more line : List ℕ) (s : List Line) (refusal : ScriptRefused)
     → script.IsScriptText names more s
-    → script.IsRefused names more refusal → SaysScript refusal line → ⊥
+    → script.IsScriptRefused names more refusal → SaysScript refusal line → ⊥
 script_read names more line s refusal is (script.too_long long) says = omega (arith, is.short, long)
 script_read names more line s refusal is (script.first_wrong n w first) says =
     (read_one_way (script.script_reader names)).not_both more s n w is first
@@ -87,7 +87,7 @@ script_read names more line s refusal is script.no_memory says = says
 -- limits
 limits_read : (app : App) (more line : List ℕ) (ls : List Limit) (refusal : LimitsRefused)
     → limits.IsLimitsText app more ls
-    → limits.IsRefused app more refusal → SaysLimits refusal line → ⊥
+    → limits.AreLimitsRefused app more refusal → SaysLimits refusal line → ⊥
 limits_read app more line ls refusal is (limits.too_long long) says = omega (arith, is.short, long)
 limits_read app more line ls refusal is (limits.first_wrong n w first) says =
     (read_one_way (limits.limits_reader app)).not_both more ls n w is first
@@ -96,7 +96,7 @@ limits_read app more line ls refusal is limits.no_memory says = says
 -- a trace, over the names
 trace_read : (names : Names) (more line : List ℕ) (shown : Trace) (refusal : TraceRefused)
     → trace.IsTraceText names more shown
-    → trace.IsRefused names more refusal → SaysTrace refusal line → ⊥
+    → trace.IsTraceRefused names more refusal → SaysTrace refusal line → ⊥
 trace_read names more line shown in_trace.TooLong is met says = omega (arith, is.read.short, met)
 trace_read names more line shown (in_trace.BadLine n) is met says =
     (read_one_way (trace.trace_reader names)).not_both more is.reached n trace_wrong.Form is.read met
@@ -162,7 +162,7 @@ audited_so text more a b x y one other =
 
 -- what is the listing of an image is not refused
 image_read : (text line : List ℕ) (image : Image) (refusal : LoadRefused) → IsListingText text image
-    → loading.IsRefused text refusal
+    → loading.IsListingRefused text refusal
     → SaysImage refusal line → ⊥
 image_read text line image in_image.TooLong is met says = omega (arith, is.short, met)
 image_read text line image (in_image.BadLine n) is met says = listings.read_one_way.not_both text image n loading.Form
@@ -179,13 +179,13 @@ one_of_each kind.Application first text ended line (app, is) (told, r) = applica
 one_of_each kind.OtherApplication first text ended line (app, is) (told, (own, r, says)) =
     application_passes text own app is r
 one_of_each kind.Script first text ended line (app, is, asked, read) (told, r) =
-    passes (λ a. script.IsScriptText (names_of a)) (λ a. script.IsRefused (names_of a)) SaysScript
+    passes (λ a. script.IsScriptText (names_of a)) (λ a. script.IsScriptRefused (names_of a)) SaysScript
     (λ a. script_read (names_of a)) first text line app is asked read r
 one_of_each kind.Trace first text ended line (app, is, shown, read) (told, r) =
-    passes (λ a. trace.IsTraceText (names_of a)) (λ a. trace.IsRefused (names_of a)) SaysTrace
+    passes (λ a. trace.IsTraceText (names_of a)) (λ a. trace.IsTraceRefused (names_of a)) SaysTrace
     (λ a. trace_read (names_of a)) first text line app is shown read r
 one_of_each kind.Limits first text ended line (app, is, ls, read) (told, r) =
-    passes limits.IsLimitsText limits.IsRefused SaysLimits limits_read first text line app is ls read r
+    passes limits.IsLimitsText limits.AreLimitsRefused SaysLimits limits_read first text line app is ls read r
 one_of_each kind.Listing first text ended line (image, is) (told, (refusal, met, says)) =
     image_read text line image refusal is met says
 

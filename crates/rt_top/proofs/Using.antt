@@ -5,7 +5,7 @@ use Rattle.rt_ids.specs.declared.status.Status.{Status}
 use Rattle.rt_ids.specs.declared.status.Status.TheVariants as status
 use Rattle.rt_outside.specs.Bytes.{Past}
 use Rattle.rt_top.specs.Kinds.{Kind, most_bytes, IsRefusedAmong}
-use Rattle.rt_top.specs.Inside.Replies.{Gives}
+use Rattle.rt_top.specs.Inside.Replies.{RepliesOrStops}
 use Rattle.rt_top.specs.Inside.Using.{Use, Unread, Whole, Failed, Left, HasUse, Sources, No, Then, AreUnread, AreRead}
 use Rattle.rt_top.specs.Inside.Using.{for_memory, at_fault, IsNotRead, refusal, stop}
 use Rattle.rt_top.specs.declared.reply.Reply.{Reply}
@@ -125,7 +125,7 @@ failed_at (k ∷ kinds) first (Then gave Does more) end (inr (r, ends, stop ende
 -- a reply in place of an output: a text is refused, and those before it are not, or the program stops
 abbrev pub EndedBy : List Kind → List ℕ → List (List ℕ) → Reply → Type 0
 EndedBy kinds first texts r =
-    Gives (IsRefusedAmong kinds first texts) (λ ended. (ended ≡ status.Memory) ⊎ (ended ≡ status.Read)) r
+    RepliesOrStops (IsRefusedAmong kinds first texts) (λ ended. (ended ≡ status.Memory) ⊎ (ended ≡ status.Read)) r
 
 ended_here : (k : Kind) (kinds : List Kind) (first gave : List ℕ) (Does : ℕ → Use → Type 0) (texts : List (List ℕ))
     (r : Reply) → IsNotRead k first gave Does r → EndedBy (k ∷ kinds) first (gave ∷ texts) r

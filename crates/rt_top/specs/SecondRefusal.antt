@@ -48,12 +48,12 @@ pub record RefusesOver {R : Type 0} (IsRefused : App → List ℕ → R → Type
 
 -- the line refuses a text that is no script over the names of an application
 abbrev pub RefusesScript : List ℕ → List ℕ → List ℕ → Type 0
-RefusesScript text more line = RefusesOver (λ app. script.IsRefused (names_of app)) SaysScript text more line
+RefusesScript text more line = RefusesOver (λ app. script.IsScriptRefused (names_of app)) SaysScript text more line
 
 -- the line refuses a text that is no trace over the names of an application
 abbrev pub RefusesTrace : List ℕ → List ℕ → List ℕ → Type 0
-RefusesTrace text more line = RefusesOver (λ app. trace.IsRefused (names_of app)) SaysTrace text more line
+RefusesTrace text more line = RefusesOver (λ app. trace.IsTraceRefused (names_of app)) SaysTrace text more line
 
 -- the line refuses a text that tells no limits of an application
 abbrev pub RefusesLimits : List ℕ → List ℕ → List ℕ → Type 0
-RefusesLimits text more line = RefusesOver limits.IsRefused SaysLimits text more line
+RefusesLimits text more line = RefusesOver limits.AreLimitsRefused SaysLimits text more line

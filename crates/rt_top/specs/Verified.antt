@@ -4,7 +4,7 @@ use Rattle.std.specs.Prelude.{◌≡◌, ℕ, List, ◌++◌, codes, decimal}
 use Rattle.rt_ids.specs.declared.status.Status.{Status}
 use Rattle.rt_ids.specs.declared.status.Status.TheVariants as status
 use Rattle.rt_code.specs.Image.{Image}
-use Rattle.rt_load.specs.Reading.{IsListingText, IsRefused}
+use Rattle.rt_load.specs.Reading.{IsListingText, IsListingRefused}
 use Rattle.rt_load.specs.declared.refusal.LoadRefused.{LoadRefused}
 use Rattle.rt_load.specs.declared.refusal.LoadRefused.TheVariants as in_image
 use Rattle.rt_points.specs.Checked.{IsChecked, IsLeastBroken}
@@ -27,7 +27,7 @@ pub data TellsImage (image : Image) : Status → List ℕ → Type 0 where
 
 -- the line refuses a text that is no listing
 abbrev pub RefusesListing : List ℕ → List ℕ → Type 0
-RefusesListing text line = (refusal : LoadRefused) × IsRefused text refusal × SaysImage refusal line
+RefusesListing text line = (refusal : LoadRefused) × IsListingRefused text refusal × SaysImage refusal line
 
 -- `verify`: the status and the line for the listing of an image
 abbrev pub IsVerified : List ℕ → Status → List ℕ → Type 0

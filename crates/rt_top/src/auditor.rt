@@ -8,7 +8,7 @@ ghost use Rattle.rt_app.specs.Names.{names_of};
 ghost use Rattle.rt_app.specs.Tree as tree;
 ghost use Rattle.rt_app.specs.View.{app_of};
 ghost use Rattle.rt_baker_moves.specs.Machine.{IsMachine};
-ghost use Rattle.rt_trace.specs.Reading.{IsRefused};
+ghost use Rattle.rt_trace.specs.Reading.{IsTraceRefused};
 ghost use Rattle.rt_top.specs.Inside.Auditor.{Goes, Stands, HasAudited, IsJudgedText};
 
 use rt_baker::{Judge, Verdict};
@@ -74,7 +74,7 @@ impl<'a, A: Chosen> Auditor<'a, A> {
             → HasAudited A.app self.old.names.now self.old.machine.now self.old.reader self.old.judge self.old.refused
             (lines text)
             → MatchResult result (λ both. IsJudgedText app text both.0 both.1)
-            (λ refusal. IsRefused (names_of app) text refusal) }
+            (λ refusal. IsTraceRefused (names_of app) text refusal) }
     {
         match self.refused {
             Some(refusal) => Err(refusal),

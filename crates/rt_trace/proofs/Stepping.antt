@@ -5,7 +5,7 @@ use Rattle.rt_lines.specs.Answers.{and_make}
 use Rattle.rt_lines.specs.Reading.{IsFirstWrong}
 use Rattle.rt_lines.proofs.Reading.{read_one_way}
 use Rattle.rt_trace.specs.Reader.{refusal_of}
-use Rattle.rt_trace.specs.Reading.{IsRefused, IsTraceText, Standing, line_told, step, trace_of, trace_reader}
+use Rattle.rt_trace.specs.Reading.{IsTraceRefused, IsTraceText, Standing, line_told, step, trace_of, trace_reader}
 use Rattle.rt_trace.specs.Trace.{Trace}
 use Rattle.rt_trace.specs.declared.item.Item.{Item}
 use Rattle.rt_lines.specs.declared.operand.Wrong.{Wrong}
@@ -37,7 +37,7 @@ module _ (names : Names) where
 
   -- the refusal for the first wrong line
   pub refused_so : (text : List ℕ) (n : ℕ) (w : Wrong) (refusal : TraceRefused)
-      → IsFirstWrong (trace_reader names) text n w → refusal ≡ refusal_of w n → IsRefused names text refusal
+      → IsFirstWrong (trace_reader names) text n w → refusal ≡ refusal_of w n → IsTraceRefused names text refusal
   refused_so text n wrong.Form refusal is says = rw says is
   refused_so text n wrong.Name refusal is says = rw says is
 

@@ -16,7 +16,7 @@ use Rattle.rt_trace.specs.Laws.{TraceLinesAreRead}
 use Rattle.rt_trace.specs.Lined.{HasLine}
 use Rattle.rt_trace.specs.Reading.{IsTraceText, Standing, behind_row, ends_listing, is_account, line_told}
 use Rattle.rt_trace.specs.Reading.{missing, trace_of, trace_reader}
-use Rattle.rt_trace.specs.Row.{row_of, row_at}
+use Rattle.rt_trace.specs.Row.{row_of_line, row_at}
 use Rattle.rt_trace.specs.Text.{item_line, total_text, trace_text}
 use Rattle.rt_trace.specs.Trace.{Trace}
 use Rattle.rt_trace.specs.TraceLines.{IsClosing, IsHeading, IsListing, row_of_item}
@@ -54,14 +54,14 @@ module _ (names : Names) where
         lead_append (trace_reader names) _ _ _ is.more (codes "trace" ∷ []) front (at phase.Items [], refl, refl),
       )
 
-  items_read : (so_far items : List Item) (ls : List (List ℕ)) → map (row_of names) ls ≡ map row_of_item items
+  items_read : (so_far items : List Item) (ls : List (List ℕ)) → map (row_of_line names) ls ≡ map row_of_item items
       → Leads (at phase.Items so_far) ls (at phase.Items (so_far ++ items))
   items_read so_far [] [] each = ap (at phase.Items) (sym (append-nil so_far))
   items_read so_far [] (line ∷ ls) each = absurd cc
   items_read so_far (item ∷ items) [] each = absurd cc
   items_read so_far (item ∷ items) (line ∷ ls) each =
-      let reads : row_of names line ≡ Ok (row.Shown item) = cc each in
-      let rest : map (row_of names) ls ≡ map row_of_item items = cc each in (
+      let reads : row_of_line names line ≡ Ok (row.Shown item) = cc each in
+      let rest : map (row_of_line names) ls ≡ map row_of_item items = cc each in (
         at phase.Items (so_far ++ item ∷ []),
         line_read names phase.Items phase.Items so_far line (Some item) (ap (λ r. and_make r behind_row) reads),
         subst (λ told. Leads (at phase.Items (so_far ++ item ∷ [])) ls (at phase.Items told))
@@ -113,7 +113,7 @@ trace_lines_read names text trace short is =
 abbrev pub total_line : ℕ → List ℕ
 total_line total = codes "total " ++ decimal total
 
-total_read : (names : Names) (total : ℕ) → total < 2 ^ 32 → row_of names (total_line total) ≡ Ok (row.Total total)
+total_read : (names : Names) (total : ℕ) → total < 2 ^ 32 → row_of_line names (total_line total) ≡ Ok (row.Total total)
 total_read names total small =
     ap (row_at names) (ap (λ t. words (codes "total " ++ t)) (sym (append-nil (decimal total)))
     ∙ words_spaced (codes "total") (decimal total ∷ []) (word_free 32 (codes "total") refl refl)
@@ -121,7 +121,7 @@ total_read names total small =
     ∙ ap (λ (r : Result ℕ Wrong). and_make r row.Total) (number_read (2 ^ 32) total small (omega arith))
 
 rows_read : (names : Names) (items : List Item) → AreNames names → AllByRecursion (HasLine names) items
-    → map (row_of names) (map (item_line names) items) ≡ map row_of_item items
+    → map (row_of_line names) (map (item_line names) items) ≡ map row_of_item items
 rows_read names [] are all = refl
 rows_read names (item ∷ items) are all =
     ap₂ (λ (r : Result Row Wrong) (rs : List (Result Row Wrong)). r ∷ rs) (lines_read names item are all.0)

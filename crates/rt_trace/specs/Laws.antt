@@ -10,7 +10,7 @@ use Rattle.rt_lines.specs.Parts.{lines}
 use Rattle.rt_lines.specs.Reading.{IsReadOneWay}
 use Rattle.rt_trace.specs.Lined.{HasLine}
 use Rattle.rt_trace.specs.Reading.{trace_reader, IsTraceText}
-use Rattle.rt_trace.specs.Row.{row_of}
+use Rattle.rt_trace.specs.Row.{row_of_line}
 use Rattle.rt_trace.specs.Text.{item_line, text, trace_text}
 use Rattle.rt_trace.specs.Trace.{Trace}
 use Rattle.rt_trace.specs.TraceLines.{AreTraceLines}
@@ -19,13 +19,15 @@ use Rattle.rt_trace.specs.declared.row.Row.TheVariants as row
 
 -- the line of an item is read as the item
 abbrev pub LinesAreRead : Type 0
-LinesAreRead = (names : Names) (item : Item) → AreNames names → HasLine names item → row_of names (item_line names item)
+LinesAreRead = (names : Names) (item : Item) → AreNames names → HasLine names item
+    → row_of_line names (item_line names item)
     ≡ Ok (row.Shown item)
 
 -- a line that is read as an item is the item's
 abbrev pub ReadLinesAreLines : Type 0
 ReadLinesAreLines =
-    (names : Names) (line : List ℕ) (item : Item) → AreDifferent (map (λ irq. irq.1) names.irqs) → row_of names line
+    (names : Names) (line : List ℕ) (item : Item) → AreDifferent (map (λ irq. irq.1) names.irqs)
+    → row_of_line names line
     ≡ Ok (row.Shown item)
     → HasLine names item × (line ≡ item_line names item)
 

@@ -12,7 +12,7 @@ use Rattle.rt_lines.specs.Answers.{and_make}
 use Rattle.rt_lines.specs.Parts.{lines}
 use Rattle.rt_lines.specs.Reading.{Reader, IsRead, IsFirstWrong, IsTooLong}
 use Rattle.rt_trace.specs.Trace.{Trace}
-use Rattle.rt_trace.specs.Row.{row_of}
+use Rattle.rt_trace.specs.Row.{row_of_line}
 use Rattle.rt_trace.specs.declared.item.Item.{Item}
 use Rattle.rt_lines.specs.declared.operand.Wrong.{Wrong}
 use Rattle.rt_lines.specs.declared.operand.Wrong.TheVariants as wrong
@@ -42,7 +42,7 @@ behind_row (row.Total total) = (phase.Closed total, None)
 
 -- the same of a line that has to be a row, or what is wrong with it
 abbrev pub row_told : Names → List ℕ → Result (Phase × Option Item) Wrong
-row_told names line = and_make (row_of names line) behind_row
+row_told names line = and_make (row_of_line names line) behind_row
 
 -- where a reader that stood here stands behind a line, and the item that the line tells; or what is wrong with the line
 abbrev pub line_told : Names → Phase → List ℕ → Result (Phase × Option Item) Wrong
@@ -94,8 +94,8 @@ pub record IsTraceText (names : Names) (text : List ℕ) (trace : Trace) : Type 
   pub tells : trace ≡ trace_of reached
 
 -- the refusal of a text; want of memory has no cause in it
-abbrev pub IsRefused : Names → List ℕ → TraceRefused → Type 0
-IsRefused names text refused.TooLong = IsTooLong (trace_reader names) text
-IsRefused names text (refused.BadLine n) = IsFirstWrong (trace_reader names) text n wrong.Form
-IsRefused names text (refused.UnknownName n) = IsFirstWrong (trace_reader names) text n wrong.Name
-IsRefused names text refused.NoMemory = Unit {0}
+abbrev pub IsTraceRefused : Names → List ℕ → TraceRefused → Type 0
+IsTraceRefused names text refused.TooLong = IsTooLong (trace_reader names) text
+IsTraceRefused names text (refused.BadLine n) = IsFirstWrong (trace_reader names) text n wrong.Form
+IsTraceRefused names text (refused.UnknownName n) = IsFirstWrong (trace_reader names) text n wrong.Name
+IsTraceRefused names text refused.NoMemory = Unit {0}

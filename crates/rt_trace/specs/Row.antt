@@ -31,5 +31,5 @@ row_at names (word ∷ words) =
     else item_at names (word ∷ words)
 
 -- what a line says
-abbrev pub row_of : Names → List ℕ → Result Row Wrong
-row_of names line = row_at names (words line)
+abbrev pub row_of_line : Names → List ℕ → Result Row Wrong
+row_of_line names line = row_at names (words line)

@@ -3,7 +3,7 @@ use Rattle.std.specs.Prelude.{◌≡◌, ℕ, true, false, codes, List, [], ◌�
 use Rattle.std.specs.List.{AllByRecursion}
 use Rattle.rt_ids.specs.Names.{Names}
 use Rattle.rt_trace.specs.Reading.{begins_listing, ends_listing, is_account}
-use Rattle.rt_trace.specs.Row.{row_of}
+use Rattle.rt_trace.specs.Row.{row_of_line}
 use Rattle.rt_trace.specs.Trace.{Trace}
 use Rattle.rt_trace.specs.declared.item.Item.{Item}
 use Rattle.rt_lines.specs.declared.operand.Wrong.{Wrong}
@@ -33,7 +33,7 @@ abbrev pub IsClosing : Names → List (List ℕ) → Option ℕ → Type 0
 IsClosing names closing None = closing ≡ []
 IsClosing names closing (Some total) =
     (line : List ℕ) × (accounts : List (List ℕ)) × (closing ≡ line ∷ accounts)
-    × (row_of names line ≡ Ok (row.Total total)) × AllByRecursion (λ line. is_account line ≡ true) accounts
+    × (row_of_line names line ≡ Ok (row.Total total)) × AllByRecursion (λ line. is_account line ≡ true) accounts
 
 -- these lines are those of the text of this trace
 pub record AreTraceLines (names : Names) (ls : List (List ℕ)) (trace : Trace) : Type 0 where
@@ -42,5 +42,5 @@ pub record AreTraceLines (names : Names) (ls : List (List ℕ)) (trace : Trace) 
   pub closing : List (List ℕ)
   pub parts : ls ≡ heading ++ (items ++ closing)
   pub headed : IsHeading heading (items ++ closing)
-  pub each : map (row_of names) items ≡ map row_of_item trace.items
+  pub each : map (row_of_line names) items ≡ map row_of_item trace.items
   pub closes : IsClosing names closing trace.total

@@ -21,7 +21,7 @@ use std::alloc::Global;
 /// table. Lines count from 1, those of a listing in front too.
 pub fn read_trace(alloc: Global, bytes: &[u8], names: &Names) -> Result<Trace, TraceRefused>
     ensures read { IfOk result (λ trace. spec.IsTraceText names.now bytes.now trace) }
-    ensures refused { IfErr result (λ refusal. spec.IsRefused names.now bytes.now refusal) }
+    ensures refused { IfErr result (λ refusal. spec.IsTraceRefused names.now bytes.now refusal) }
     ensures long { TRACE_BYTES < length bytes.now → result ≡ Err TraceRefused.TooLong }
 {
     if bytes.len() > TRACE_BYTES as usize {

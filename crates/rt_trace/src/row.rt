@@ -28,7 +28,7 @@ pub enum Row {
 
 /// What a line says.
 pub fn read_row(names: &Names, line: &[u8]) -> Result<Row, Wrong>
-    ensures { result ≡ spec.row_of names.now line.now }
+    ensures { result ≡ spec.row_of_line names.now line.now }
 {
     let Some((word, words)) = next_word(Some(line)) else {
         return Err(Wrong::Form);

@@ -25,5 +25,5 @@ module _ (app : App) (at : Entries) (services : List Service) where
     pub each : (irq : ℕ) → irq < length app.irqs → slice_get table irq ≡ Some (handler_of irq)
 
 -- the row of an interrupt that is served so
-abbrev pub row_of : IrqDecl → Option Handler → IrqRow
-row_of irq handler = record { name = irq.name; number = irq.number; handler = handler }
+abbrev pub irq_row : IrqDecl → Option Handler → IrqRow
+irq_row irq handler = record { name = irq.name; number = irq.number; handler = handler }

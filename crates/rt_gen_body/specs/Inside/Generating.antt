@@ -22,7 +22,7 @@ context g = record {
 }
 
 -- what it generates code of: an accepted application, by its plan
-pub record IsReady (g : Generator) : Type 0 where
+pub record IsPlanned (g : Generator) : Type 0 where
   pub accepted : IsAccepted (app_of g.plan.now.app.now)
   pub planned : IsPlan g.plan.now
   -- and by the rows of its messages that may be armed

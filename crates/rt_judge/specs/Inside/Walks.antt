@@ -88,8 +88,8 @@ pub record IsAdded (old new : Reached) (spot : Spot) : Type 0 where
   pub others : (address : ℕ) → spot.address ≢ address → new address ≡ old address
 
 -- a spot was come to, or waits
-abbrev pub IsKnown : Reached → List Spot → Spot → Type 0
-IsKnown reached waiting spot = Has reached spot ⊎ Contains waiting spot
+abbrev pub IsReachedOrWaits : Reached → List Spot → Spot → Type 0
+IsReachedOrWaits reached waiting spot = Has reached spot ⊎ Contains waiting spot
 
 -- A walk so far, by what it has come to, also as a list, what waits and what goes on behind: these are points; where it
 -- began is known, and so is what it leads to.
@@ -100,9 +100,9 @@ pub record IsWalking (img : Image) (owner : Owner) (starts : List Spot) (reached
   pub listed : (spot : Spot) → Has reached spot → Contains done spot
   pub waiting : ArePoints img owner ws
   pub behind : ArePoints img Thread bs
-  pub began : (spot : Spot) → Contains starts spot → IsKnown reached ws spot
+  pub began : (spot : Spot) → Contains starts spot → IsReachedOrWaits reached ws spot
   pub closed : (spot : Spot) (q : Point) → Has reached spot → LeadsTo img (point_of owner spot) q → q.owner ≡ owner
-      → IsKnown reached ws (spot_of q)
+      → IsReachedOrWaits reached ws (spot_of q)
   pub left : (spot : Spot) (q : Point) → Has reached spot → LeadsTo img (point_of owner spot) q → q.owner ≢ owner
       → Contains bs (spot_of q)
 

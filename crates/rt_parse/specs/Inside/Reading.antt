@@ -11,7 +11,8 @@ use Rattle.rt_lex.specs.declared.token.Token as code
 use Rattle.rt_lex.specs.Token.{Token, view}
 use Rattle.rt_ast.specs.declared.ident.Ident.{Ident}
 use Rattle.rt_ast.specs.declared.ident.Number.{Number}
-use Rattle.rt_grammar.specs.Tokens.{free, word_of, sign_of, name_of, ident_of, number_of, name_limit, number_limit}
+use Rattle.rt_grammar.specs.Tokens.{free, word_of, sign_of, name_of, ident_of, number_of_token, name_limit}
+use Rattle.rt_grammar.specs.Tokens.{number_limit}
 use Rattle.rt_parse.specs.declared.stop.Found.{Found}
 use Rattle.rt_parse.specs.declared.stop.Stop.{Stop}
 use Rattle.rt_parse.specs.declared.stop.Stop.TheVariants as stop
@@ -26,9 +27,9 @@ Stops stop.Memory read = Unit {0}
 Stops (stop.At found) read = read ≡ Err found
 
 -- what a function returned, seen by a view, is what was read, unless memory ran out
-abbrev pub Gives : {X Y : Type 0} → (X → Y) → Result X Stop → Result Y Found → Type 0
-Gives view (Ok x) read = read ≡ Ok (view x)
-Gives view (Err e) read = Stops e read
+abbrev pub GivesRead : {X Y : Type 0} → (X → Y) → Result X Stop → Result Y Found → Type 0
+GivesRead view (Ok x) read = read ≡ Ok (view x)
+GivesRead view (Err e) read = Stops e read
 
 -- the same of a function that left these tokens
 abbrev pub Leaves : {X Y : Type 0} → (X → Y) → Result X Stop → List Token → Result (Y × List Token) Found → Type 0
@@ -122,7 +123,7 @@ name_at = limited_name_at free
 
 -- a number, which may pass this limit
 abbrev pub limited_number_at : (ℕ → Option Limit) → Reader Number
-limited_number_at limit = token_at number_of (number_limit limit)
+limited_number_at limit = token_at number_of_token (number_limit limit)
 
 -- a number
 abbrev pub number_at : Reader Number

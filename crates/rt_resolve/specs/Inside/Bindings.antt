@@ -49,8 +49,8 @@ pub record AreIndexed (bindings : List Binding) (m : Meanings) (outer : ℕ) : T
   pub meanings : (name : List ℕ) → meaning_at m name ≡ meaning_in name (reverse bindings)
 
 -- a name means something in a map
-abbrev pub IsKnown : Meanings → List ℕ → Type 0
-IsKnown m name = IsSome (meaning_at m name)
+abbrev pub HasMeaning : Meanings → List ℕ → Type 0
+HasMeaning m name = IsSome (meaning_at m name)
 
 -- a name means this in a map, and each other one means what it did
 abbrev pub IsRestored : Meanings → Meanings → List ℕ → Option Meaning → Type 0

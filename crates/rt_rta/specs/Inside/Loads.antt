@@ -2,7 +2,7 @@
 use Rattle.std.specs.Prelude.{ℕ, ◌*◌, nat_le, List, [], ◌∷◌, flat_map, sum_by, Option, Some, None, if◌then◌else◌}
 use Rattle.rt_ids.specs.Lists.{then_from}
 use Rattle.rt_app.specs.Tree.{Task, App}
-use Rattle.rt_rta.specs.Limits.{number_of, every_of}
+use Rattle.rt_rta.specs.Limits.{bound_number, every_of}
 use Rattle.rt_rta.specs.Response.{most_requests, handling_steps}
 use Rattle.rt_rta.specs.declared.limits.Limit.{Limit}
 use Rattle.rt_rta.specs.declared.load.Load.{Load}
@@ -14,7 +14,7 @@ load_of app t (Some every) = record { priority = t.priority; every = every; step
 
 -- what a task asks for, where its interrupt may be requested
 abbrev pub task_loads : App → List Limit → Task → List Load
-task_loads app limits t = load_of app t (then_from (number_of app t) (every_of limits))
+task_loads app limits t = load_of app t (then_from (bound_number app t) (every_of limits))
 
 -- what the tasks of an application ask for
 abbrev pub loads : App → List Limit → List Load

@@ -6,7 +6,7 @@ use Rattle.rt_ids.specs.Event.{Event}
 use Rattle.rt_ids.specs.Names.{Names}
 use Rattle.rt_ids.specs.declared.ids.Section.{Section}
 use Rattle.rt_ids.specs.declared.ids.Section.TheVariants as section
-use Rattle.rt_code.specs.Listable.{HasIrq, HasTask, HasSection, HasBody}
+use Rattle.rt_code.specs.Listable.{IsDeclared, IsTask, HasSection, HasBody}
 use Rattle.rt_core.specs.Machine.{Machine}
 use Rattle.rt_outside.specs.Bytes.{Took, TookPrefix}
 use Rattle.rt_trace.specs.Lined.{HasLine}
@@ -23,21 +23,21 @@ HasValueOf s value = value ≡ None
 
 -- the names of an item are in the tables
 abbrev pub HasWords : Names → What → Type 0
-HasWords names (what.Pend i) = HasIrq names i
-HasWords names (what.Take i depth) = HasIrq names i
-HasWords names (what.Ret i) = HasIrq names i
-HasWords names (what.Post i) = HasIrq names i
+HasWords names (what.Pend i) = IsDeclared names i
+HasWords names (what.Take i depth) = IsDeclared names i
+HasWords names (what.Ret i) = IsDeclared names i
+HasWords names (what.Post i) = IsDeclared names i
 HasWords names (what.Enter x) = HasSection names x
 HasWords names (what.Leave x value) = HasSection names x × HasValueOf x value
-HasWords names (what.Placed t) = HasTask names t
-HasWords names (what.Full t) = HasTask names t
-HasWords names (what.Ready t) = HasTask names t
-HasWords names (what.Start t args) = HasTask names t
-HasWords names (what.Free t) = HasTask names t
-HasWords names (what.Arm t v) = HasTask names t
-HasWords names (what.Fire t) = HasTask names t
-HasWords names (what.Cancel t h) = HasTask names t
-HasWords names (what.Move t h v) = HasTask names t
+HasWords names (what.Placed t) = IsTask names t
+HasWords names (what.Full t) = IsTask names t
+HasWords names (what.Ready t) = IsTask names t
+HasWords names (what.Start t args) = IsTask names t
+HasWords names (what.Free t) = IsTask names t
+HasWords names (what.Arm t v) = IsTask names t
+HasWords names (what.Fire t) = IsTask names t
+HasWords names (what.Cancel t h) = IsTask names t
+HasWords names (what.Move t h v) = IsTask names t
 HasWords names (what.End b) = HasBody names b
 HasWords names w = Unit {0}
 
@@ -47,8 +47,8 @@ ShowsWords names None = Unit {0}
 ShowsWords names (Some w) = HasWords names w
 
 -- what is held leaves room for a line
-abbrev pub HasRoom : List ℕ → Type 0
-HasRoom held = length held + LINE_BYTES ≤ BUFFER_BYTES
+abbrev pub HasRoomForLine : List ℕ → Type 0
+HasRoomForLine held = length held + LINE_BYTES ≤ BUFFER_BYTES
 
 -- Bytes were written: those that were held, and these behind them, were taken in front and are held behind.
 pub record Wrote (before after : List ℕ) (held kept bytes : List ℕ) : Type 0 where

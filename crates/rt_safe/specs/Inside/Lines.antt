@@ -36,15 +36,17 @@ is_simple instr.Ret = false
 is_simple i = true
 
 -- what a line is to the sections that are open at a point
-pub data IsLine (p : Point) (i : Instr) (told : Option Note) : Type 0 where
+pub data ActsOnSections (p : Point) (i : Instr) (told : Option Note) : Type 0 where
   -- no section opens or closes, and what open sections saved is kept
-  Simply : is_simple i ≡ true → told ≡ None → IsUnsaved p.inside (written_slot i) → IsLine p i told
+  Simply : is_simple i ≡ true → told ≡ None → IsUnsaved p.inside (written_slot i) → ActsOnSections p i told
   -- the thread begins anew
-  Anew : (to : ℕ) → i ≡ instr.Jump to → told ≡ Some (note.End body.Idle) → p.owner ≡ Thread → IsLine p i told
-  Opens : (x : Section) → (kind : Kind) → i ≡ opening_instr kind → told ≡ Some (note.Enter x) → IsLine p i told
+  Anew : (to : ℕ) → i ≡ instr.Jump to → told ≡ Some (note.End body.Idle) → p.owner ≡ Thread → ActsOnSections p i told
+  Opens : (x : Section) → (kind : Kind) → i ≡ opening_instr kind → told ≡ Some (note.Enter x) → ActsOnSections p i told
   -- the innermost section closes
   Closes : (x : Section) → (kind : Kind) → (outer : List Opened)
       → p.inside ≡ record { section = x; kind = kind } ∷ outer → i ≡ closing_instr kind → told ≡ Some (note.Leave x)
-      → IsLine p i told
-  EndsInit : i ≡ instr.Serve → told ≡ Some (note.End body.Init) → p.owner ≡ Starting → p.inside ≡ [] → IsLine p i told
-  Returns : (index : ℕ) → i ≡ instr.Ret → told ≡ None → p.owner ≡ Handling index → p.inside ≡ [] → IsLine p i told
+      → ActsOnSections p i told
+  EndsInit : i ≡ instr.Serve → told ≡ Some (note.End body.Init) → p.owner ≡ Starting → p.inside ≡ []
+      → ActsOnSections p i told
+  Returns : (index : ℕ) → i ≡ instr.Ret → told ≡ None → p.owner ≡ Handling index → p.inside ≡ []
+      → ActsOnSections p i told

@@ -13,7 +13,7 @@ use Rattle.rt_baker.specs.declared.verdict.Verdict.{Verdict}
 use Rattle.rt_baker_moves.specs.Machine.{IsMachine}
 use Rattle.rt_baker_moves.specs.declared.machine.Machine.{Machine}
 use Rattle.rt_trace.specs.Reader.{HasRead}
-use Rattle.rt_trace.specs.Reading.{IsRefused, IsTraceText}
+use Rattle.rt_trace.specs.Reading.{IsTraceRefused, IsTraceText}
 use Rattle.rt_trace.specs.Trace.{Trace}
 use Rattle.rt_trace.specs.declared.item.Item.{Item}
 use Rattle.rt_trace.specs.declared.reader.TraceReader.{TraceReader}
@@ -30,7 +30,7 @@ pub record Goes (app : App) (names : Names) (ls : List (List ℕ)) (reader : Tra
 abbrev pub Refuses : Names → List (List ℕ) → TraceRefused → Type 0
 Refuses names ls refusal =
     (text : List ℕ) (behind : List (List ℕ)) → length text ≤ TRACE_BYTES → lines text ≡ ls ++ behind
-    → IsRefused names text refusal
+    → IsTraceRefused names text refusal
 
 -- no line is wrong, or the first that is is refused so
 abbrev pub Stands : App → Names → List (List ℕ) → TraceReader → Judge → Option TraceRefused → Type 0

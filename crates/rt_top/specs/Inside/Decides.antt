@@ -16,7 +16,7 @@ use Rattle.rt_top.specs.Kinds.{Kind, most_bytes, IsOfKind}
 use Rattle.rt_top.specs.Ends.{Wrote}
 use Rattle.rt_top.specs.Defined.{Inputs, Writes}
 use Rattle.rt_top.specs.Outputs.{IsGoodOf}
-use Rattle.rt_top.specs.Inside.Replies.{Gives, Replies, WantsMemory}
+use Rattle.rt_top.specs.Inside.Replies.{RepliesOrStops, Replies, WantsMemory}
 use Rattle.rt_top.specs.Inside.Using.{Use, Whole, Sources, IsNotRead, AreRead}
 use Rattle.rt_top.specs.declared.reply.Reply.{Reply}
 
@@ -48,7 +48,7 @@ EndsAs Said before after faults_before faults_after result =
 -- a reply was written as far as the sink took it, or there was nothing to write
 abbrev pub Finishes : List ℕ → List ℕ → ℕ → ℕ → Reply → Status → Type 0
 Finishes before after faults_before faults_after r result =
-    Gives (λ ended bytes. Wrote before after faults_before faults_after ended result bytes)
+    RepliesOrStops (λ ended bytes. Wrote before after faults_before faults_after ended result bytes)
     (λ ended. (result ≡ ended) × Took before after []) r
 
 -- the reply: the output where each text was read, or that to the one that was not

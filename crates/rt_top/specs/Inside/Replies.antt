@@ -6,9 +6,9 @@ use Rattle.rt_top.specs.declared.reply.Reply.{Reply}
 use Rattle.rt_top.specs.declared.reply.Reply.TheVariants as reply
 
 -- this is so of the reply's status and text, or this of the status with which the program stops
-abbrev pub Gives : (Status → List ℕ → Type 0) → (Status → Type 0) → Reply → Type 0
-Gives Said Stopped (reply.Write ended text) = Said ended text.items
-Gives Said Stopped (reply.Stop ended) = Stopped ended
+abbrev pub RepliesOrStops : (Status → List ℕ → Type 0) → (Status → Type 0) → Reply → Type 0
+RepliesOrStops Said Stopped (reply.Write ended text) = Said ended text.items
+RepliesOrStops Said Stopped (reply.Stop ended) = Stopped ended
 
 -- memory was wanted
 abbrev pub WantsMemory : Status → Type 0
@@ -16,7 +16,7 @@ WantsMemory ended = ended ≡ status.Memory
 
 -- this is so of the reply's status and text, or memory was wanted
 abbrev pub Replies : (Status → List ℕ → Type 0) → Reply → Type 0
-Replies Said r = Gives Said WantsMemory r
+Replies Said r = RepliesOrStops Said WantsMemory r
 
 -- the reply about a second application that is this one about a first, with a word in front; or memory was wanted
 abbrev pub IsOfSecond : Reply → Reply → Type 0

@@ -5,12 +5,12 @@ use Rattle.std.proofs.lemmas.Slice.Zip.{zip_turn, zip_end, length-zip}
 use Rattle.rt_app.specs.declared.app.IrqDecl.{IrqDecl}
 use Rattle.rt_code.specs.declared.image.Handler.{Handler}
 use Rattle.rt_code.specs.declared.image.IrqRow.{IrqRow}
-use Rattle.rt_build.specs.Inside.Tables.{row_of}
+use Rattle.rt_build.specs.Inside.Tables.{irq_row}
 use Rattle.rt_build.proofs.Served.{zip_next}
 use Rattle.rt_build.proofs.tables.irq_rows.Goals as goal
 
 abbrev rows_of : List (IrqDecl × Option Handler) → List IrqRow
-rows_of ps = map (λ (irq, handler). row_of irq handler) ps
+rows_of ps = map (λ (irq, handler). irq_row irq handler) ps
 
 pub loop-irq-preserved : goal.loop-irq-preserved
 loop-irq-preserved c =
@@ -24,7 +24,7 @@ loop-irq-preserved c =
     c.in_ok-push.ensures.items
     ∙ (ap (λ (rows : List IrqRow). rows ++ c.in_ok-irq_row.field-0 ∷ []) c.loop-irq.invariant
     ∙ (ap (λ (row : IrqRow). rows_of (take n pairs) ++ row ∷ []) c.in_ok-irq_row.ensures
-    ∙ (sym (map_push (λ (irq, handler). row_of irq handler) (take n pairs) (c.in-Some.irq.now, c.in-Some.handler.now))
+    ∙ (sym (map_push (λ (irq, handler). irq_row irq handler) (take n pairs) (c.in-Some.irq.now, c.in-Some.handler.now))
     ∙ (ap rows_of (sym more) ∙ ap (λ k. rows_of (take k pairs))
     (sym (length_push c.loop-irq.yielded (c.in-Some.irq, c.in-Some.handler)))))))
 

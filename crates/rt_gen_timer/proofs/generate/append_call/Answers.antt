@@ -1,4 +1,4 @@
-use Rattle.rt_gen_queue.proofs.Vocabulary.{App, HasIrq, Line, List, Task, ap, app_of, arith, length, length-append}
+use Rattle.rt_gen_queue.proofs.Vocabulary.{App, IsDeclared, Line, List, Task, ap, app_of, arith, length, length-append}
 use Rattle.rt_gen_queue.proofs.Vocabulary.{names_of, ℕ, ◌++◌, ◌∙◌, ◌≡◌, ◌≤◌}
 use Rattle.rt_gen_queue.proofs.{Facts.Spawned, Nameable.AreClaimed, Nameable.named_behind, Named.spawned}
 use Rattle.rt_gen_timer.proofs.Generated.{after_claimed, after_short, cancel_claimed, move_claimed, timer_named}
@@ -15,7 +15,7 @@ short app (Cancel task) threshold slot at t facts = omega arith
 short app (Move task) threshold slot at t facts = omega arith
 
 -- and they name what the application declares
-claimed : (app : App) → HasIrq (names_of app) (queue_of app).irq → (call : Call) (threshold slot at : ℕ) (t : Task)
+claimed : (app : App) → IsDeclared (names_of app) (queue_of app).irq → (call : Call) (threshold slot at : ℕ) (t : Task)
     → Spawned app (task_of call) t → AreClaimed (names_of app) (code_of app call threshold slot at)
 claimed app irq (After task) threshold slot at t facts = after_claimed app irq slot threshold task t facts at
 claimed app irq (Cancel task) threshold slot at t facts = cancel_claimed app irq slot threshold task t facts at

@@ -4,7 +4,7 @@ use Rattle.std.proofs.lemmas.Bool.{eqb-true}
 use Rattle.rt_lines.specs.Inside.Progress.{Progress}
 use Rattle.rt_lines.specs.Parts.{parts}
 use Rattle.rt_lines.proofs.Reading.{line_more, wrong_line, wrong_end, read_whole}
-use Rattle.rt_load.specs.Reading.{IsListingText, IsFirstWrong, IsRefused, line_with_feed, IsLine, Form}
+use Rattle.rt_load.specs.Reading.{IsListingText, IsFirstWrongLine, IsListingRefused, line_with_feed, IsOneLine, Form}
 use Rattle.rt_load.specs.Inside.Reader.{fed_lines, fault_of, take, told, is_whole, refusal_of, listing_reader}
 use Rattle.rt_load.specs.Inside.Taking.{is_complete}
 use Rattle.rt_load.specs.declared.front.Front.{Front}
@@ -21,7 +21,7 @@ use Rattle.rt_load.proofs.loading.load.Goals.{in_default-front-via-in_default-fr
 
 -- the line at which the rest of a text is cut
 next_line : (rest line behind : List ℕ) → parts 10 rest ≡ line ∷ parts 10 behind
-    → IsLine line × (fed_lines rest ≡ line_with_feed line ∷ fed_lines behind)
+    → IsOneLine line × (fed_lines rest ≡ line_with_feed line ∷ fed_lines behind)
 next_line rest line behind e =
     let cut = cut_is rest line behind e in (cut.0, ap fed_lines cut.1 ∙ fed_first line behind cut.0)
 
@@ -35,7 +35,7 @@ module _ (text : List ℕ) (short : length text ≤ IMAGE_BYTES) (number : ℕ) 
       (step_fed s line here.0 ∙ e)
 
   line_wrong : (rest line behind : List ℕ) (s : Option Front) (w : Wrong) → Progress listing_reader text rest number s
-      → parts 10 rest ≡ line ∷ parts 10 behind → take s line ≡ Err w → IsFirstWrong text (number + 1) (fault_of w)
+      → parts 10 rest ≡ line ∷ parts 10 behind → take s line ≡ Err w → IsFirstWrongLine text (number + 1) (fault_of w)
   line_wrong rest line behind s w at cut e =
       let here = next_line rest line behind cut in
       from_wrong text (number + 1) (fault_of w)
@@ -44,7 +44,7 @@ module _ (text : List ℕ) (short : length text ≤ IMAGE_BYTES) (number : ℕ) 
 
   line_refused : (rest line behind : List ℕ) (s : Option Front) (w : Wrong)
       → Progress listing_reader text rest number s → parts 10 rest ≡ line ∷ parts 10 behind
-      → (w ≢ wrong.NoMemory → take s line ≡ Err w) → IsRefused text (refusal_of (number + 1) w)
+      → (w ≢ wrong.NoMemory → take s line ≡ Err w) → IsListingRefused text (refusal_of (number + 1) w)
   line_refused rest line behind s wrong.Form at cut e =
       line_wrong rest line behind s wrong.Form at cut (e (λ same. absurd cc))
   line_refused rest line behind s wrong.Name at cut e =
@@ -52,7 +52,7 @@ module _ (text : List ℕ) (short : length text ≤ IMAGE_BYTES) (number : ℕ) 
   line_refused rest line behind s wrong.NoMemory at cut e = tt
 
   end_refused : (rest : List ℕ) (s : Option Front) → Progress listing_reader text rest number s
-      → parts 10 rest ≡ rest ∷ [] → (length rest == 0 && is_whole s) ≡ false → IsFirstWrong text (number + 1) Form
+      → parts 10 rest ≡ rest ∷ [] → (length rest == 0 && is_whole s) ≡ false → IsFirstWrongLine text (number + 1) Form
   end_refused [] s at none missing =
       from_wrong text (number + 1) Form
       (wrong_end listing_reader text [] number s Form at refl short (one_missing s missing))

@@ -2,7 +2,7 @@ use Rattle.std.proofs.Common.{◌≡◌, not, sym, ap, ◌∙◌, subst, refl}
 use Rattle.std.proofs.lemmas.Result.{err_from_is_err_and}
 use Rattle.rt_grammar.specs.Tokens.{limit_if}
 use Rattle.rt_grammar.specs.Limits.{within}
-use Rattle.rt_parse.specs.Inside.Reading.{Gives, unless_limited, number_at}
+use Rattle.rt_parse.specs.Inside.Reading.{GivesRead, unless_limited, number_at}
 use Rattle.rt_parse.proofs.Numbers.{number_then, still_stops}
 use Rattle.rt_parse.proofs.tokens.number_within.Goals as goal
 
@@ -17,7 +17,7 @@ returns c =
     let n = c.in_ok-number.number in
     let judged : c.limit_if-limit.result ≡ within c.args.least c.args.greatest c.args.limit n.value =
     c.limit_if-limit.ensures ∙ ap (λ b. limit_if (not b) c.args.limit) c.is_within-passes.ensures in
-    subst (Gives (λ x. x) c.unless_limited.result)
+    subst (GivesRead (λ x. x) c.unless_limited.result)
     (ap (λ l. unless_limited n.at l n c.in_ok-number.tokens) judged
     ∙ sym (number_then (within c.args.least c.args.greatest c.args.limit) c.args.tokens
     ∙ rw c.in_ok-number.ensures refl))

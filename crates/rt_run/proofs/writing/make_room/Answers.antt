@@ -1,6 +1,6 @@
 use Rattle.std.proofs.Common.{subst, sym, lit≤}
 use Rattle.std.proofs.lemmas.Result.{on_ok_weaker}
-use Rattle.rt_run.specs.Inside.Writing.{HasRoom}
+use Rattle.rt_run.specs.Inside.Writing.{HasRoomForLine}
 use Rattle.rt_run.proofs.Taking.{wrote_out_on}
 use Rattle.rt_run.proofs.writing.make_room.Goals as goal
 
@@ -11,4 +11,4 @@ returns-clause-ok g c =
 
 pub returns-clause-room : goal.returns-clause-room
 returns-clause-room g c =
-    on_ok_weaker c.put_held.result (λ empty. subst HasRoom (sym empty) (lit≤ tt)) c.put_held.ensures.none_held
+    on_ok_weaker c.put_held.result (λ empty. subst HasRoomForLine (sym empty) (lit≤ tt)) c.put_held.ensures.none_held

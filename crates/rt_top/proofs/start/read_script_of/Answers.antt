@@ -1,6 +1,6 @@
 use Rattle.std.proofs.Common.{refl, subst, ◌∙◌}
 use Rattle.rt_ids.specs.declared.status.Status.TheVariants as status
-use Rattle.rt_script.specs.Text.{IsRefused, too_long}
+use Rattle.rt_script.specs.Text.{IsScriptRefused, too_long}
 use Rattle.rt_script.specs.declared.refusal.ScriptRefused.TheVariants as in_script
 use Rattle.rt_top.specs.Kinds as kind
 use Rattle.rt_top.specs.Reads.{given_by}
@@ -24,7 +24,8 @@ returns-clause-reads g c first app is named =
     let gave = given_by g.S.Source.past c.args.source.now c.read_within.new.source in
     let read = rw c.in-Ok-Some.field-0-is at c.in-Ok-Some.ensures in
     let refusal = c.in-Err-read_script.refusal in
-    let refused = subst (λ n. IsRefused n gave refusal) named (subst (λ m. IsRefused c.args.names.now m refusal)
+    let refused = subst (λ n. IsScriptRefused n gave refusal) named (subst
+    (λ m. IsScriptRefused c.args.names.now m refusal)
     (c.deref.ensures.value ∙ read.1) c.in-Err-read_script.ensures.refused) in
     refusal_reads kind.Script first gave _ read.0 read.0.1 status.Text (SaysScript refusal)
     (λ line says. (refl, refused_over app is refusal refused says)) c.refuse_script-in-Err-read_script.result

@@ -1,7 +1,7 @@
 use Rattle.std.proofs.Common.{refl, subst, ◌∙◌}
 use Rattle.rt_app.specs.View.{app_of}
 use Rattle.rt_ids.specs.declared.status.Status.TheVariants as status
-use Rattle.rt_rta.specs.Text.{IsRefused, too_long}
+use Rattle.rt_rta.specs.Text.{AreLimitsRefused, too_long}
 use Rattle.rt_rta.specs.declared.refusal.LimitsRefused.TheVariants as in_limits
 use Rattle.rt_top.specs.Kinds as kind
 use Rattle.rt_top.specs.SecondRefusal.{SaysLimits}
@@ -25,7 +25,7 @@ returns-clause-reads g c first is =
     let app = app_of c.args.app.now in
     let read = rw c.in-Ok-Some.field-0-is at c.in-Ok-Some.ensures in
     let refusal = c.in-Err-read_limits.refusal in
-    let refused = subst (λ m. IsRefused app m refusal) (c.deref.ensures.value ∙ read.1)
+    let refused = subst (λ m. AreLimitsRefused app m refusal) (c.deref.ensures.value ∙ read.1)
     c.in-Err-read_limits.ensures.refused in
     refusal_reads kind.Limits first _ _ read.0 read.0.1 status.Text (SaysLimits refusal)
     (λ line says. (refl, refused_over app is refusal refused says)) c.refuse_limits-in-Err-read_limits.result

@@ -1,6 +1,6 @@
 use Rattle.std.proofs.Common.{refl, subst, ◌∙◌}
 use Rattle.rt_ids.specs.declared.status.Status.TheVariants as status
-use Rattle.rt_load.specs.Reading.{IsRefused}
+use Rattle.rt_load.specs.Reading.{IsListingRefused}
 use Rattle.rt_load.specs.declared.refusal.LoadRefused.TheVariants as in_image
 use Rattle.rt_top.specs.Kinds as kind
 use Rattle.rt_top.specs.Verified.{SaysImage}
@@ -21,6 +21,7 @@ pub returns-clause-reads : goal.returns-clause-reads
 returns-clause-reads g c =
     let read = rw c.in-Ok-Some.field-0-is at c.in-Ok-Some.ensures in
     let refusal = c.in-Err-load.refusal in
-    let refused = subst (λ m. IsRefused m refusal) (c.deref.ensures.value ∙ read.1) c.in-Err-load.ensures.refused in
+    let refused = subst (λ m. IsListingRefused m refusal) (c.deref.ensures.value
+    ∙ read.1) c.in-Err-load.ensures.refused in
     refusal_reads kind.Listing _ _ _ read.0 read.0.1 status.Text (SaysImage refusal)
     (λ line says. (refl, (refusal, refused, says))) c.refuse_image-in-Err-load.result c.refuse_image-in-Err-load.ensures

@@ -1,6 +1,6 @@
 use Rattle.std.proofs.Common.{◌≡◌, ℕ, List, length, refl, sym, ap, subst, ◌∙◌}
 use Rattle.rt_stack.specs.Top.{with_top}
-use Rattle.rt_code.specs.Processor.{processor, Gives}
+use Rattle.rt_code.specs.Processor.{processor, HasEffect}
 use Rattle.rt_code.specs.Effect.{effect}
 use Rattle.rt_context.specs.declared.frames.Frames.TheInside.{Inside}
 use Rattle.rt_context.specs.Frames.{Frames}
@@ -40,7 +40,7 @@ returns-clause-effect c =
     let e = c.execute in
     let s = seen a.self.now c.self.inside c.self.invariant c.self.view_is in
     let P : List ℕ → List ℕ → Type 0 = λ old new.
-    Gives e.result (processor a.registers.now old a.cells.now) (processor e.new.registers new e.new.cells)
+    HasEffect e.result (processor a.registers.now old a.cells.now) (processor e.new.registers new e.new.cells)
     (effect a.instr a.time (processor a.registers.now old a.cells.now)) in
     let written_slots = sym (ap (λ (f : Frames). f.slots) (view (goal.at.returns-clause-effect c).After-execute)) in
     subst (λ new. P a.self.now.slots new) written_slots (subst (λ old. P old e.new.slots)
