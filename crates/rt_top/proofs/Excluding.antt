@@ -113,17 +113,17 @@ IsReplied status.Memory = ⊥
 IsReplied other = Unit {0}
 
 -- two statuses of what is due: commands reply with them, and they are one
-abbrev AreDue : Status → Status → Type 0
+abbrev pub AreDue : Status → Status → Type 0
 AreDue a b = IsReplied a × (a ≡ b)
 
-due_as : (told a b : Status) → IsReplied told → a ≡ told → b ≡ told → AreDue a b
+pub due_as : (told a b : Status) → IsReplied told → a ≡ told → b ≡ told → AreDue a b
 due_as told a b replied is other = (subst IsReplied (sym is) replied, is ∙ sym other)
 
 -- the status says whether this is so
-abbrev SaysWhether : Type 0 → Status → Type 0
+abbrev pub SaysWhether : Type 0 → Status → Type 0
 SaysWhether P ended = ((ended ≡ status.Done) × P) ⊎ ((ended ≡ status.No) × ¬ P)
 
-whether_once : (P : Type 0) (a b : Status) → SaysWhether P a → SaysWhether P b → AreDue a b
+pub whether_once : (P : Type 0) (a b : Status) → SaysWhether P a → SaysWhether P b → AreDue a b
 whether_once P a b (inl (is, p)) (inl (other, q)) = due_as status.Done a b tt is other
 whether_once P a b (inl (is, p)) (inr (other, not)) = absurd (not p)
 whether_once P a b (inr (is, not)) (inl (other, q)) = absurd (not q)

@@ -1,15 +1,15 @@
 -- The lemmas of this crate, a file each. The folders beside them have the proofs of functions, by file and name.
 mod Clauses
-mod Conducting
-mod Texts
-mod CommandWords
+pub mod Conducting
+pub mod Texts
+pub mod CommandWords
 mod Deciding
 mod Ending
-mod Excluding
-mod Using
-mod Giving
-mod Ran
-mod Auditing
+pub mod Excluding
+pub mod Using
+pub mod Giving
+pub mod Ran
+pub mod Auditing
 mod Happening
 mod Accounts
 mod Audits

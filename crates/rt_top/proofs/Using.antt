@@ -31,12 +31,12 @@ Did n No limit how = Unit {0}
 Did zero (Then gave Does more) limit how = Does limit how
 Did (suc n) (Then gave Does more) limit how = Did n more limit how
 
-unread_behind : (n : ℕ) (sources : Sources) → AreUnread sources → AreUnread (behind n sources)
+pub unread_behind : (n : ℕ) (sources : Sources) → AreUnread sources → AreUnread (behind n sources)
 unread_behind zero sources u = u
 unread_behind (suc n) No u = u
 unread_behind (suc n) (Then gave Does more) u = unread_behind n more u.1
 
-did_unread : (n : ℕ) (sources : Sources) → AreUnread sources → Did n sources 0 Unread
+pub did_unread : (n : ℕ) (sources : Sources) → AreUnread sources → Did n sources 0 Unread
 did_unread n No u = tt
 did_unread zero (Then gave Does more) u = u.0
 did_unread (suc n) (Then gave Does more) u = did_unread n more u.1

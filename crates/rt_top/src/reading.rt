@@ -36,7 +36,7 @@ pub(crate) struct Written {
 }
 
 /// Reads the bytes of a source, None where it has more than the limit. An error is the status to end with.
-pub(crate) fn read_within<S: Source>(
+pub fn read_within<S: Source>(
     alloc: Global,
     source: &mut S,
     limit: u32,
@@ -86,7 +86,7 @@ fn judged_app(alloc: Global, written: &Written) -> Result<App, Reply>
 }
 
 /// Reads an application, where it breaks no rule.
-pub(crate) fn read_accepted<S: Source>(alloc: Global, source: &mut S) -> Result<App, Reply>
+pub fn read_accepted<S: Source>(alloc: Global, source: &mut S) -> Result<App, Reply>
     ensures reads { let gave = given_by S.past source.old source.new in
         Reads kind.Application gave gave (HasUse S.past S.left S.faults source.old source.new)
         (λ app. IsApplication gave (resolved.app_of app)) result }

@@ -24,7 +24,7 @@ pub(crate) const NOT_OF_FORM: &[u8] = b"no\n";
 
 /// What a command replies. Nothing is written yet.
 #[derive(Drop)]
-pub(crate) enum Reply {
+pub enum Reply {
     /// A text, and the status once it is written.
     Write { status: Status, text: Vec<u8> },
     /// The program stops with this status, and writes nothing.
@@ -32,7 +32,7 @@ pub(crate) enum Reply {
 }
 
 /// The reply of a text, where no memory was wanted for it.
-pub(crate) fn reply_of_text<E: Drop>(status: Status, made: Result<Vec<u8>, E>) -> Reply
+pub fn reply_of_text<E: Drop>(status: Status, made: Result<Vec<u8>, E>) -> Reply
     ensures text { IfOk made (λ text. result ≡ Reply.Write status text) }
     ensures memory { OnErr made (result ≡ Reply.Stop Status.Memory) }
 {
@@ -57,13 +57,7 @@ pub(crate) fn refuse(alloc: Global, fault: Fault) -> Reply
 }
 
 /// The reply of a line that has a number between two texts.
-pub(crate) fn reply_number(
-    alloc: Global,
-    status: Status,
-    front: &[u8],
-    number: u64,
-    back: &[u8],
-) -> Reply
+pub fn reply_number(alloc: Global, status: Status, front: &[u8], number: u64, back: &[u8]) -> Reply
     ensures { Tells status (λ bytes. bytes ≡ front.now ++ decimal number ++ back.now) result }
 {
     reply_of_text(status, numbered_line(alloc, front, number, back))
@@ -127,7 +121,7 @@ fn script_line(alloc: Global, line: u32, words: &[u8]) -> Reply
 }
 
 /// The reply of a refusal of a trace.
-pub(crate) fn refuse_trace(alloc: Global, refusal: TraceRefused) -> Reply
+pub fn refuse_trace(alloc: Global, refusal: TraceRefused) -> Reply
     ensures { Tells status.Text (SaysTrace refusal) result }
 {
     match refusal {
@@ -188,7 +182,7 @@ fn image_line(alloc: Global, line: u64, words: &[u8]) -> Reply
 }
 
 /// Writes a reply, and answers the status that the program ends with.
-pub(crate) fn finish<K: Sink>(out: &mut K, reply: &Reply) -> Status
+pub fn finish<K: Sink>(out: &mut K, reply: &Reply) -> Status
     ensures finished { Finishes (K.taken out.old) (K.taken out.new) (K.faults out.old) (K.faults out.new)
         reply.now result }
     ensures heard { (K.faults out.new ≡ K.faults out.old) ⊎ (result ≡ Status.Write) }
@@ -200,7 +194,7 @@ pub(crate) fn finish<K: Sink>(out: &mut K, reply: &Reply) -> Status
 }
 
 /// Writes one text, with its status.
-pub(crate) fn answer<K: Sink>(out: &mut K, bytes: &[u8], status: Status) -> Status
+pub fn answer<K: Sink>(out: &mut K, bytes: &[u8], status: Status) -> Status
     ensures wrote { Wrote (K.taken out.old) (K.taken out.new) (K.faults out.old) (K.faults out.new)
         status result bytes.now }
     ensures heard { (K.faults out.new ≡ K.faults out.old) ⊎ (result ≡ Status.Write) }

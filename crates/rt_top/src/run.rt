@@ -70,7 +70,7 @@ fn run_script<K: Sink>(alloc: Global, core: &mut Core, script: &Script, out: &mu
 }
 
 /// The listing of an image, with the line that comes before a trace.
-pub(crate) fn heading(alloc: Global, image: &Image) -> Result<Vec<u8>, NoMemory>
+pub fn heading(alloc: Global, image: &Image) -> Result<Vec<u8>, NoMemory>
     ensures { IfOk result (λ text. IsHeading image.now text.items) }
 {
     let mut text = listing(alloc, image)?;
