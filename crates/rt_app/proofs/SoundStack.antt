@@ -24,7 +24,7 @@ use Rattle.rt_ids.proofs.Greatest.{greatest_within}
 use Rattle.rt_app.proofs.SoundCeilings.{handled_in_range}
 
 mutual
-  few_variables_in : (s : Statement) → variables_in s ≤ statements_in s
+  pub few_variables_in : (s : Statement) → variables_in s ≤ statements_in s
   few_variables_in (Bind x v) = omega arith
   few_variables_in (Assign x e at) = omega arith
   few_variables_in (Branch e first second) = omega (arith, few_variables first, few_variables second)
@@ -34,7 +34,7 @@ mutual
   few_variables_in (Pend i) = omega arith
   few_variables_in (Spawns s) = omega arith
 
-  few_variables : (b : Block) → variables b ≤ statements_of b
+  pub few_variables : (b : Block) → variables b ≤ statements_of b
   few_variables Empty = omega arith
   few_variables (Then s rest) = omega (arith, few_variables_in s, few_variables rest)
 
@@ -53,7 +53,7 @@ mutual
   few_locks Empty = omega arith
   few_locks (Then s rest) = omega (arith, few_locks_in s, few_locks rest)
 
-few_spawn_words : (ss : List Spawn) → greatest (map spawn_words ss) ≤ 24
+pub few_spawn_words : (ss : List Spawn) → greatest (map spawn_words ss) ≤ 24
 few_spawn_words [] = omega arith
 few_spawn_words (Soon task args at ∷ ss) = omega (arith, few_spawn_words ss)
 few_spawn_words (After word delay task args at ∷ ss) = omega (arith, few_spawn_words ss)

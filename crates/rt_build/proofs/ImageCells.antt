@@ -15,7 +15,7 @@ use Rattle.rt_lemmas.proofs.Bools.{true_and_false, left_of_none, right_of_none}
 use Rattle.rt_lemmas.proofs.Lists.{all_map, mapped_at}
 use Rattle.rt_lemmas.proofs.Membership.{all_append, any_contained}
 use Rattle.rt_lemmas.proofs.Indices.{there_is}
-use Rattle.rt_ids.specs.Lists.{AreDifferent, then_from}
+use Rattle.rt_ids.specs.Lists.{then_from}
 use Rattle.rt_ids.specs.Word.{IsName}
 use Rattle.rt_ids.specs.declared.cell.CellRow.{CellRow}
 use Rattle.rt_app.specs.declared.app.Shared.{Shared}
@@ -28,17 +28,16 @@ use Rattle.rt_app.specs.Layout.{Cell, resource_cells, local_cells, free_cells, p
 use Rattle.rt_app.specs.Layout.{ready_room, timer_cell, timer_column, timer_cells, memory, layout, row_of}
 use Rattle.rt_app.specs.Level.{is_software, levels, armed_messages}
 use Rattle.rt_app.specs.Names.{HasNames}
-use Rattle.rt_app.proofs.Different.{different_none}
 use Rattle.rt_app.proofs.Laid.{resource_row, on_ready, on_queues, on_locals}
 use Rattle.rt_code.specs.Image.{Image}
 use Rattle.rt_code.specs.Cells.{cell_named, resource_cell}
-use Rattle.rt_code.specs.Listable.{blanks, IsWord, IsPlain}
-use Rattle.rt_code.proofs.Writable.{names_writable}
+use Rattle.rt_code.specs.Listable.{blanks, IsWord}
+use Rattle.rt_code.proofs.Writable.{plain}
 use Rattle.rt_layout.proofs.Few.{cells_are_few}
 use Rattle.rt_build.specs.Entries.{Entries}
 use Rattle.rt_build.specs.Image.{HasTables}
 
-not_so : (b : Bool) → (b ≡ true → ⊥) → b ≡ false
+pub not_so : (b : Bool) → (b ≡ true → ⊥) → b ≡ false
 not_so true never = absurd (never refl)
 not_so false never = refl
 
@@ -80,25 +79,6 @@ module _ (app : App) (at : Entries) (img : Image) (tables : HasTables app at img
       ap (λ o. then_from o (cell_named img.cells)) named
       ∙ (ap (λ cells. cell_named cells one.0.name) tables.cells
       ∙ first_named (layout app).cells r (record { name = one.0.name; first = one.0.first }) row alone)
-
--- a name is a word
-plain : (name : List ℕ) → IsName name → IsPlain name
-plain name named =
-    let alone : AreDifferent (name ∷ []) =
-    λ i j x first second. (let low = slice_get_within (name ∷ []) i x first in let low_too =
-    slice_get_within (name ∷ []) j x second in omega arith) in
-    (names_writable (record { irqs = []; tasks = []; shared = name ∷ [] })
-    (record {
-      irqs = tt;
-      tasks = tt;
-      shared = (named, tt);
-      irqs_differ = different_none;
-      tasks_differ = different_none;
-      shared_differ = alone;
-      few_irqs = omega arith;
-      few_tasks = omega arith;
-      few_shared = omega arith;
-    })).shared.0
 
 not_blank : (b : ℕ) → list_any (λ y. y == b) blanks ≡ false → ¬ Contains blanks b
 not_blank b other is = true_and_false (list_any (λ y. y == b) blanks) (any_contained b blanks is) other

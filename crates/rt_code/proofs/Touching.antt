@@ -17,6 +17,7 @@ use Rattle.rt_code.specs.declared.instr.Instr.TheVariants as instr
 use Rattle.rt_code.specs.declared.processor.Request.TheVariants as request
 use Rattle.rt_code.specs.declared.processor.Trap.TheVariants as trap
 use Rattle.rt_code.proofs.Done.{tested}
+use Rattle.rt_lemmas.proofs.Bools.{and_left}
 
 -- a cell that is not written
 pub slice_get-set_other : (xs : List ℕ) (c v k : ℕ) → k ≢ c → slice_get (slice_set xs c v) k ≡ slice_get xs k
@@ -30,16 +31,12 @@ slice_get-set_other (x ∷ xs) (suc c) v (suc k) h = slice_get-set_other xs c v 
 pub index_same : (xs ys : List ℕ) (i : ℕ) → slice_get xs i ≡ slice_get ys i → slice_index xs i ≡ slice_index ys i
 index_same xs ys i h = sym (unwrap_or-slice_get xs i 0) ∙ ap (λ o. unwrap_or o 0) h ∙ unwrap_or-slice_get ys i 0
 
-first_test : (a b : Bool) → (a && b) ≡ true → a ≡ true
-first_test true b h = refl
-first_test false b h = h
-
 -- the first slot that is named is there
 slot_there : (p : Processor) (s : ℕ) (rest : List ℕ) → are_there (s ∷ rest) p.slots ≡ true → slice_get p.slots s
     ≡ Some (slot p s)
 slot_there p s rest h =
     slice_get-get_or p.slots s 0 (ltb-true s (length p.slots)
-    (first_test (nat_lt s (length p.slots)) (are_there rest p.slots) h))
+    (and_left (nat_lt s (length p.slots)) (are_there rest p.slots) h))
 
 -- the cells, and the words of the frame, after an effect
 abbrev pub cells_after : Effect → List ℕ → List ℕ

@@ -28,7 +28,7 @@ all_inside (b ∷ bytes) h = let parts = and_parts (is_name_byte b) (list_all is
     (inside b parts.0, all_inside bytes parts.1)
 
 -- a letter may also stand later in a name
-letter_later : (b : ℕ) → is_letter b ≡ true → is_name_byte b ≡ true
+pub letter_later : (b : ℕ) → is_letter b ≡ true → is_name_byte b ≡ true
 letter_later b h = rw h refl
 
 name_inside : (text : List ℕ) → is_identifier text ≡ true → AllByRecursion IsInside text
@@ -36,7 +36,7 @@ name_inside [] h = tt
 name_inside (b ∷ text) h = let parts = and_parts (is_letter b) (list_all is_name_byte text) h in
     (inside b (letter_later b parts.0), all_inside text parts.1)
 
-plain : (text : List ℕ) → IsName text → IsPlain text
+pub plain : (text : List ℕ) → IsName text → IsPlain text
 plain text named = record {
   word = all_weaker IsInside (λ b. ¬ Contains blanks b) (λ b h. h.0) text (name_inside text named.identifier);
   plain = all_weaker IsInside (λ b. b ≢ 46) (λ b h. h.1) text (name_inside text named.identifier);

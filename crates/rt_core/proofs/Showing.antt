@@ -18,7 +18,7 @@ use Rattle.rt_core.proofs.Keeping.{IsOwn, step_is_own}
 -- labels that show no event, and are no steps
 record IsNone (own : List Label) : Type 0 where
   events_are : (rest : List Label) → events_of (own ++ rest) ≡ events_of rest
-  steps_are : (rest : List Label) → steps_of (own ++ rest) ≡ steps_of rest
+  pub steps_are : (rest : List Label) → steps_of (own ++ rest) ≡ steps_of rest
   silent : (rest : List Label) → ShowsNoEvent rest → ShowsNoEvent (own ++ rest)
 
 -- those of a tick's alarm
@@ -41,7 +41,7 @@ events_are img c (Tick ∷ events) =
     ap (λ es. Tick ∷ es) ((ticked c).events_are (labels img (tick c).0 events) ∙ events_are img (tick c).0 events)
 events_are img c (Step ∷ events) = ap (λ es. Step ∷ es) (events_are img (step img c).0 events)
 
-steps_are : (img : Image) (c : Core) (events : List Event) → steps_of (labels img c events) ≡ steps events
+pub steps_are : (img : Image) (c : Core) (events : List Event) → steps_of (labels img c events) ≡ steps events
 unfolding labels happen
 steps_are img c [] = refl
 steps_are img c (Arrive irq ∷ events) = steps_are img (core_after_pend c irq) events

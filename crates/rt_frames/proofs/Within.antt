@@ -6,7 +6,7 @@ use Rattle.std.proofs.lemmas.List.{map-append}
 use Rattle.rt_ids.specs.declared.ids.BodyId.{BodyId}
 use Rattle.rt_ids.specs.declared.ids.BodyId.TheVariants as body
 use Rattle.rt_app.specs.declared.bounds.BodyBound.{BodyBound}
-use Rattle.rt_app.specs.Tree.{Spawn, Soon, After, Cancel, Move, Statement, Bind, Assign, Branch, Repeat, Locked, Emit}
+use Rattle.rt_app.specs.Tree.{Statement, Bind, Assign, Branch, Repeat, Locked, Emit}
 use Rattle.rt_app.specs.Tree.{Pend, Spawns, Block, Empty, Then, Body, Task, App}
 use Rattle.rt_app.specs.Spawned.{spawns}
 use Rattle.rt_app.specs.Bodies.{Member, members, thread_members, task_members}
@@ -18,17 +18,18 @@ use Rattle.rt_app.specs.Waiting.{waiting_bound}
 use Rattle.rt_ids.specs.Exception.{entry_words}
 use Rattle.rt_ids.specs.Lists.{greatest}
 use Rattle.rt_app.specs.Level.{is_of_level}
-use Rattle.rt_app.specs.Frame.{block_depth, has_loop, statement_locks, locks, spawn_words, frame_words}
+use Rattle.rt_app.specs.Frame.{block_depth, has_loop, statement_locks, locks, frame_words}
 use Rattle.rt_app.specs.Frame.{expression_words, first_expression_slot, first_lock_slot, first_spawn_slot}
 use Rattle.rt_frames.specs.declared.frame.Parts.{Parts}
 use Rattle.rt_frames.specs.Inside.FrameParts.{block_parts}
-use Rattle.rt_app.specs.Variables.{variables_in, variables}
-use Rattle.rt_app.specs.Limits.{statements_in, statements_of, inner_blocks, blocks_of, KeepsBodyLimits}
+use Rattle.rt_app.specs.Variables.{variables}
+use Rattle.rt_app.specs.Limits.{inner_blocks, blocks_of, KeepsBodyLimits}
 use Rattle.rt_app.specs.Limits.{KeepsThreadLimits, KeepsTaskLimits, KeepsLimits}
 use Rattle.rt_app.specs.Stack.{is_bound_at, frames_of, is_timed_at, has_handler, need, priority_bytes, bytes_below}
 use Rattle.rt_app.specs.Stack.{thread_frame, thread_words, stack_bytes, handler_priorities}
 use Rattle.rt_frames.specs.Inside.Saturated.{saturated_number}
 use Rattle.rt_frames.specs.Inside.Bounded.{member_bound}
+use Rattle.rt_app.proofs.SoundStack.{few_variables, few_spawn_words}
 
 -- each lock is a block inside another
 mutual
@@ -46,46 +47,20 @@ mutual
   locks_few Empty = omega arith
   locks_few (Then s rest) = omega (arith, statement_locks_few s, locks_few rest)
 
-word_few : (s : Spawn) → spawn_words s ≤ 24
-word_few (Soon task args at) = omega arith
-word_few (After word delay task args at) = omega arith
-word_few (Cancel word task handle at) = omega arith
-word_few (Move word delay task handle at) = omega arith
-
-words_few : (ss : List Spawn) → greatest (map spawn_words ss) ≤ 24
-words_few [] = omega arith
-words_few (s ∷ ss) = omega (arith, word_few s, words_few ss)
-
 choice_few : (loops : Bool) (d : ℕ) → max d (cond loops 1 0) ≤ d + 1
 choice_few true d = omega arith
 choice_few false d = omega arith
-
--- a body has no more variables of its own than it has statements
-mutual
-  variables_in_few : (s : Statement) → variables_in s ≤ statements_in s
-  variables_in_few (Bind x v) = omega arith
-  variables_in_few (Assign x e at) = omega arith
-  variables_in_few (Branch e a b) = omega (arith, variables_few a, variables_few b)
-  variables_in_few (Repeat x first last turn) = omega (arith, variables_few turn)
-  variables_in_few (Locked r inner at) = omega (arith, variables_few inner)
-  variables_in_few (Emit e) = omega arith
-  variables_in_few (Pend i) = omega arith
-  variables_in_few (Spawns s) = omega arith
-
-  variables_few : (b : Block) → variables b ≤ statements_of b
-  variables_few Empty = omega arith
-  variables_few (Then s rest) = omega (arith, variables_in_few s, variables_few rest)
 
 pub frame_few : (args : ℕ) (b : Body) → KeepsBodyLimits b → args ≤ 4 → frame_words args b ≤ 1100
 frame_few args b h few =
     omega (
       arith,
-      variables_few b.block,
+      few_variables b.block,
       h.statements,
       h.nesting,
       h.depth,
       locks_few b.block,
-      words_few (spawns b.block),
+      few_spawn_words (spawns b.block),
       choice_few (has_loop b.block) (block_depth b.block),
     )
 
@@ -217,7 +192,7 @@ pub record FewSlots (b : Body) : Type 0 where
 
 pub slots_few : (b : Body) → KeepsBodyLimits b → FewSlots b
 slots_few b h = record {
-  variables = omega (arith, variables_few b.block, h.statements);
+  variables = omega (arith, few_variables b.block, h.statements);
   depth = h.depth;
   locks = omega (arith, locks_few b.block, h.nesting);
 }

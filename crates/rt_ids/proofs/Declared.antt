@@ -23,7 +23,7 @@ use Rattle.rt_ids.proofs.Lists.{list_any-map, position-map, find_by_position, is
 use Rattle.rt_ids.proofs.Lists.{none_from_is_some, all_push, index_pushed, index_taken, or_last, position_pushed}
 
 -- a name that no test finds stands at no index
-nowhere : (names : List (List ℕ)) (name : List ℕ) → list_any (bytes_eq name) names ≡ false → (i : ℕ) → slice_get names i
+pub nowhere : (names : List (List ℕ)) (name : List ℕ) → list_any (bytes_eq name) names ≡ false → (i : ℕ) → slice_get names i
     ≡ Some name → ⊥
 nowhere [] name none i at = none-some name at
 nowhere (x ∷ xs) name none zero at =
@@ -45,7 +45,7 @@ nowhere_found (x ∷ xs) name none = by (nowhere_found xs name (λ i at. none (s
     by rest true same = absurd (none 0 (ap Some (sym ((bytes_eq-Decides name x).0 same))))
     by rest false other = rest
 
-differ_pushed : (names : List (List ℕ)) (name : List ℕ) → list_any (bytes_eq name) names ≡ false → AreDifferent names
+pub differ_pushed : (names : List (List ℕ)) (name : List ℕ) → list_any (bytes_eq name) names ≡ false → AreDifferent names
     → AreDifferent (names ++ name ∷ [])
 differ_pushed names name none differ i j x a b =
     elim (index_pushed names name i x a) [

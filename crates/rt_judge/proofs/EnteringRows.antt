@@ -8,13 +8,13 @@ use Rattle.rt_ids.specs.declared.ids.Section.{Section}
 use Rattle.rt_judge.specs.Inside.Entering.{has_row, AreApart, with_entering, row_with_entering}
 use Rattle.rt_judge.specs.Inside.Entering.{rows_with_entering}
 use Rattle.rt_judge.specs.declared.entering.Entering.{Entering}
-use Rattle.rt_judge.proofs.SameSections.{same_is, is_same}
+use Rattle.rt_code.proofs.Mine.{one_section, same_section}
 
 apart_same : (x y : Section) → is_same_section x y ≡ false → is_same_section y x ≡ false
 apart_same x y apart = elim (is_same_section y x) as (λ b. is_same_section y x ≡ b → b ≡ false) [
-  | true ↦ λ e. let one : y ≡ x = same_is y x e in
+  | true ↦ λ e. let one : y ≡ x = one_section y x e in
       absurd (true_and_false (is_same_section x y)
-      (subst (λ z. is_same_section x z ≡ true) (sym one) (is_same x)) apart)
+      (subst (λ z. is_same_section x z ≡ true) (sym one) (same_section x)) apart)
   | false ↦ λ e. refl
 ] refl
 
@@ -94,7 +94,7 @@ module _ (e : Entering) where
       let is : is_same_section first.section e.section ≡ true =
       subst (λ (r : Entering). is_same_section r.section e.section ≡ true) (sym one) same in
       let none : has_row rows e.section ≡ false =
-      subst (λ x. has_row rows x ≡ false) (same_is first.section e.section is) all.0 in
+      subst (λ x. has_row rows x ≡ false) (one_section first.section e.section is) all.0 in
       ap (λ (r : Entering). with_entering e r ∷ rows) (sym one)
       ∙ ap (λ (r : Entering). r ∷ rows) (sym (added_here first is))
       ∙ ap (λ (rs : List Entering). row_with_entering e first ∷ rs) (sym (map_apart rows none))
@@ -111,9 +111,9 @@ module _ (e : Entering) where
           (λ b. is_same_section first.section e.section ≡ b → b ≡ false) [
             | true ↦ λ is.
                 let one : row.section ≡ first.section =
-                same_is row.section e.section same ∙ sym (same_is first.section e.section is) in
+                one_section row.section e.section same ∙ sym (one_section first.section e.section is) in
                 absurd (true_and_false (has_row rows first.section) (has_at rows first.section i row at
-                (subst (λ x. is_same_section row.section x ≡ true) one (is_same row.section))) none)
+                (subst (λ x. is_same_section row.section x ≡ true) one (same_section row.section))) none)
             | false ↦ λ is. refl
           ] refl
 

@@ -25,10 +25,10 @@ use Rattle.rt_judge.specs.Inside.Entering.{EntersNone, AreApart}
 use Rattle.rt_judge.specs.Inside.Values.{outside_value}
 use Rattle.rt_judge.specs.declared.entering.Entering.{Entering}
 use Rattle.rt_judge.specs.declared.entering.Sections.{Sections}
-use Rattle.rt_judge.proofs.SameSections.{same_is, is_same}
 use Rattle.rt_judge.proofs.EnteringRows.{added_here, added_apart, any_added, apart_with}
 use Rattle.rt_judge.proofs.Lines.{instr_in, section_in, told_line, note_in, line_of}
 use Rattle.rt_judge.proofs.Seen.{tells_more, any_inside, inside_any, all_front}
+use Rattle.rt_code.proofs.Mine.{one_section, same_section}
 
 is_not : (b : Bool) → ¬ (b ≡ true) → not b ≡ true
 is_not true h = absurd (h refl)
@@ -229,10 +229,10 @@ module _ (img : Image) (ps : List Point) (p : Point) (i : Instr) (x : Section) (
         → IsEntering img (ps ++ p ∷ []) (row_with_entering e row).section (row_with_entering e row)
     step_row row is = ⊎_elim
         (λ same. subst (λ r. IsEntering img (ps ++ p ∷ []) r.section r) (sym (added_here e row same))
-        (same_row row (same_is row.section e.section same ∙ of) is))
+        (same_row row (one_section row.section e.section same ∙ of) is))
         (λ apart. subst (λ r. IsEntering img (ps ++ p ∷ []) r.section r) (sym (added_apart e row apart))
         (other_row row (λ same. absurd (let both : is_same_section row.section e.section ≡ true =
-        subst (λ y. is_same_section row.section y ≡ true) (same ∙ sym of) (is_same row.section) in cc)) is))
+        subst (λ y. is_same_section row.section y ≡ true) (same ∙ sym of) (same_section row.section) in cc)) is))
         (either (is_same_section row.section e.section))
       where
         either : (b : Bool) → (b ≡ true) ⊎ (b ≡ false)
@@ -252,7 +252,7 @@ module _ (img : Image) (ps : List Point) (p : Point) (i : Instr) (x : Section) (
         let parts = both_of_none (is_same_section row.section e.section)
         (list_any (λ r. is_same_section r.section e.section) rows) none in (
           other_row row (λ same. absurd (let yes : is_same_section row.section e.section ≡ true =
-              subst (λ y. is_same_section row.section y ≡ true) (same ∙ sym of) (is_same row.section) in
+              subst (λ y. is_same_section row.section y ≡ true) (same ∙ sym of) (same_section row.section) in
               let no = parts.0 in cc)) all.0,
           rows_apart rows parts.1 all.1,
         )
@@ -303,7 +303,7 @@ module _ (img : Image) (ps : List Point) (p : Point) (i : Instr) (x : Section) (
                 (tells.each y q j before))
                 (λ _ _ same. any_right (λ row. is_same_section row.section y) s.rows.items (e ∷ [])
                 (or_left (is_same_section e.section y) false
-                (subst (λ z. is_same_section e.section z ≡ true) (of ∙ same) (is_same e.section))))
+                (subst (λ z. is_same_section e.section z ≡ true) (of ∙ same) (same_section e.section))))
           ] refl
 
       pub takes_enter : TellsOfSections img (ps ++ p ∷ []) t

@@ -11,7 +11,7 @@ use Rattle.rt_ids.specs.declared.ids.Section.{Section}
 use Rattle.rt_points.specs.Point.{Point, sections}
 use Rattle.rt_points.specs.declared.point.Opened.{Opened}
 use Rattle.rt_judge.specs.Inside.Kept.{TellsOfAll}
-use Rattle.rt_judge.proofs.SameSections.{same_is, is_same}
+use Rattle.rt_code.proofs.Mine.{one_section, same_section}
 
 pub all_front : {A : Type 0} (P : A → Type 0) (xs : List A) (x : A) → AllByRecursion P (xs ++ x ∷ [])
     → AllByRecursion P xs
@@ -36,7 +36,7 @@ pub any_inside : (x : Section) (inside : List Opened) → list_any (λ o. is_sam
 any_inside x [] is = absurd cc
 any_inside x (o ∷ outer) is = elim (or_cases (is_same_section o.section x)
     (list_any (λ o. is_same_section o.section x) outer) is) [
-      | inl here ↦ (0, ap Some (same_is o.section x here))
+      | inl here ↦ (0, ap Some (one_section o.section x here))
       | inr there ↦ let rest = any_inside x outer there in (suc rest.0, rest.1)
     ]
 
@@ -45,7 +45,7 @@ pub inside_any : (x : Section) (inside : List Opened) → IsIn (sections inside)
 inside_any x [] (i, at) = absurd (none-some x at)
 inside_any x (o ∷ outer) (zero, at) =
     or_left (is_same_section o.section x) (list_any (λ o. is_same_section o.section x) outer)
-    (subst (λ y. is_same_section o.section y ≡ true) (same_Some o.section x at) (is_same o.section))
+    (subst (λ y. is_same_section o.section y ≡ true) (same_Some o.section x at) (same_section o.section))
 inside_any x (o ∷ outer) (suc i, at) =
     or_right (is_same_section o.section x) (list_any (λ o. is_same_section o.section x) outer)
     (inside_any x outer (i, at))

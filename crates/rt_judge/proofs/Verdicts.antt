@@ -33,7 +33,7 @@ use Rattle.rt_judge.specs.Inside.Looks.{Looked}
 use Rattle.rt_judge.specs.declared.entering.Entering.{Entering}
 use Rattle.rt_judge.specs.declared.touching.Touching.{Touching}
 use Rattle.rt_judge.specs.declared.findings.Findings.{Findings}
-use Rattle.rt_judge.proofs.SameSections.{same_is}
+use Rattle.rt_code.proofs.Mine.{one_section}
 
 -- rules by their numbers
 module _ (img : Image) (n : ℕ) (a : 1 < n → NestsInOneWay img) (b : 2 < n → HasRightNumbers img)
@@ -150,7 +150,7 @@ module _ (img : Image) (f : Findings) (looked : Looked img f) where
         others = λ q j outside other.
             let row = any_one (λ (r : Entering). is_same_section r.section x) f.sections.rows.items
             (looked.finds.sections.each x p i (enterer p i x stands)) in
-            let same : row.1.section ≡ x = same_is row.1.section x row.3 in
+            let same : row.1.section ≡ x = one_section row.1.section x row.3 in
             let is = all_at (λ (r : Entering). IsEntering img looked.points r.section r) f.sections.rows.items row.0
             row.1
             looked.finds.sections.rows row.2 in

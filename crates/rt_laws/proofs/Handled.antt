@@ -3,7 +3,7 @@ use Rattle.std.proofs.Common.{◌≡◌, ℕ, zero, suc, ◌+◌, ◌<◌, ◌�
 use Rattle.std.proofs.Common.{take, find, slice_get, Option, Some, None, refl, sym, ap, subst, ◌∙◌, append-nil, arith}
 use Rattle.std.specs.List.{AllByRecursion, position_or_len, remove}
 use Rattle.std.proofs.lemmas.Option.{same_Some, none-some}
-use Rattle.rt_lemmas.proofs.Membership.{all_append, all_at}
+use Rattle.rt_lemmas.proofs.Membership.{all_append, all_at, all_weaker}
 use Rattle.rt_lemmas.proofs.Lists.{find_has}
 use Rattle.rt_ids.specs.Content.{Message, Armed, Timed, has_handle, message_of_handle, without_handle}
 use Rattle.rt_ids.specs.Content.{postponed_message, with_armed, with_moved}
@@ -77,11 +77,6 @@ others_apart P (x ∷ xs) a apart is = go (P x) is (others_apart P xs a apart.1)
     go false same later =
         subst (λ (n : ℕ). AllByRecursion (OtherThan a.handle) (remove (x ∷ xs) n)) (one_more (position_or_len P xs))
         (find_has (λ b. ¬ (x.handle ≡ b.handle)) P xs a apart.0 same, later same)
-
-all_weaker : {X : Type 0} (P Q : X → Type 0) → ((x : X) → P x → Q x) → (xs : List X) → AllByRecursion P xs
-    → AllByRecursion Q xs
-all_weaker P Q weaker [] all = tt
-all_weaker P Q weaker (x ∷ xs) all = (weaker x all.0, all_weaker P Q weaker xs all.1)
 
 -- a message more has the next handle
 pub handled_armed : (i : ℕ) (m : Message) (t : Timed) → Handled t → Handled (with_armed i m t)

@@ -1,11 +1,11 @@
 -- An application within the limits has few cells.
 use Rattle.std.proofs.Common.{◌≡◌, ℕ, zero, suc, ◌+◌, ◌*◌, ◌<◌, ◌≤◌, ◌==◌, Bool, true, false, List, [], ◌∷◌, ◌++◌}
-use Rattle.std.proofs.Common.{length, map, flat_map, filter, Option, Some, None, append-nil, ap, ◌∙◌, arith}
+use Rattle.std.proofs.Common.{length, flat_map, filter, Option, Some, None, append-nil, ap, ◌∙◌, arith}
 use Rattle.std.proofs.Common.{if◌then◌else◌}
 use Rattle.std.specs.Prelude.{◌&&◌, nat_lt, sum_by, cond}
 use Rattle.std.specs.List.{AllByRecursion, range_with_len, list_any}
 use Rattle.std.proofs.lemmas.Bool.Decides.{nat_tests}
-use Rattle.std.proofs.lemmas.List.{length-append, length-map}
+use Rattle.std.proofs.lemmas.List.{length-append}
 use Rattle.std.proofs.lemmas.List.Concat.{flat_map-append}
 use Rattle.std.proofs.lemmas.List.Sums.{sum_by-cons}
 use Rattle.std.proofs.lemmas.List.FromFn.{length-range_with_len}
@@ -19,9 +19,7 @@ use Rattle.rt_app.specs.Layout.{Cell, free_cells, place_cells, task_cells, ready
 use Rattle.rt_app.specs.Layout.{resource_cells, local_cells, memory}
 use Rattle.rt_app.proofs.Laid.{length-resource_cells, length-local_cells, on_ready, on_queues, on_locals}
 use Rattle.rt_app.proofs.LaidTimer.{length-timer_queue_cells}
-
-many : {X : Type 0} (f : ℕ → X) (n : ℕ) → length (map f (range_with_len 0 n)) ≡ n
-many f n = length-map (range_with_len 0 n) f ∙ length-range_with_len 0 n
+use Rattle.rt_app.proofs.LaidQueues.{many}
 
 few_inputs : (n : ℕ) (t : Task) (ks : List ℕ) → t.args ≤ 4 → length (flat_map (place_cells n t) ks) ≤ 4 * length ks
 few_inputs n t [] few = omega arith

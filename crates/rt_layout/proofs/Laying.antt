@@ -28,6 +28,7 @@ use Rattle.rt_ids.specs.declared.cell.CellRow.{CellRow}
 use Rattle.rt_layout.specs.Inside.Rows.{row, task_front, resource_row, local_row, free_rows, input_rows, queue_rows}
 use Rattle.rt_layout.specs.Inside.Rows.{task_rows, ready_front, ready_rows, zero_rows, timed_rows}
 use Rattle.rt_layout.proofs.Growing.{free_from, inputs_from, rows_of_levels, ready_from}
+use Rattle.rt_frames.proofs.Below.{below_none}
 
 resource_rows_are : (r : ℕ) (ss : List Shared) → map row_of (resource_cells r ss) ≡ map resource_row ss
 resource_rows_are r [] = refl
@@ -205,17 +206,13 @@ pub those_next : (test : ℕ → Bool) (n : ℕ) → those_below test (suc n) �
 unfolding those_below
 those_next test n = refl
 
-pub those_none : (test : ℕ → Bool) → those_below test 0 ≡ []
-unfolding those_below
-those_none test = refl
-
 pub those_less : (test : ℕ → Bool) (n : ℕ) → AllByRecursion (λ q. q < n) (those_below test n)
 those_less test n = those_all (λ q. q < n) test n (λ q below is. below)
 
 filter_below : (test : ℕ → Bool) (n p : ℕ) → p ≤ n → filter (λ q. nat_lt q p) (those_below test n) ≡ those_below test p
 filter_below test zero p less =
     let e : p ≡ 0 = omega arith in
-    ap (filter (λ q. nat_lt q p)) (those_none test) ∙ sym (ap (those_below test) e ∙ those_none test)
+    ap (filter (λ q. nat_lt q p)) (below_none test) ∙ sym (ap (those_below test) e ∙ below_none test)
 filter_below test (suc n) p less = elim (cases_lt n p) [
   | inl below ↦ (let e : suc n ≡ p = omega arith in subst (λ m. filter (λ q. nat_lt q p) (those_below test m)
       ≡ those_below test p) (sym e) (all_pass p (those_below test p) (those_less test p)))
@@ -243,7 +240,7 @@ ready_push room at p (q ∷ ps) =
 map_ready : (test : ℕ → Bool) (room g : ℕ → ℕ) (at n : ℕ)
     → ((p : ℕ) → p < n → g p ≡ at + length (rows_of_levels room (those_below test p)))
     → map g (those_below test n) ≡ ready_from room at (those_below test n)
-map_ready test room g at zero is = ap (map g) (those_none test) ∙ sym (ap (ready_from room at) (those_none test))
+map_ready test room g at zero is = ap (map g) (below_none test) ∙ sym (ap (ready_from room at) (below_none test))
 map_ready test room g at (suc n) is =
     ap (map g) (those_next test n)
     ∙ (map-append g (those_below test n) (if test n then n ∷ [] else [])

@@ -56,7 +56,7 @@ pub lines_next : (p : ℕ → Bool) (text x rest : List ℕ) → slice_split p t
     → lines_of_parts (slice_split p text) ≡ x ∷ lines_of_parts (slice_split p rest)
 lines_next p text x rest e = ap lines_of_parts e ∙ lines_behind x (slice_split p rest) (split_some p rest)
 
-not_empty : (text : List ℕ) → 0 < length text → (if is_empty text then [] else text ∷ []) ≡ text ∷ []
+pub not_empty : (text : List ℕ) → 0 < length text → (if is_empty text then [] else text ∷ []) ≡ text ∷ []
 not_empty [] some = absurd (omega (arith, some))
 not_empty (x ∷ text) some = refl
 

@@ -1,5 +1,5 @@
 -- Tables of names that go on with those words that could be names and are not in them.
-use Rattle.std.proofs.Common.{◌≡◌, inl, inr, ◌<◌, ◌≤◌, ◌+◌, ◌==◌, ◌&&◌, ◌||◌, ℕ, zero, suc, Bool, true, false, not}
+use Rattle.std.proofs.Common.{◌≡◌, ◌<◌, ◌≤◌, ◌+◌, ◌==◌, ◌&&◌, ◌||◌, ℕ, zero, suc, Bool, true, false, not}
 use Rattle.std.proofs.Common.{List}
 use Rattle.std.proofs.Common.{[], ◌∷◌, ◌++◌, map, drop, find, position, bytes_eq, slice_get, Option, Some, None, IsSome}
 use Rattle.std.proofs.Common.{option_map, Ok, Err, if◌then◌else◌, refl, ap, sym, ◌∙◌, subst, arith, append-nil}
@@ -20,7 +20,7 @@ use Rattle.rt_ids.specs.Names.{Names, AreNames, irq_of}
 use Rattle.rt_ids.specs.Naming.{irq_named, irq_name}
 use Rattle.rt_ids.specs.Word.{is_identifier}
 use Rattle.rt_ids.specs.declared.limits.TheConstants.{IRQ_NUMBERS}
-use Rattle.rt_ids.proofs.Lists.{index_pushed, is_some-position, is_some-find}
+use Rattle.rt_ids.proofs.Lists.{is_some-position, is_some-find}
 use Rattle.rt_lines.specs.Answers.{and_then}
 use Rattle.rt_lines.specs.Operand.{irq_at, if_first, first_irq_at}
 use Rattle.rt_lines.specs.declared.operand.Wrong.TheVariants as wrong
@@ -28,33 +28,7 @@ use Rattle.rt_lines.proofs.Found.{found_at, found_passes, key_found}
 use Rattle.rt_lines.proofs.More.{IsOk, IsOkOrName, HasNames}
 use Rattle.rt_lines.proofs.Spelled.{has_name}
 use Rattle.rt_load.specs.Reading.{AreMore}
-
--- names with one more
-nowhere : (names : List (List ℕ)) (name : List ℕ) → list_any (bytes_eq name) names ≡ false → (i : ℕ) → slice_get names i
-    ≡ Some name → ⊥
-nowhere [] name none i at = none-some name at
-nowhere (x ∷ xs) name none zero at =
-    let here : bytes_eq name x ≡ true = (bytes_eq-Decides name x).1 (sym (same_Some x name at)) in
-    false≢true (sym none ∙ ap (λ b. b || list_any (bytes_eq name) xs) here)
-nowhere (x ∷ xs) name none (suc i) at = nowhere xs name (later (bytes_eq name x) none) i at
-  where
-    later : (b : Bool) → (b || list_any (bytes_eq name) xs) ≡ false → list_any (bytes_eq name) xs ≡ false
-    later true none = absurd (false≢true (sym none))
-    later false none = none
-
-differ_pushed : (names : List (List ℕ)) (name : List ℕ) → list_any (bytes_eq name) names ≡ false
-    → AreDifferent names → AreDifferent (names ++ name ∷ [])
-differ_pushed names name none differ i j x a b =
-    elim (index_pushed names name i x a) [
-      | inl first ↦ elim (index_pushed names name j x b) [
-        | inl second ↦ differ i j x first second
-        | inr last ↦ absurd (nowhere names name none i (first ∙ ap Some (sym last.1)))
-      ]
-      | inr last ↦ elim (index_pushed names name j x b) [
-        | inl second ↦ absurd (nowhere names name none j (second ∙ ap Some (sym last.1)))
-        | inr also ↦ last.0 ∙ sym also.0
-      ]
-    ]
+use Rattle.rt_ids.proofs.Declared.{differ_pushed}
 
 -- a word could be a name, and is not in the table
 abbrev is_new : List (List ℕ) → List ℕ → Bool

@@ -1,10 +1,9 @@
 -- With each line that is taken, what a reader has read goes on to stand.
-use Rattle.std.proofs.Common.{◌≡◌, inl, inr, ◌<◌, ◌+◌, ℕ, zero, suc, true, not, ◌&&◌, nat_lt, List, [], ◌∷◌, ◌++◌}
-use Rattle.std.proofs.Common.{length, map, filter, flat_map, Option, Some, refl, ap, sym, ◌∙◌, subst, arith}
-use Rattle.std.proofs.Common.{append_assoc, append-nil, length-append, slice_index_or, slice_get}
+use Rattle.std.proofs.Common.{◌≡◌, inl, inr, ◌<◌, ◌+◌, ℕ, true, not, ◌&&◌, nat_lt, List, [], ◌∷◌, ◌++◌}
+use Rattle.std.proofs.Common.{length, map, filter, flat_map, Option, refl, ap, sym, ◌∙◌, subst, arith}
+use Rattle.std.proofs.Common.{append_assoc, append-nil, length-append, slice_index_or}
 use Rattle.std.specs.List.{AllByRecursion}
 use Rattle.std.proofs.lemmas.Bool.{ltb-true, eqb-true}
-use Rattle.std.proofs.lemmas.Option.{none-some}
 use Rattle.std.proofs.lemmas.List.{map_push, get_or_push, get_or_append_left}
 use Rattle.std.proofs.lemmas.List.Elements.{filter-append}
 use Rattle.rt_lemmas.proofs.Bools.{and_parts}
@@ -13,14 +12,13 @@ use Rattle.rt_lemmas.proofs.Lists.{map_alike}
 use Rattle.rt_ids.specs.Lists.{is_empty}
 use Rattle.rt_ids.specs.Names.{Names, AreNames, irq_of, task_of, with_irq, with_task}
 use Rattle.rt_ids.specs.Naming.{task_name}
-use Rattle.rt_ids.specs.Word.{IsName}
 use Rattle.rt_ids.specs.declared.cell.CellRow.{CellRow}
 use Rattle.rt_ids.specs.declared.limits.TheConstants.{IRQS, TASKS}
 use Rattle.rt_ids.proofs.Lists.{all_push}
 use Rattle.rt_ids.proofs.Declared.{irq_added, task_added, resource_added}
 use Rattle.rt_code.specs.Image.{Image}
 use Rattle.rt_code.specs.Listable.{IsWord, IsPlain, IsTask, HasInstr, HasNote}
-use Rattle.rt_code.proofs.Writable.{names_writable}
+use Rattle.rt_code.proofs.Writable.{names_writable, plain}
 use Rattle.rt_code.specs.declared.image.IrqRow.{IrqRow}
 use Rattle.rt_code.specs.declared.image.BodyRow.{BodyRow}
 use Rattle.rt_code.specs.declared.instr.Instr.{Instr}
@@ -54,31 +52,6 @@ record AreWith (names more : Names) (name : List ℕ) : Type 0 where
   tasks : more.tasks ≡ names.tasks
   shared : more.shared ≡ names.shared ++ filter (λ n. not (has_dot n)) (name ∷ [])
 
-only_differs : (name : List ℕ) (i j : ℕ) (x : List ℕ) → slice_get (name ∷ []) i ≡ Some x → slice_get (name ∷ []) j
-    ≡ Some x → i ≡ j
-only_differs name zero zero x a b = refl
-only_differs name zero (suc j) x a b = absurd (none-some x b)
-only_differs name (suc i) j x a b = absurd (none-some x a)
-
-abbrev alone : List ℕ → Names
-alone name = record { irqs = []; tasks = []; shared = name ∷ [] }
-
-pub plain_of_name : (name : List ℕ) → IsName name → IsPlain name
-plain_of_name name is =
-    let are : AreNames (alone name) = record {
-      irqs = tt;
-      tasks = tt;
-      shared = (is, tt);
-      irqs_differ = λ i j x a b. absurd (none-some x a);
-      tasks_differ = λ i j x a b. absurd (none-some x a);
-      shared_differ = only_differs name;
-      few_irqs = omega arith;
-      few_tasks = omega arith;
-      few_shared = omega arith;
-    } in
-    let written = names_writable (alone name) are in
-    written.shared.0
-
 with_cell_name : (names : Names) (name : List ℕ) → AreNames names → CellNamed names name
     → AreWith names (with_name_of names name) name
 with_cell_name names name are (Dotted dot word) = rw dot (record {
@@ -90,7 +63,7 @@ with_cell_name names name are (Dotted dot word) = rw dot (record {
 })
 with_cell_name names name are (Resource dot new) = rw dot (record {
   are = resource_added names name are new.named new.unknown new.below;
-  word = let plain = plain_of_name name new.named in plain.word;
+  word = let plain = plain name new.named in plain.word;
   irqs = refl;
   tasks = refl;
   shared = rw dot refl;
@@ -229,7 +202,7 @@ with_row img row l no_bodies no_code within new =
         names = names_writable _ are;
         cells = l.listable.cells;
         irqs = all_push (λ (row : IrqRow). IsPlain row.name) img.irqs row l.listable.irqs
-            (plain_of_name row.name new.named);
+            (plain row.name new.named);
         bodies = l.listable.bodies;
         instrs = subst (λ (lines : List (Instr × Option Note)). AllByRecursion
             (λ line. HasInstr (with_irq img.names row.name row.number) line.0) lines) (sym no_code) tt;

@@ -1,10 +1,9 @@
 -- Where nothing is wrong with a line but that a name in it is in no table.
-use Rattle.std.proofs.Common.{◌≡◌, ◌&&◌, ℕ, Bool, true, false, List, [], ◌∷◌, ◌++◌, length, flat_map, decimal, codes}
+use Rattle.std.proofs.Common.{◌≡◌, ◌&&◌, ℕ, true, false, List, [], ◌∷◌, ◌++◌, length, flat_map, decimal, codes}
 use Rattle.std.proofs.Common.{bytes_eq, nat_lt, Option, Some, None, Result, Ok, Err, if◌then◌else◌, refl, ap, sym, ◌∙◌}
 use Rattle.std.proofs.Common.{IfOk, subst, arith}
 use Rattle.std.specs.List.{AllByRecursion}
-use Rattle.std.proofs.lemmas.Bool.{false≢true}
-use Rattle.rt_lemmas.proofs.Bools.{and_parts}
+use Rattle.rt_lemmas.proofs.Bools.{and_parts, true_and_false}
 use Rattle.rt_lemmas.proofs.Lists.{all_append}
 use Rattle.rt_ids.specs.Lists.{is_empty}
 use Rattle.rt_ids.specs.Names.{Names, AreNames, with_task}
@@ -97,9 +96,6 @@ some_pushed : {A : Type 0} (xs : List A) (x : A) → is_empty (xs ++ x ∷ []) �
 some_pushed [] x = refl
 some_pushed (y ∷ xs) x = refl
 
-no_code_more : (b : Bool) → b ≡ true → b ≡ false → ⊥
-no_code_more b e f = false≢true (sym f ∙ e)
-
 words_keep : (front next : Front) (line : List ℕ) (ws : List (List ℕ)) → is_empty front.image.code ≡ false
     → take_words front line ws ≡ Ok next → Keeps front next
 words_keep front next line [] some e = absurd (cc)
@@ -118,7 +114,7 @@ words_keep front next line (kind ∷ ws) some e =
     let both = and_parts (is_in_cells front) (may_name_cell front.image.names parts.0.name) may.0 in
     let none = and_parts ((nat_lt (length front.image.cells) front.cells && is_empty front.image.irqs)
     && is_empty front.image.bodies) (is_empty front.image.code) both.0 in
-    absurd (no_code_more (is_empty front.image.code) none.1 some))
+    absurd (true_and_false (is_empty front.image.code) none.1 some))
     (λ _ rest.
     chosen (bytes_eq kind (codes "irq")) (take_irq front line ws)
     (if bytes_eq kind (codes "body") then take_body front line ws
@@ -132,7 +128,7 @@ words_keep front next line (kind ∷ ws) some e =
     let both = and_parts ((has_cells front && is_empty front.image.bodies) && is_empty front.image.code)
     (is_new_irq front.image.names parts.0.name) may.0 in
     let none = and_parts (has_cells front && is_empty front.image.bodies) (is_empty front.image.code) both.0 in
-    absurd (no_code_more (is_empty front.image.code) none.1 some))
+    absurd (true_and_false (is_empty front.image.code) none.1 some))
     (λ _ last.
     chosen (bytes_eq kind (codes "body")) (take_body front line ws)
     (if bytes_eq kind (codes "code") then take_code front ws else Err wrong.Form) (Ok next) P last
@@ -146,7 +142,7 @@ words_keep front next line (kind ∷ ws) some e =
     let both = and_parts (has_cells front && is_empty front.image.code) (is_new_task front.image.names parts.0.0)
     may.0 in
     let none = and_parts (has_cells front) (is_empty front.image.code) both.0 in
-    absurd (no_code_more (is_empty front.image.code) none.1 some))
+    absurd (true_and_false (is_empty front.image.code) none.1 some))
     (λ _ end.
     let is = if_ok (bytes_eq kind (codes "code")) (take_code front ws) wrong.Form next end in
     let made = make_ok (next_line front ws) (and_line front) next is.1 in

@@ -5,7 +5,7 @@ use Rattle.std.specs.List.{slice_split, onto_first}
 use Rattle.std.proofs.lemmas.List.Splits.{slice_split-cons_no}
 use Rattle.rt_ids.specs.Lists.{is_empty}
 use Rattle.rt_lines.specs.Parts.{lines, lines_of_parts, parts}
-use Rattle.rt_lines.proofs.Splitting.{split_some}
+use Rattle.rt_lines.proofs.Splitting.{split_some, not_empty}
 use Rattle.rt_outside.specs.Lines.{HasHanded}
 use Rattle.rt_outside.specs.Inside.Handed.{HoldsLast, IsUnended, LeavesOf}
 
@@ -136,10 +136,6 @@ all_out came text held count none h =
     lines_held came text held count h
     ∙ (ap (λ (l : List ℕ). h.leaves.before ++ (if is_empty l then [] else l ∷ [])) none ∙ append-nil h.leaves.before) in
     (number ∙ ap length (sym whole), subst (λ (ls : List (List ℕ)). came ls) (sym whole) h.leaves.are_out)
-
-not_empty : (held : List ℕ) → 0 < length held → (if is_empty held then [] else held ∷ []) ≡ held ∷ []
-not_empty [] some = absurd (omega (arith, some))
-not_empty (x ∷ held) some = refl
 
 -- the last line goes out at the end
 pub last_goes : (came later : List (List ℕ) → Type 0) (text held : List ℕ) (count : ℕ) → 0 < length held

@@ -1,18 +1,16 @@
 -- From priority to priority up to the highest: the stack takes the whole bound there.
 use Rattle.std.proofs.Common.{◌≡◌, ℕ, zero, suc, ◌+◌, ◌*◌, ◌^◌, ◌<◌, ◌≤◌, ◌⊎◌, inl, inr, Bool, true, false}
 use Rattle.std.proofs.Common.{if◌then◌else◌, List, [], ◌∷◌, ◌++◌, length, map, take}
-use Rattle.std.proofs.Common.{Option, Some, None, option_map, refl, ap, sym, subst, ◌∙◌, arith, append_assoc}
+use Rattle.std.proofs.Common.{refl, ap, sym, subst, ◌∙◌, arith, append_assoc}
 use Rattle.std.proofs.Common.{length-append, length-set}
 use Rattle.std.specs.List.{AllByRecursion}
-use Rattle.std.specs.Option.{unwrap_or}
 use Rattle.std.proofs.lemmas.List.{length-replicate, length-map}
-use Rattle.rt_lemmas.proofs.Membership.{all_at, all_append}
+use Rattle.rt_lemmas.proofs.Membership.{all_append}
 use Rattle.rt_ids.specs.Event.{Event, Arrive, Step}
 use Rattle.rt_ids.specs.Exception as exception
 use Rattle.rt_ids.specs.Lists.{those_below, or_zero}
 use Rattle.rt_ids.specs.Names.{Names, AreNames}
-use Rattle.rt_ids.specs.Naming.{irq_named, irq_name}
-use Rattle.rt_ids.specs.Word.{IsName}
+use Rattle.rt_ids.specs.Naming.{irq_name}
 use Rattle.rt_ids.specs.declared.limits.TheConstants.{NAME_BYTES, IRQ_NUMBERS}
 use Rattle.rt_app.specs.Tree.{App}
 use Rattle.rt_app.specs.Accepted.{IsAccepted}
@@ -33,7 +31,6 @@ use Rattle.rt_script.specs.Script.{events}
 use Rattle.rt_sim.specs.Good.{Good, AreDeclared}
 use Rattle.rt_sim.proofs.Armed.{counts_of_few}
 use Rattle.rt_lines.specs.Operand.{IsDeclared}
-use Rattle.rt_lines.proofs.Found.{found_at}
 use Rattle.rt_reach.specs.Deepest.{script_of, IsFirstTake, LeadsToTake}
 use Rattle.rt_app.specs.Forms.{has_deepest_script}
 use Rattle.rt_reach.specs.Inside.Soon.{TakesWithin}
@@ -45,35 +42,22 @@ use Rattle.rt_reach.proofs.Deepening.{Rests, IsServed, deepest_served, Enters, e
 use Rattle.rt_reach.proofs.Jobs.{requested}
 use Rattle.rt_reach.proofs.Pended.{PendsOnly}
 use Rattle.rt_reach.proofs.Reading.{is_script_text}
-use Rattle.rt_reach.proofs.Rising.{below_none, below_few, irqs_below, irqs_yes, irqs_no, handled_deepest}
+use Rattle.rt_reach.proofs.Rising.{below_few, irqs_below, irqs_yes, irqs_no, handled_deepest}
 use Rattle.rt_reach.proofs.Running.{state_request, core_request}
 use Rattle.rt_reach.proofs.Served.{IsDeepestAt}
 use Rattle.rt_reach.proofs.Takes.{starts, one_first}
-
-bytes_none : (app : App) → bytes_below app 0 ≡ 0
-unfolding bytes_below
-bytes_none app = refl
+use Rattle.rt_frames.proofs.Below.{below_none}
+use Rattle.rt_frames.proofs.Handlers.{bytes_none}
+use Rattle.rt_lines.proofs.Short.{irq_name_short}
 
 bytes_more : (app : App) (p : ℕ) → bytes_below app (suc p) ≡ bytes_below app p + priority_bytes app p
 unfolding bytes_below
 bytes_more app p = refl
 
--- names of declared interrupts are short
-name_short : (names : Names) (irq : ℕ) → AreNames names → length (irq_name names irq) ≤ NAME_BYTES
-name_short names irq are = by (irq_named names irq) refl
-  where
-    by : (o : Option (List ℕ × ℕ)) → irq_named names irq ≡ o
-        → length (unwrap_or (option_map (λ (row : List ℕ × ℕ). row.0) o) []) ≤ NAME_BYTES
-    by None is = omega arith
-    by (Some row) is =
-        let index = found_at _ names.irqs row is in
-        let named : IsName row.0 = all_at (λ (r : List ℕ × ℕ). IsName r.0) names.irqs index.0 row are.irqs index.1 in
-        named.short
-
 names_short : (names : Names) (irqs : List ℕ) → AreNames names
     → AllByRecursion (λ irq. length (irq_name names irq) ≤ NAME_BYTES) irqs
 names_short names [] are = tt
-names_short names (irq ∷ irqs) are = (name_short names irq are, names_short names irqs are)
+names_short names (irq ∷ irqs) are = (irq_name_short names irq are, names_short names irqs are)
 
 pub take_all : {X : Type 0} (xs : List X) → take (length xs) xs ≡ xs
 take_all [] = refl

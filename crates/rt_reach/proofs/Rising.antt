@@ -21,6 +21,7 @@ use Rattle.rt_lines.proofs.Found.{found_passes, found_at}
 use Rattle.rt_app.specs.Forms.{has_no_software, body_holds_no_pend, is_brief, has_deepest_script}
 use Rattle.rt_reach.specs.Priorities.{deepest_task, bound_number, deepest_irq}
 use Rattle.rt_reach.proofs.Served.{IsDeepestAt, deepest_at, need_is}
+use Rattle.rt_frames.proofs.Below.{below_none}
 
 -- what the form says
 pub record IsOfForm (app : App) : Type 0 where
@@ -36,10 +37,6 @@ form_of app is =
     let alone = and_parts (has_no_software app) (has_no_monotonic app) parts.0 in
     let start = and_parts (body_holds_no_pend app.init) (is_brief app) parts.1 in
     record { hardware = alone.0; untimed = alone.1; quiet = start.0; brief = start.1 }
-
-pub below_none : (test : ℕ → Bool) → those_below test 0 ≡ []
-unfolding those_below
-below_none test = refl
 
 pub below_next : (test : ℕ → Bool) (n : ℕ)
     → those_below test (suc n) ≡ those_below test n ++ (if test n then n ∷ [] else [])

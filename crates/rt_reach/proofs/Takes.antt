@@ -1,6 +1,6 @@
 -- The loop over the core's steps: what each of them shows, and when the first exception entry comes.
-use Rattle.std.proofs.Common.{◌≡◌, ℕ, zero, suc, ◌+◌, ◌<◌, inl, inr, List, [], ◌∷◌, ◌++◌, replicate, Option}
-use Rattle.std.proofs.Common.{refl, ap, sym, subst, ◌∙◌, arith}
+use Rattle.std.proofs.Common.{◌≡◌, ℕ, suc, ◌+◌, ◌<◌, inl, inr, List, [], ◌∷◌, ◌++◌, replicate, Option}
+use Rattle.std.proofs.Common.{ap, sym, subst, ◌∙◌, arith}
 use Rattle.std.proofs.lemmas.Bool.{cases_lt}
 use Rattle.std.proofs.lemmas.List.{replicate_more}
 use Rattle.rt_ids.specs.Event.{Event, Arrive, Step, steps}
@@ -16,14 +16,11 @@ use Rattle.rt_trace.specs.declared.item.What.{What}
 use Rattle.rt_reach.specs.Deepest.{item_after, IsFirstTake}
 use Rattle.rt_reach.specs.Inside.Soon.{TakesWithin}
 use Rattle.rt_reach.specs.Take.{IsTake}
+use Rattle.rt_run.proofs.Reached.{steps_are}
 
 -- an interrupt is requested, and so many core steps are done
 abbrev pub starts : ℕ → ℕ → List Event
 starts irq done = Arrive irq ∷ replicate done Step
-
-pub steps_many : (n : ℕ) → steps (replicate n Step) ≡ n
-steps_many zero = refl
-steps_many (suc n) = ap suc (steps_many n)
 
 pub starts_more : (irq done : ℕ) → starts irq (done + 1) ≡ starts irq done ++ Step ∷ []
 starts_more irq done = ap (λ es. Arrive irq ∷ es) (sym (replicate_more done Step))
@@ -36,7 +33,7 @@ shows old now irq done shown fresh run is =
     ∙ ap (λ (c : Core). (step old.image (core_after old.image c (starts irq done))).1) fresh.core
 
 pub few_done : (old now : Machine) (irq done : ℕ) → IsFresh old → Leads (starts irq done) old now → now.steps ≡ done
-few_done old now irq done fresh run = omega (arith, run.steps, fresh.steps, steps_many done)
+few_done old now irq done fresh run = omega (arith, run.steps, fresh.steps, steps_are done)
 
 -- one step more
 pub leads_more : (old now after : Machine) (irq done : ℕ) → Leads (starts irq done) old now

@@ -15,6 +15,7 @@ use Rattle.rt_ids.specs.Word.{is_identifier}
 use Rattle.rt_lines.specs.Numbers.{are_digits, short_number}
 use Rattle.rt_lines.specs.Parts.{spaced_words}
 use Rattle.rt_lines.proofs.Words.{words_spaced}
+use Rattle.rt_code.proofs.Writable.{letter_later}
 
 -- a word of name bytes
 abbrev pub IsPlain : List ℕ → Type 0
@@ -30,12 +31,9 @@ all_listed : (w : List ℕ) → list_all is_name_byte w ≡ true → IsPlain w
 all_listed [] h = tt
 all_listed (b ∷ w) h = (and_left _ _ h, all_listed w (and_right _ _ h))
 
-letter_plain : (b : ℕ) → is_letter b ≡ true → is_name_byte b ≡ true
-letter_plain b h = rw h refl
-
 pub name_plain : (text : List ℕ) → is_identifier text ≡ true → IsPlain text
 name_plain [] h = tt
-name_plain (b ∷ text) h = (letter_plain b (and_left _ _ h), all_listed text (and_right _ _ h))
+name_plain (b ∷ text) h = (letter_later b (and_left _ _ h), all_listed text (and_right _ _ h))
 
 digit_is : (c : ℕ) → 48 ≤ c → c ≤ 57 → is_digit c ≡ true
 digit_is c least most = and_both (nat_le 48 c) (nat_le c 57) (le-leb 48 c least) (le-leb c 57 most)

@@ -1,6 +1,6 @@
 -- Runs that go on where others ended, or where a fault came.
-use Rattle.std.proofs.Common.{◌≡◌, ℕ, suc, ◌+◌, ◌-◌, ◌<◌, ◌≤◌, List, [], ◌∷◌, ◌++◌, flat_map, replicate, Option, Some}
-use Rattle.std.proofs.Common.{None, Bool, true, false, if◌then◌else◌, nat_le, refl, ap, sym, subst, ◌∙◌, append_assoc}
+use Rattle.std.proofs.Common.{◌≡◌, ℕ, suc, ◌+◌, ◌-◌, ◌<◌, ◌≤◌, List, [], ◌∷◌, ◌++◌, flat_map, replicate, Some}
+use Rattle.std.proofs.Common.{None, refl, ap, sym, subst, ◌∙◌, append_assoc}
 use Rattle.std.proofs.Common.{length, length-append, arith}
 use Rattle.std.specs.List.{AllByRecursion}
 use Rattle.std.proofs.lemmas.Grind.{flat_map-append}
@@ -8,11 +8,9 @@ use Rattle.std.proofs.lemmas.List.{append-nil, replicate_more, replicate-append-
 use Rattle.rt_lemmas.proofs.Membership.{all_append}
 use Rattle.rt_ids.specs.Event.{Event, Arrive, Tick, Step, steps}
 use Rattle.rt_code.specs.Image.{Image}
-use Rattle.rt_core.specs.Core.{Core}
 use Rattle.rt_core.specs.Machine.{Machine}
-use Rattle.rt_core.specs.Trace.{ring, tick, happen, core_after, labels}
+use Rattle.rt_core.specs.Trace.{core_after, labels}
 use Rattle.rt_core.specs.Stepping.{step}
-use Rattle.rt_core.specs.Transfer.{core_after_pend}
 use Rattle.rt_core.specs.declared.alarm.Alarm.{Alarm}
 use Rattle.rt_core.proofs.Happening.{core_after-append, labels-append}
 use Rattle.rt_outside.specs.Bytes.{TookPrefix}
@@ -27,6 +25,7 @@ use Rattle.rt_run.specs.Done.{Leads}
 use Rattle.rt_run.specs.Sending.{shown_items, lines_of, TookButHeld, EndsInItem}
 use Rattle.rt_run.specs.Inside.Writing.{Wrote, Writes, Cut}
 use Rattle.rt_run.proofs.Taking.{wrote_none, wrote_on, wrote_cut, held_on}
+use Rattle.rt_core.proofs.Showing.{steps_are}
 
 abbrev numbered : ℕ → What → Item
 numbered n w = record { step = n; what = w }
@@ -46,25 +45,6 @@ items-append n (Stepped (Some w) ∷ ls) ms =
     (items-append (suc n) ls ms
     ∙ ap (λ k. items_of (suc n) ls ++ items_of k ms)
     (let e : suc n + steps_of ls ≡ n + suc (steps_of ls) = omega arith in e))
-
--- an alarm is no step
-ring_steps : (c : Core) (alarm : Option Alarm) (rest : List Label) → steps_of ((ring c alarm).1 ++ rest) ≡ steps_of rest
-ring_steps c None rest = refl
-ring_steps c (Some alarm) rest = one (nat_le alarm.instant c.time)
-    (record (core_after_pend c alarm.irq) { alarm = None }) c
-  where
-    one : (due : Bool) (x y : Core)
-        → steps_of ((if◌then◌else◌ {A = Core × List Label} due (x, Rang ∷ []) (y, [])).1 ++ rest) ≡ steps_of rest
-    one true x y = refl
-    one false x y = refl
-
-pub labelled_steps : (img : Image) (c : Core) (es : List Event) → steps_of (labels img c es) ≡ steps es
-unfolding labels happen
-labelled_steps img c [] = refl
-labelled_steps img c (Arrive irq ∷ es) = labelled_steps img (core_after_pend c irq) es
-labelled_steps img c (Tick ∷ es) =
-    ring_steps (record c { time = suc c.time }) c.alarm (labels img (tick c).0 es) ∙ labelled_steps img (tick c).0 es
-labelled_steps img c (Step ∷ es) = ap suc (labelled_steps img (step img c).0 es)
 
 pub steps-append : (es fs : List Event) → steps (es ++ fs) ≡ steps es + steps fs
 steps-append [] fs = let e : steps fs ≡ 0 + steps fs = omega arith in e
@@ -101,7 +81,7 @@ items_split es fs a b run =
     let split : shown_items a (es ++ fs) ≡ items_of a.steps front ++ items_of (a.steps + steps es) behind =
     ap (items_of a.steps) (labels-append img a.core es fs)
     ∙ items-append a.steps front behind
-    ∙ ap (λ n. items_of a.steps front ++ items_of (a.steps + n) behind) (labelled_steps img a.core es) in
+    ∙ ap (λ n. items_of a.steps front ++ items_of (a.steps + n) behind) (steps_are img a.core es) in
     let there : shown_items b fs ≡ items_of (a.steps + steps es) behind =
     ap (λ (i : Image). items_of b.steps (labels i b.core fs)) run.image
     ∙ ap (λ d. items_of b.steps (labels img d fs)) run.core

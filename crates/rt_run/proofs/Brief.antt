@@ -22,8 +22,8 @@ use Rattle.rt_trace.proofs.Lengths.{runs_short}
 use Rattle.rt_run.specs.Sending.{shown_items}
 use Rattle.rt_run.specs.Written.{text_of}
 use Rattle.rt_run.proofs.Known.{steps_below}
-use Rattle.rt_run.proofs.Advancing.{labelled_steps}
 use Rattle.rt_run.proofs.Scripted.{events_length}
+use Rattle.rt_core.proofs.Showing.{steps_are}
 
 -- no label gives more than one item
 pub items_few : (n : ℕ) (ls : List Label) → length (items_of n ls) ≤ length ls
@@ -97,7 +97,7 @@ text_short m script fresh lines scripted lined =
     ap (λ k. items_of k (labels img m.core es)) fresh.steps ∙ ap (λ c. items_of 0 (labels img c es)) fresh.core in
     let count : length items ≤ 2000000 = omega (arith, items_few 0 all, labels_few img (reset img) es, few) in
     let total : steps es ≤ SCRIPT_EVENTS = omega (arith, steps_below es, few) in
-    let last : 0 + steps_of all < 2000000 = omega (arith, labelled_steps img (reset img) es, total) in
+    let last : 0 + steps_of all < 2000000 = omega (arith, steps_are img (reset img) es, total) in
     runs_short img.names items (steps es) lines.names count
     (all_two (HasLine img.names) (λ item. item.step ≤ 0 + steps_of all)
     (λ item. HasLine img.names item × (item.step < 2000000))

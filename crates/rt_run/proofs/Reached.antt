@@ -31,7 +31,7 @@ use Rattle.rt_run.proofs.Advancing.{written, stopped}
 abbrev numbered : ℕ → What → Item
 numbered n w = record { step = n; what = w }
 
-steps_are : (n : ℕ) → steps (replicate n Step) ≡ n
+pub steps_are : (n : ℕ) → steps (replicate n Step) ≡ n
 steps_are zero = refl
 steps_are (suc n) = ap suc (steps_are n)
 

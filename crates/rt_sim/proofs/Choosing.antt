@@ -28,7 +28,7 @@ use Rattle.rt_laws.specs.Services.{service_at, priority_of}
 use Rattle.rt_laws.specs.State.{State}
 use Rattle.rt_laws.specs.Preemption.{system_ceiling, may_start, goes_before, candidate}
 use Rattle.rt_sim.proofs.ExecutionPriority.{value_of_top}
-use Rattle.rt_sim.proofs.Others.{not_so}
+use Rattle.rt_build.proofs.ImageCells.{not_so}
 
 -- a choice goes along with a view that keeps tests and order
 module _ {A B : Type 0} (f : A → B) (P : A → Type 0) (pa : A → Bool) (pb : B → Bool) (ba : A → A → Bool)

@@ -18,7 +18,7 @@ use Rattle.rt_laws.specs.Preemption.{system_ceiling, greatest_ceiling}
 use Rattle.rt_sim.specs.Inside.Coupling.{Part, runner_of, sections_of, jobs_of}
 use Rattle.rt_sim.specs.Inside.PartInvariant.{who, Reads}
 use Rattle.rt_sim.specs.Inside.CouplingInvariant.{IsStacked}
-use Rattle.rt_sim.proofs.Others.{not_so}
+use Rattle.rt_build.proofs.ImageCells.{not_so}
 
 -- one more section is owned, and read, by who opens it
 pub owns_less : (app : App) (runner : Runner) (h : OpenSection) (outer : List OpenSection) (location : Location)

@@ -46,12 +46,13 @@ use Rattle.rt_sim.specs.Inside.PartInvariant.{who, Owns, Reads, AreApart}
 use Rattle.rt_sim.specs.Inside.CouplingInvariant.{IsStacked, CouplingInvariant}
 use Rattle.rt_sim.specs.Inside.Agrees.{StepsBoth}
 use Rattle.rt_sim.proofs.Counting.{open_once}
-use Rattle.rt_sim.proofs.Others.{all_clear, others_kept, not_so}
+use Rattle.rt_sim.proofs.Others.{all_clear, others_kept}
 use Rattle.rt_sim.proofs.Plain.{IsWorking, lefts_passed, length-passed, saves_kept, own_kept, apart_of, stands_by}
 use Rattle.rt_sim.proofs.Plain.{may_turn}
 use Rattle.rt_sim.proofs.Acts.{owns_alike, agrees_reached, agreed, respects_next, gives_item, acts_as}
 use Rattle.rt_sim.proofs.Fitting.{FitIn, fits_timed}
 use Rattle.rt_sim.proofs.Entering.{owns_less, reads_less, free_below}
+use Rattle.rt_build.proofs.ImageCells.{not_so}
 
 -- a list in which another slot is set is the same at these
 kept_beside : (slots : List ℕ) (slot v : ℕ) (ds : List ℕ) → ¬ Contains ds slot

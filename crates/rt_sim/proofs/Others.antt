@@ -31,10 +31,7 @@ use Rattle.rt_sim.specs.Inside.Coupling.{Part, configuration_of}
 use Rattle.rt_sim.specs.Inside.Counts.{hands, IsOnce}
 use Rattle.rt_sim.specs.Inside.PartInvariant.{who, PartInvariant, StandsBy, AgreesWith, Owns, Reads, AreApart}
 use Rattle.rt_sim.proofs.Counting.{queued_in, fewer_once}
-
-pub not_so : (b : Bool) → (b ≡ true → ⊥) → b ≡ false
-not_so true h = absurd (h refl)
-not_so false h = refl
+use Rattle.rt_build.proofs.ImageCells.{not_so}
 
 -- a cell is as before, or it belongs to what the job owns, or to a place in its hands
 abbrev pub IsLeftOrOwned : App → Runner → List OpenSection → List Entry → List ℕ → List ℕ → ℕ → Type 0

@@ -46,10 +46,11 @@ use Rattle.rt_sim.specs.Inside.PartInvariant.{who, Owns, Reads, AreApart, IsOpen
 use Rattle.rt_sim.specs.Inside.CouplingInvariant.{IsStacked, CouplingInvariant}
 use Rattle.rt_sim.specs.Inside.Agrees.{StepsBoth}
 use Rattle.rt_sim.proofs.Counting.{fewer_once}
-use Rattle.rt_sim.proofs.Others.{all_clear, others_kept, not_so}
+use Rattle.rt_sim.proofs.Others.{all_clear, others_kept}
 use Rattle.rt_sim.proofs.Acts.{owns_alike, agrees_reached}
 use Rattle.rt_sim.proofs.Entering.{at_threshold}
 use Rattle.rt_sim.proofs.ExecutionPriority.{held_off, masks_are}
+use Rattle.rt_build.proofs.ImageCells.{not_so}
 
 -- the job that a handler of an interrupt starts
 abbrev pub handler_part : App → Entries → ℕ → Service → List BodyRow → Values → Part

@@ -36,7 +36,6 @@ use Rattle.rt_load.proofs.Lengths.{listing_few}
 use Rattle.rt_run.specs.Numbers.{HasLevel}
 use Rattle.rt_run.specs.Ranges.{HasRanges, IsWordInstr, HasLevelNote}
 use Rattle.rt_run.proofs.Brief.{items_few, steps_within, all_two}
-use Rattle.rt_run.proofs.Advancing.{labelled_steps}
 use Rattle.rt_run.proofs.Items.{IsRightItem, trace_right}
 use Rattle.rt_run.proofs.Known.{ticks_below}
 use Rattle.rt_run.proofs.Numbered.{IsTakeWithin}
@@ -55,6 +54,7 @@ use Rattle.rt_top.specs.Audited.{IsAuditedRight}
 use Rattle.rt_top.specs.Outputs.{IsGoodOf}
 use Rattle.rt_top.proofs.Accounts.{account_lines, account_fed, account_told, account_unbroken, account_few}
 use Rattle.rt_top.proofs.Happening.{Happens, runs_well}
+use Rattle.rt_core.proofs.Showing.{steps_are}
 
 -- numbers of the types in which a program holds them are in range
 word_instr : (i : Instr) → AreWords (instr_numbers i) → IsWordInstr i
@@ -136,7 +136,7 @@ module _ {text : List ℕ} {app : App} {image : Image} {es : List Event} (h : Ha
   text_few : length (trace_text image.names shown) ≤ 182000017
   text_few =
       let last : 0 + steps_of (labels image (reset image) es) < 10 ^ 7 =
-      omega (arith, labelled_steps image (reset image) es, steps_few) in
+      omega (arith, steps_are image (reset image) es, steps_few) in
       omega (
         arith,
         items_few 0 (labels image (reset image) es),

@@ -4,9 +4,10 @@ use Rattle.rt_app.specs.View.{app_of}
 use Rattle.rt_app.specs.Stack.{has_handler}
 use Rattle.rt_ids.specs.Lists.{or_zero}
 use Rattle.rt_reach.specs.Priorities.{deepest_irq}
-use Rattle.rt_reach.proofs.Rising.{below_none, pushed, kept}
+use Rattle.rt_reach.proofs.Rising.{pushed, kept}
 use Rattle.rt_reach.proofs.priorities.deepest_irqs.Goals as goal
 use Rattle.rt_reach.proofs.priorities.deepest_irqs.Goals.{in-Some+in_ok-push, in_default}
+use Rattle.rt_frames.proofs.Below.{below_none}
 
 pub loop-priority-init : goal.loop-priority-init
 loop-priority-init c = c.new-irqs.ensures.items
