@@ -6,7 +6,7 @@ use Rattle.std.specs.List.{AllByRecursion}
 use Rattle.std.proofs.Math.Seq.{take-length}
 use Rattle.std.proofs.lemmas.Option.{same_Some, none-some, slice_get_within}
 use Rattle.rt_ids.specs.Lists.{or_zero}
-use Rattle.rt_ids.specs.Entry.{Entry}
+use Rattle.rt_actions.specs.Entry.{Entry}
 use Rattle.rt_ids.specs.declared.limits.TheConstants.{CAPACITY, TASKS}
 use Rattle.rt_app.specs.Tree.{Task, App}
 use Rattle.rt_app.specs.Level.{is_armed, armed_capacities, armed_messages, capacities_before}

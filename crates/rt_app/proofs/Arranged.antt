@@ -4,7 +4,7 @@ use Rattle.std.proofs.Common.{refl, sym, ap, subst, ◌∙◌, arith}
 use Rattle.std.specs.List.{AllByRecursion}
 use Rattle.std.proofs.lemmas.Option.{get_or_from_slice_get}
 use Rattle.rt_lemmas.proofs.Indices.{there_is}
-use Rattle.rt_ids.specs.Entry.{Entry}
+use Rattle.rt_actions.specs.Entry.{Entry}
 use Rattle.rt_app.specs.Heap.{above, at, keys, key_of, IsArranged}
 use Rattle.rt_app.proofs.Counting.{counted, counted_at}
 

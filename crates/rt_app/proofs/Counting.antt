@@ -7,7 +7,7 @@ use Rattle.std.proofs.lemmas.Bool.Decides.{nat_tests}
 use Rattle.std.proofs.lemmas.Option.{same_Some, none-some}
 use Rattle.std.proofs.lemmas.List.Sums.{sum_by-cons}
 use Rattle.rt_lemmas.proofs.Bools.{and_parts}
-use Rattle.rt_ids.specs.Entry.{Entry, is_same_entry, count}
+use Rattle.rt_actions.specs.Entry.{Entry, is_same_entry, count}
 
 abbrev pub one : Entry → Entry → ℕ
 one e x = cond (is_same_entry e x) 1 0

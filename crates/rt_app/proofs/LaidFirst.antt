@@ -6,9 +6,9 @@ use Rattle.std.specs.List.{AllByRecursion, range_with_len}
 use Rattle.std.proofs.lemmas.Option.{same_Some, none-some, slice_get_within}
 use Rattle.rt_lemmas.proofs.Indices.{read_at, there_is}
 use Rattle.rt_ids.specs.Lists.{or_zero}
-use Rattle.rt_ids.specs.Location.{Location, Guarded, Own}
-use Rattle.rt_ids.specs.Content.{Content, Number, Messages, Delays, nothing_armed}
-use Rattle.rt_ids.specs.Entry.{Entry}
+use Rattle.rt_actions.specs.Location.{Location, Guarded, Own}
+use Rattle.rt_actions.specs.Content.{Content, Number, Messages, Delays, nothing_armed}
+use Rattle.rt_actions.specs.Entry.{Entry}
 use Rattle.rt_ids.specs.declared.ids.Section.TheVariants as section
 use Rattle.rt_app.specs.Tree.{Task, App}
 use Rattle.rt_app.specs.Level.{is_software, levels, armed_messages}

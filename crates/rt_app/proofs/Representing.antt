@@ -9,10 +9,10 @@ use Rattle.std.proofs.lemmas.Option.{slice_get_within}
 use Rattle.rt_lemmas.proofs.Bools.{and_left}
 use Rattle.rt_lemmas.proofs.Membership.{all_at}
 use Rattle.rt_ids.specs.Lists.{is_some_and, or_zero}
-use Rattle.rt_ids.specs.Location.{Location, Guarded, Own}
-use Rattle.rt_ids.specs.Content.{Content, Number, Messages}
-use Rattle.rt_ids.specs.Entry.{Entry, count}
-use Rattle.rt_ids.specs.Storage.{Runner, Starting, AtPriority, At, In}
+use Rattle.rt_actions.specs.Location.{Location, Guarded, Own}
+use Rattle.rt_actions.specs.Content.{Content, Number, Messages}
+use Rattle.rt_actions.specs.Entry.{Entry, count}
+use Rattle.rt_actions.specs.Storage.{Runner, Starting, AtPriority, At, In}
 use Rattle.rt_ids.specs.declared.ids.Section.TheVariants as section
 use Rattle.rt_app.specs.Tree.{Task, App}
 use Rattle.rt_app.specs.Level.{is_software, is_of_level, levels, is_armed, armed_messages}

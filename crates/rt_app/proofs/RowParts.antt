@@ -2,10 +2,10 @@
 -- Offsets are 0.
 use Rattle.std.proofs.Common.{ℕ, true, false, List, [], ◌∷◌, map, Some, None, slice_get}
 use Rattle.rt_ids.specs.Lists.{or_zero}
-use Rattle.rt_ids.specs.Location.{Guarded, Own}
-use Rattle.rt_ids.specs.Content.{Number, Messages, Delays, Message, Values, nothing_armed}
-use Rattle.rt_ids.specs.Action.{Action, Clocks, effect}
-use Rattle.rt_ids.specs.Doing.{Doing, over, does}
+use Rattle.rt_actions.specs.Location.{Guarded, Own}
+use Rattle.rt_actions.specs.Content.{Number, Messages, Delays, Message, Values, nothing_armed}
+use Rattle.rt_actions.specs.Action.{Action, Clocks, effect}
+use Rattle.rt_actions.specs.Doing.{Doing, over, does}
 use Rattle.rt_ids.specs.declared.ids.Section.TheVariants as section
 use Rattle.rt_app.specs.declared.expr.Atom.TheVariants as atom
 use Rattle.rt_app.specs.declared.app.IrqDecl.{IrqDecl}

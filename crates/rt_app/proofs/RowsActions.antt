@@ -1,8 +1,8 @@
 -- Worked examples: what bodies come to is what a person worked out from the language's rules. Bodies with locks.
 use Rattle.std.proofs.Common.{◌≡◌, false, [], ◌∷◌, refl, codes, None}
-use Rattle.rt_ids.specs.Location.{Guarded}
-use Rattle.rt_ids.specs.Content.{Number}
-use Rattle.rt_ids.specs.Action.{Enters, Leaves, Emits, Posts, Returns}
+use Rattle.rt_actions.specs.Location.{Guarded}
+use Rattle.rt_actions.specs.Content.{Number}
+use Rattle.rt_actions.specs.Action.{Enters, Leaves, Emits, Posts, Returns}
 use Rattle.rt_ids.specs.declared.op.Op.TheVariants as op
 use Rattle.rt_ids.specs.declared.ids.Section.TheVariants as section
 use Rattle.rt_app.specs.Tree.{Oper, Num, Locked, Emit, Pend, Then, App}

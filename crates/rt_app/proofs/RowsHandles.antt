@@ -2,10 +2,10 @@
 -- that are taken back or put off by their handles.
 use Rattle.std.proofs.Common.{◌≡◌, ℕ, false, [], ◌∷◌, refl, codes, Some, None}
 use Rattle.rt_ids.specs.Lists.{those_below}
-use Rattle.rt_ids.specs.Location.{Guarded}
-use Rattle.rt_ids.specs.Content.{Values, Number, Delays}
-use Rattle.rt_ids.specs.Action.{Enters, Leaves, Emits, Posts, Clocks, Places, Readies, Frees, Arms, Fires, Cancels}
-use Rattle.rt_ids.specs.Action.{Moves, SetsAlarm, Returns}
+use Rattle.rt_actions.specs.Location.{Guarded}
+use Rattle.rt_actions.specs.Content.{Values, Number, Delays}
+use Rattle.rt_actions.specs.Action.{Enters, Leaves, Emits, Posts, Clocks, Places, Readies, Frees, Arms, Fires, Cancels}
+use Rattle.rt_actions.specs.Action.{Moves, SetsAlarm, Returns}
 use Rattle.rt_ids.specs.declared.op.Op.TheVariants as op
 use Rattle.rt_ids.specs.declared.ids.Section.TheVariants as section
 use Rattle.rt_app.specs.Tree.{Expression, Num, Oper, Call, Bind, Emit, Spawns, After, Cancel, Move, Empty, Then, App}

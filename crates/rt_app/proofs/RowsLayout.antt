@@ -2,8 +2,8 @@
 use Rattle.std.proofs.Common.{◌≡◌, false, ℕ, List, [], ◌∷◌, refl, codes, None}
 use Rattle.std.specs.Fmt.{digits}
 use Rattle.rt_ids.specs.Lists.{those_below}
-use Rattle.rt_ids.specs.Location.{Guarded, Own}
-use Rattle.rt_ids.specs.Storage.{At, In, Nowhere}
+use Rattle.rt_actions.specs.Location.{Guarded, Own}
+use Rattle.rt_actions.specs.Storage.{At, In, Nowhere}
 use Rattle.rt_ids.specs.declared.cell.CellRow.{CellRow}
 use Rattle.rt_ids.specs.declared.ids.Section.TheVariants as section
 use Rattle.rt_app.specs.Tree.{Empty, App}

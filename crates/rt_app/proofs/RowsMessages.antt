@@ -1,9 +1,9 @@
 -- Worked examples: what bodies and handlers come to is what a person worked out from the language's rules. Messages of
 -- software tasks.
 use Rattle.std.proofs.Common.{◌≡◌, false, [], ◌∷◌, refl, codes, Some, None}
-use Rattle.rt_ids.specs.Content.{Values}
-use Rattle.rt_ids.specs.Action.{Enters, Leaves, Emits, Posts, Clocks, Places, FindsFull, Readies, Starts, Frees, Arms}
-use Rattle.rt_ids.specs.Action.{Fires, SetsAlarm, Ends, Returns}
+use Rattle.rt_actions.specs.Content.{Values}
+use Rattle.rt_actions.specs.Action.{Enters, Leaves, Emits, Posts, Clocks, Places, FindsFull, Readies, Starts, Frees, Arms}
+use Rattle.rt_actions.specs.Action.{Fires, SetsAlarm, Ends, Returns}
 use Rattle.rt_ids.specs.Lists.{those_below}
 use Rattle.rt_ids.specs.declared.op.Op.TheVariants as op
 use Rattle.rt_ids.specs.declared.ids.BodyId.TheVariants as body

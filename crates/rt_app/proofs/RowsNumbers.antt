@@ -2,7 +2,7 @@
 -- where messages are taken back or put off.
 use Rattle.std.proofs.Common.{◌≡◌, ℕ, true, false, [], ◌∷◌, refl, codes, Some, None}
 use Rattle.rt_ids.specs.Lists.{those_below}
-use Rattle.rt_ids.specs.Action.{Enters, Leaves, Returns}
+use Rattle.rt_actions.specs.Action.{Enters, Leaves, Returns}
 use Rattle.rt_ids.specs.declared.ids.BodyId.TheVariants as body
 use Rattle.rt_ids.specs.declared.ids.Section.TheVariants as section
 use Rattle.rt_app.specs.declared.bounds.BodyBound.{BodyBound}

@@ -3,10 +3,10 @@
 -- message ready an entry, is this project's own.
 use Rattle.std.specs.Prelude.{ℕ, nat_le, List, [], ◌∷◌, ◌++◌, replicate, slice_get, Option, Some, None, if◌then◌else◌}
 use Rattle.rt_ids.specs.Lists.{is_empty, then_from}
-use Rattle.rt_ids.specs.Location.{Guarded}
-use Rattle.rt_ids.specs.Content.{Message, Armed, messages, delays, least}
-use Rattle.rt_ids.specs.Action.{Enters, Leaves, Posts, Clocks, Starts, Frees, Fires, SetsAlarm, Ends, Returns}
-use Rattle.rt_ids.specs.Doing.{over, does}
+use Rattle.rt_actions.specs.Location.{Guarded}
+use Rattle.rt_actions.specs.Content.{Message, Armed, messages, delays, least}
+use Rattle.rt_actions.specs.Action.{Enters, Leaves, Posts, Clocks, Starts, Frees, Fires, SetsAlarm, Ends, Returns}
+use Rattle.rt_actions.specs.Doing.{over, does}
 use Rattle.rt_ids.specs.declared.ids.BodyId.TheVariants as body
 use Rattle.rt_ids.specs.declared.ids.Section.TheVariants as section
 use Rattle.rt_app.specs.declared.costs.TheConstants.{FREE_COST}

@@ -2,7 +2,7 @@
 -- of one armed message at most. So a cancel and a move by a handle are of one message.
 use Rattle.std.specs.Prelude.{◌≡◌, ℕ, ◌<◌, ◌≤◌, slice_get, Some}
 use Rattle.std.specs.List.{AllByRecursion}
-use Rattle.rt_ids.specs.Content.{Armed, Timed}
+use Rattle.rt_actions.specs.Content.{Armed, Timed}
 
 -- each armed message has a handle that was given, and no two have one handle
 pub record AreHandled (t : Timed) : Type 0 where

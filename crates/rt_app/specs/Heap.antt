@@ -4,7 +4,7 @@
 -- message at a time; here it is a whole list beside the list in order of arming.
 use Rattle.std.specs.Prelude.{◌≡◌, ℕ, ◌+◌, ◌-◌, ◌*◌, ◌/◌, ◌^◌, ◌<◌, ◌≤◌, List, length, slice_get, slice_index_or, Some}
 use Rattle.std.specs.List.{AllByRecursion}
-use Rattle.rt_ids.specs.Entry.{Entry, count}
+use Rattle.rt_actions.specs.Entry.{Entry, count}
 
 -- the parent of an index in the heap: the children of i are 2 * i + 1 and 2 * i + 2
 abbrev pub above : ℕ → ℕ

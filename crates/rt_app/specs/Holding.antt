@@ -5,11 +5,11 @@ use Rattle.std.specs.Prelude.{◌≡◌, ℕ, ◌+◌, ◌-◌, ◌*◌, ◌%◌
 use Rattle.std.specs.Prelude.{length, map, slice_get, Some, option_map, Contains, IsSome}
 use Rattle.std.specs.List.{AllByRecursion, list_any, range_with_len}
 use Rattle.rt_ids.specs.Lists.{is_some_and, or_zero, then_from}
-use Rattle.rt_ids.specs.Location.{Location, Guarded, Own}
-use Rattle.rt_ids.specs.Content.{Content, Number, Messages, Delays, Message, Armed, Timed}
-use Rattle.rt_ids.specs.Entry.{Entry}
+use Rattle.rt_actions.specs.Location.{Location, Guarded, Own}
+use Rattle.rt_actions.specs.Content.{Content, Number, Messages, Delays, Message, Armed, Timed}
+use Rattle.rt_actions.specs.Entry.{Entry}
 use Rattle.rt_ids.specs.Priority.{hardware}
-use Rattle.rt_ids.specs.Storage.{Storage, Runner, Starting, AtPriority}
+use Rattle.rt_actions.specs.Storage.{Storage, Runner, Starting, AtPriority}
 use Rattle.rt_ids.specs.declared.ids.Section.TheVariants as section
 use Rattle.rt_app.specs.Tree.{App}
 use Rattle.rt_app.specs.Bodies.{Member, members}

@@ -5,8 +5,8 @@
 use Rattle.std.specs.Prelude.{ℕ, ◌+◌, Bool, ◌&&◌, nat_lt, List, [], ◌∷◌, ◌++◌, codes, decimal, length, map, flat_map}
 use Rattle.std.specs.Prelude.{filter, sum_by, take, slice_index_or, if◌then◌else◌, Option, Some, None}
 use Rattle.std.specs.List.{range_with_len}
-use Rattle.rt_ids.specs.Location.{Guarded, Own}
-use Rattle.rt_ids.specs.Storage.{Home, At, In, Nowhere}
+use Rattle.rt_actions.specs.Location.{Guarded, Own}
+use Rattle.rt_actions.specs.Storage.{Home, At, In, Nowhere}
 use Rattle.rt_ids.specs.declared.cell.CellRow.{CellRow}
 use Rattle.rt_ids.specs.declared.ids.Section.TheVariants as section
 use Rattle.rt_app.specs.declared.app.Shared.{Shared}

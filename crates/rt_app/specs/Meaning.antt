@@ -5,10 +5,10 @@
 use Rattle.std.specs.Prelude.{ℕ, zero, suc, ◌-◌, ◌==◌, if◌then◌else◌, List, slice_index, slice_set}
 use Rattle.rt_ids.specs.Lists.{or_zero}
 use Rattle.rt_ids.specs.Operation.{operate}
-use Rattle.rt_ids.specs.Location.{Guarded, Own}
-use Rattle.rt_ids.specs.Content.{Values, Number, number, values_with}
-use Rattle.rt_ids.specs.Action.{Enters, Leaves, Emits, Posts, Clocks}
-use Rattle.rt_ids.specs.Doing.{does}
+use Rattle.rt_actions.specs.Location.{Guarded, Own}
+use Rattle.rt_actions.specs.Content.{Values, Number, number, values_with}
+use Rattle.rt_actions.specs.Action.{Enters, Leaves, Emits, Posts, Clocks}
+use Rattle.rt_actions.specs.Doing.{does}
 use Rattle.rt_ids.specs.declared.ids.Section.TheVariants as section
 use Rattle.rt_app.specs.declared.expr.Atom.{Atom}
 use Rattle.rt_app.specs.declared.expr.Atom.TheVariants as atom

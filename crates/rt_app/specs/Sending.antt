@@ -5,11 +5,11 @@
 use Rattle.std.specs.Prelude.{ℕ, ◌+◌, min, nat_lt, Bool, List, [], ◌∷◌, map, slice_get, option_map, is_some}
 use Rattle.std.specs.Prelude.{if◌then◌else◌}
 use Rattle.rt_ids.specs.Lists.{or_zero, then_from}
-use Rattle.rt_ids.specs.Location.{Guarded}
-use Rattle.rt_ids.specs.Content.{Message, Values, number, timer_content, delays, message_of_handle}
-use Rattle.rt_ids.specs.Action.{Action, Enters, Leaves, Posts, Clocks, Places, FindsFull, Readies, Frees, Arms, Cancels}
-use Rattle.rt_ids.specs.Action.{Moves, SetsAlarm}
-use Rattle.rt_ids.specs.Doing.{Doing, does}
+use Rattle.rt_actions.specs.Location.{Guarded}
+use Rattle.rt_actions.specs.Content.{Message, Values, number, timer_content, delays, message_of_handle}
+use Rattle.rt_actions.specs.Action.{Action, Enters, Leaves, Posts, Clocks, Places, FindsFull, Readies, Frees, Arms, Cancels}
+use Rattle.rt_actions.specs.Action.{Moves, SetsAlarm}
+use Rattle.rt_actions.specs.Doing.{Doing, does}
 use Rattle.rt_ids.specs.declared.limits.TheConstants.{LONGEST_DELAY}
 use Rattle.rt_ids.specs.declared.ids.Section.TheVariants as section
 use Rattle.rt_app.specs.declared.costs.TheConstants.{FREE_COST, READY_COST}

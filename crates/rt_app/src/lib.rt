@@ -1,6 +1,6 @@
 // Applications with their names resolved, and what they mean: rules, ceilings, costs, frames, bounds, memory.
 // Promises: every accepted application is sound; most definitions of the theory are here.
-// Stands on: rt_lemmas, rt_ids.
+// Stands on: rt_lemmas, rt_ids, rt_actions.
 // Read next: specs/Tree.antt, then specs/Meaning.antt: what a statement means.
 #![tactic(auto)]
 

@@ -1,12 +1,12 @@
 -- What the running job does is what Baker's machine has it do.
 use Rattle.std.proofs.Common.{◌≡◌, ◌≢◌, ℕ, Bool, true, false, Option, None, if◌then◌else◌, List, [], ◌∷◌, ◌++◌}
 use Rattle.std.proofs.Common.{refl, ap, ◌∙◌, sym, subst}
-use Rattle.rt_ids.specs.Location.{Guarded}
-use Rattle.rt_ids.specs.Content.{Values, delays, least_instant}
+use Rattle.rt_actions.specs.Location.{Guarded}
+use Rattle.rt_actions.specs.Content.{Values, delays, least_instant}
 use Rattle.rt_ids.specs.declared.ids.Section.TheVariants as section
-use Rattle.rt_ids.specs.Action.{Action, Enters, Leaves, Emits, Posts, Clocks, Places, FindsFull, Readies, Starts}
-use Rattle.rt_ids.specs.Action.{Frees, Arms, Fires, Cancels, Moves, SetsAlarm, Ends, Returns, effect}
-use Rattle.rt_ids.specs.Doing.{Doing, over}
+use Rattle.rt_actions.specs.Action.{Action, Enters, Leaves, Emits, Posts, Clocks, Places, FindsFull, Readies, Starts}
+use Rattle.rt_actions.specs.Action.{Frees, Arms, Fires, Cancels, Moves, SetsAlarm, Ends, Returns, effect}
+use Rattle.rt_actions.specs.Doing.{Doing, over}
 use Rattle.rt_ids.specs.declared.ids.BodyId.TheVariants as body
 use Rattle.rt_app.specs.Tree.{App}
 use Rattle.rt_app.specs.Accepted.{IsAccepted}

@@ -1,8 +1,8 @@
 -- The running job goes on: it reads the clock, or its work has ended.
 use Rattle.std.proofs.Common.{◌≡◌, ℕ, List, [], refl, ap, ◌∙◌, sym, subst}
-use Rattle.rt_ids.specs.Content.{Values}
-use Rattle.rt_ids.specs.Action.{Clocks}
-use Rattle.rt_ids.specs.Doing.{Doing}
+use Rattle.rt_actions.specs.Content.{Values}
+use Rattle.rt_actions.specs.Action.{Clocks}
+use Rattle.rt_actions.specs.Doing.{Doing}
 use Rattle.rt_app.specs.Tree.{App}
 use Rattle.rt_laws.specs.State as laws
 use Rattle.rt_laws.specs.State.{reached_values}

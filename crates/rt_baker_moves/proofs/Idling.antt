@@ -1,9 +1,9 @@
 -- The thread as it begins `idle`, and as it waits.
 use Rattle.std.proofs.Common.{◌≡◌, ℕ, ◌++◌, Option, None, List, [], ◌∷◌, replicate, Bor, refl, ap, ◌∙◌, sym}
 use Rattle.std.proofs.Common.{subst}
-use Rattle.rt_ids.specs.Content.{Values}
-use Rattle.rt_ids.specs.Action.{Ends}
-use Rattle.rt_ids.specs.Doing.{Doing}
+use Rattle.rt_actions.specs.Content.{Values}
+use Rattle.rt_actions.specs.Action.{Ends}
+use Rattle.rt_actions.specs.Doing.{Doing}
 use Rattle.rt_ids.specs.declared.ids.BodyId.TheVariants as body_id
 use Rattle.rt_app.specs.declared.stmt.Stmt.{Stmt}
 use Rattle.rt_app.specs.Tree.{Body, Block, App}

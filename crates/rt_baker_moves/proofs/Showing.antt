@@ -2,7 +2,7 @@
 use Rattle.std.proofs.Common.{◌≡◌, ℕ, List, [], ◌∷◌, Bool, true, Some, IsTrue, IsFalse, ◌↔◌}
 use Rattle.std.proofs.Common.{refl, ap, ◌∙◌, sym}
 use Rattle.std.proofs.lemmas.Option.{same_Some}
-use Rattle.rt_ids.specs.Content.{Values}
+use Rattle.rt_actions.specs.Content.{Values}
 use Rattle.rt_trace.specs.declared.item.What.{What}
 use Rattle.rt_app.specs.Tree.{App}
 use Rattle.rt_app.specs.Meaning.{Later}

@@ -3,10 +3,10 @@ use Rattle.std.proofs.Common.{◌≡◌, ◌≢◌, ◌^◌, ℕ, Bool, false, L
 use Rattle.std.proofs.Common.{replicate, Option, Some, None}
 use Rattle.std.proofs.Common.{if◌then◌else◌, refl, ap, ◌∙◌, sym, subst}
 use Rattle.rt_ids.specs.Lists.{is_empty}
-use Rattle.rt_ids.specs.Location.{Guarded}
-use Rattle.rt_ids.specs.Content.{Message, Armed, Values, messages, delays}
-use Rattle.rt_ids.specs.Action.{Enters, Leaves, Posts, Clocks, Starts, Frees, Ends, Returns}
-use Rattle.rt_ids.specs.Doing.{Doing, over, does}
+use Rattle.rt_actions.specs.Location.{Guarded}
+use Rattle.rt_actions.specs.Content.{Message, Armed, Values, messages, delays}
+use Rattle.rt_actions.specs.Action.{Enters, Leaves, Posts, Clocks, Starts, Frees, Ends, Returns}
+use Rattle.rt_actions.specs.Doing.{Doing, over, does}
 use Rattle.rt_ids.specs.declared.ids.BodyId.TheVariants as body
 use Rattle.rt_ids.specs.declared.ids.Section.TheVariants as section
 use Rattle.rt_ids.specs.declared.limits.TheConstants.{IRQ_NUMBERS}

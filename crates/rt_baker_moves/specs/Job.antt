@@ -1,9 +1,9 @@
 -- What an auditor keeps of a job of Baker's machine (Stack-Based Scheduling of Realtime Processes, 1991), and the job
 -- that it stands for. The machine has what is left to do as a function; here it is a list of things to do.
 use Rattle.std.specs.Prelude.{◌≡◌, ℕ, List, []}
-use Rattle.rt_ids.specs.Content.{Values}
-use Rattle.rt_ids.specs.Action.{Ends, Returns}
-use Rattle.rt_ids.specs.Doing.{Doing, over}
+use Rattle.rt_actions.specs.Content.{Values}
+use Rattle.rt_actions.specs.Action.{Ends, Returns}
+use Rattle.rt_actions.specs.Doing.{Doing, over}
 use Rattle.rt_ids.specs.declared.ids.BodyId.TheVariants as body
 use Rattle.rt_ids.specs.declared.ids.Section.{Section}
 use Rattle.rt_app.specs.Tree.{App}

@@ -1,7 +1,7 @@
 // The thread after `init`.
 
 ghost use Rattle.std.specs.Prelude.{IfOk, []};
-ghost use Rattle.rt_ids.specs.Action.{Ends};
+ghost use Rattle.rt_actions.specs.Action.{Ends};
 ghost use Rattle.rt_ids.specs.declared.ids.BodyId.TheVariants as body_id;
 ghost use Rattle.rt_app.specs.View.{body_of, app_of};
 ghost use Rattle.rt_app.specs.BodyCost.{cost_measure, body_cost};

@@ -1,7 +1,7 @@
 // A started job.
 
 ghost use Rattle.std.specs.Prelude.{◌≡◌, ◌-◌, [], OnOk, MatchOption, map};
-ghost use Rattle.rt_ids.specs.Action.{Clocks};
+ghost use Rattle.rt_actions.specs.Action.{Clocks};
 ghost use Rattle.rt_app.specs.View.{app_of};
 ghost use Rattle.rt_baker_work.specs.Actions.{action_of};
 ghost use Rattle.rt_baker_work.specs.Code.{IsCode};

@@ -1,7 +1,7 @@
 // Baker's machine as an auditor follows it: the state that is kept of jobs, interrupts, values and time, what is known
 // beforehand of the application, and the moves from a state to the next.
 // Promises: the state that is kept is one of Baker's machine, after each move.
-// Stands on: rt_lemmas, rt_ids, rt_app, rt_ceil, rt_frames, rt_trace, rt_laws, rt_baker_work.
+// Stands on: rt_lemmas, rt_ids, rt_actions, rt_app, rt_ceil, rt_frames, rt_trace, rt_laws, rt_baker_work.
 // Read next: specs/State.antt, then src/moves.rt.
 #![tactic(auto)]
 

@@ -2,7 +2,7 @@
 
 ghost use Rattle.std.specs.Prelude.{◌≡◌, [], true, OnOk, MatchOption};
 ghost use Rattle.std.specs.List.{AllByRecursion};
-ghost use Rattle.rt_ids.specs.Action.{Clocks};
+ghost use Rattle.rt_actions.specs.Action.{Clocks};
 ghost use Rattle.rt_app.specs.Tree.{App};
 ghost use Rattle.rt_app.specs.View.{app_of};
 ghost use Rattle.rt_trace.specs.Label.{Ticked, Rang};

@@ -1,7 +1,7 @@
 -- What is left to do behind a reading of the clock.
 use Rattle.std.proofs.Common.{◌≡◌, ℕ, ◌+◌, min, [], ◌∷◌, refl, ap, sym, subst}
-use Rattle.rt_ids.specs.Content.{Message}
-use Rattle.rt_ids.specs.Action.{Arms, Moves}
+use Rattle.rt_actions.specs.Content.{Message}
+use Rattle.rt_actions.specs.Action.{Arms, Moves}
 use Rattle.rt_ids.specs.declared.limits.TheConstants.{LONGEST_DELAY}
 use Rattle.rt_app.specs.Tree.{App}
 use Rattle.rt_app.specs.Sending.{act}

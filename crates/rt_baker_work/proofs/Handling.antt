@@ -2,7 +2,7 @@
 use Rattle.std.proofs.Common.{◌≡◌, ℕ, List, [], ◌∷◌, ◌++◌}
 use Rattle.std.proofs.Common.{replicate, Option, Some, Bor}
 use Rattle.std.proofs.Common.{option_map, ap, ◌∙◌, sym}
-use Rattle.rt_ids.specs.Content.{Message}
+use Rattle.rt_actions.specs.Content.{Message}
 use Rattle.rt_ids.specs.declared.ids.Section.TheVariants as section
 use Rattle.rt_app.specs.declared.body.Body as code
 use Rattle.rt_app.specs.declared.stmt.Stmt.{Stmt}

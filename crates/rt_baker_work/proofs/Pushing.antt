@@ -2,10 +2,10 @@
 use Rattle.std.proofs.Common.{◌≡◌, ℕ, ◌<◌, ◌≤◌, nat_lt, Bool, true, false, List, [], ◌∷◌, Option, Some}
 use Rattle.std.proofs.Common.{None, refl, ap, ◌∙◌, sym, arith, if◌then◌else◌, append_assoc, is_some, set}
 use Rattle.std.proofs.lemmas.Bool.Decides.{nat_tests}
-use Rattle.rt_ids.specs.Location.{Guarded}
-use Rattle.rt_ids.specs.Content.{Message, Values, number, timer_content, delays, message_of_handle}
-use Rattle.rt_ids.specs.Action.{Enters, Leaves, Clocks, Cancels, Frees}
-use Rattle.rt_ids.specs.Doing.{does}
+use Rattle.rt_actions.specs.Location.{Guarded}
+use Rattle.rt_actions.specs.Content.{Message, Values, number, timer_content, delays, message_of_handle}
+use Rattle.rt_actions.specs.Action.{Enters, Leaves, Clocks, Cancels, Frees}
+use Rattle.rt_actions.specs.Doing.{does}
 use Rattle.rt_ids.specs.declared.ids.Section.TheVariants as section
 use Rattle.rt_app.specs.declared.costs.TheConstants.{READY_COST, FREE_COST}
 use Rattle.rt_app.specs.Tree.{App}

@@ -4,8 +4,8 @@ use Rattle.std.proofs.Common.{map, set, length, get_or, take, Option, Some, None
 use Rattle.std.proofs.Common.{if◌then◌else◌}
 use Rattle.std.proofs.lemmas.List.{map_push}
 use Rattle.rt_lemmas.proofs.Lists.{map_next}
-use Rattle.rt_ids.specs.Location.{Guarded, Own}
-use Rattle.rt_ids.specs.Content.{Message, Values, Number, values_with}
+use Rattle.rt_actions.specs.Location.{Guarded, Own}
+use Rattle.rt_actions.specs.Content.{Message, Values, Number, values_with}
 use Rattle.rt_ids.specs.declared.ids.Section.TheVariants as section
 use Rattle.rt_app.specs.declared.costs.TheConstants.{FREE_COST}
 use Rattle.rt_app.specs.declared.expr.Atom.{Atom}

@@ -10,11 +10,11 @@ use Rattle.std.specs.List.{position_or_len, remove, slice_get}
 use Rattle.std.specs.Option.{option_and_then}
 use Rattle.rt_ids.proofs.Lists.{find_by_position}
 use Rattle.rt_lemmas.proofs.Lists.{mapped_read}
-use Rattle.rt_ids.specs.Location.{Location, Guarded, Own}
-use Rattle.rt_ids.specs.Content.{Message, Armed, Timed, Content, Number, Messages, Delays, Values, values_with}
-use Rattle.rt_ids.specs.Content.{timer_content}
-use Rattle.rt_ids.specs.Content.{without_least, has_handle, without_handle, postponed_message, message_of_handle}
-use Rattle.rt_ids.specs.Action.{effect, Places, Frees, Readies, Starts, Arms, Fires, Cancels, Moves}
+use Rattle.rt_actions.specs.Location.{Location, Guarded, Own}
+use Rattle.rt_actions.specs.Content.{Message, Armed, Timed, Content, Number, Messages, Delays, Values, values_with}
+use Rattle.rt_actions.specs.Content.{timer_content}
+use Rattle.rt_actions.specs.Content.{without_least, has_handle, without_handle, postponed_message, message_of_handle}
+use Rattle.rt_actions.specs.Action.{effect, Places, Frees, Readies, Starts, Arms, Fires, Cancels, Moves}
 use Rattle.rt_ids.specs.declared.ids.Section.TheVariants as section
 use Rattle.rt_baker_work.specs.Store.{Store, contents}
 

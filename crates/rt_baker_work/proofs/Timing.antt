@@ -8,9 +8,9 @@ use Rattle.std.proofs.lemmas.List.{take_more}
 use Rattle.std.proofs.lemmas.Option.{slice_get_read}
 use Rattle.rt_ids.proofs.Lists.{find_by_position}
 use Rattle.rt_ids.specs.Lists.{then_from}
-use Rattle.rt_ids.specs.Location.{Guarded}
-use Rattle.rt_ids.specs.Content.{Message, Armed, delays, lesser, least_instant, has_instant, least}
-use Rattle.rt_ids.specs.Action.{Leaves, Fires, SetsAlarm}
+use Rattle.rt_actions.specs.Location.{Guarded}
+use Rattle.rt_actions.specs.Content.{Message, Armed, delays, lesser, least_instant, has_instant, least}
+use Rattle.rt_actions.specs.Action.{Leaves, Fires, SetsAlarm}
 use Rattle.rt_ids.specs.declared.ids.Section.TheVariants as section
 use Rattle.rt_app.specs.Tree.{App}
 use Rattle.rt_app.specs.Bodies.{task_priority}

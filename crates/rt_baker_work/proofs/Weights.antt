@@ -4,7 +4,7 @@ use Rattle.std.proofs.Common.{Some, Bor, set, refl, ap, ◌∙◌, sym, subst, a
 use Rattle.std.specs.List.{slice_get}
 use Rattle.std.proofs.lemmas.Option.{same_Some, none-some}
 use Rattle.rt_ids.specs.Lists.{then_from}
-use Rattle.rt_ids.specs.Content.{Message}
+use Rattle.rt_actions.specs.Content.{Message}
 use Rattle.rt_ids.specs.declared.ids.Section.TheVariants as section
 use Rattle.rt_app.specs.declared.stmt.Stmt.{Stmt}
 use Rattle.rt_app.specs.Tree.{Body, Block, Empty, Then, Statement, Branch, Locked, Expression, Task, App}

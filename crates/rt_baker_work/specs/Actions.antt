@@ -1,6 +1,6 @@
 -- The actions of the code as those of the definitions (`rt_ids`; the RTIC 1 book, resources, software tasks and the
 -- monotonic). The code has no action for a reading of the clock, a return, or the end of `init` or `idle`.
-use Rattle.rt_ids.specs.Action as action
+use Rattle.rt_actions.specs.Action as action
 use Rattle.rt_ids.specs.declared.ids.BodyId.TheVariants as body
 use Rattle.rt_baker_work.specs.declared.action.Action.{Action}
 use Rattle.rt_baker_work.specs.declared.action.Action.TheVariants as code

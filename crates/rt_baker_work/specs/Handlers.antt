@@ -2,10 +2,10 @@
 -- definitions (`rt_app`) the return of a handler is a part of what it does; here it comes after all that there is to
 -- do.
 use Rattle.std.specs.Prelude.{[]}
-use Rattle.rt_ids.specs.Location.{Guarded}
-use Rattle.rt_ids.specs.Content.{messages}
-use Rattle.rt_ids.specs.Action.{Enters, Clocks}
-use Rattle.rt_ids.specs.Doing.{does}
+use Rattle.rt_actions.specs.Location.{Guarded}
+use Rattle.rt_actions.specs.Content.{messages}
+use Rattle.rt_actions.specs.Action.{Enters, Clocks}
+use Rattle.rt_actions.specs.Doing.{does}
 use Rattle.rt_ids.specs.declared.ids.Section.TheVariants as section
 use Rattle.rt_app.specs.Tree.{App}
 use Rattle.rt_app.specs.Handlers.{Handler, Runs, Dispatches, Times}

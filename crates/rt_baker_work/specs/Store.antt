@@ -2,8 +2,8 @@
 -- The definitions have one function from what holds something to what it holds (`rt_ids`; the RTIC 1 book, resources,
 -- software tasks and the monotonic).
 use Rattle.std.specs.Prelude.{ℕ, ◌-◌, ◌^◌, ◌<◌, List, [], slice_index, slice_index_or}
-use Rattle.rt_ids.specs.Location.{Guarded, Own}
-use Rattle.rt_ids.specs.Content.{Message, Timed, Number, Messages, Delays, Values}
+use Rattle.rt_actions.specs.Location.{Guarded, Own}
+use Rattle.rt_actions.specs.Content.{Message, Timed, Number, Messages, Delays, Values}
 use Rattle.rt_ids.specs.declared.ids.Section.TheVariants as section
 
 -- what an auditor keeps of resources and queues

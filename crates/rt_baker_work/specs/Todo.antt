@@ -4,11 +4,11 @@
 use Rattle.std.specs.Prelude.{ℕ, ◌-◌, List, [], ◌∷◌, ◌++◌, replicate, slice_get, slice_set, Option, Some}
 use Rattle.std.specs.Prelude.{None, if◌then◌else◌}
 use Rattle.rt_ids.specs.Lists.{is_empty, then_from}
-use Rattle.rt_ids.specs.Location.{Guarded}
-use Rattle.rt_ids.specs.Content.{Message, Armed, messages, timer_content, delays}
-use Rattle.rt_ids.specs.Action.{Enters, Leaves, Posts, Clocks, Places, FindsFull, Starts, Frees, Arms, Fires}
-use Rattle.rt_ids.specs.Action.{Cancels, Moves, SetsAlarm, Ends}
-use Rattle.rt_ids.specs.Doing.{does}
+use Rattle.rt_actions.specs.Location.{Guarded}
+use Rattle.rt_actions.specs.Content.{Message, Armed, messages, timer_content, delays}
+use Rattle.rt_actions.specs.Action.{Enters, Leaves, Posts, Clocks, Places, FindsFull, Starts, Frees, Arms, Fires}
+use Rattle.rt_actions.specs.Action.{Cancels, Moves, SetsAlarm, Ends}
+use Rattle.rt_actions.specs.Doing.{does}
 use Rattle.rt_ids.specs.declared.ids.BodyId.TheVariants as body
 use Rattle.rt_ids.specs.declared.ids.Section.TheVariants as section
 use Rattle.rt_app.specs.declared.costs.TheConstants.{FREE_COST}

@@ -2,7 +2,7 @@
 
 ghost use Rattle.std.specs.Prelude.{◌≡◌, ◌+◌, ◌≤◌, ◌∷◌, [], ◌++◌, OnOk, List, if◌then◌else◌};
 ghost use Rattle.rt_ids.specs.Lists.{is_empty};
-ghost use Rattle.rt_ids.specs.Content as content;
+ghost use Rattle.rt_actions.specs.Content as content;
 ghost use Rattle.rt_ids.specs.declared.ids.Section.TheVariants as section;
 ghost use Rattle.rt_app.specs.declared.costs.TheConstants.{FREE_COST};
 ghost use Rattle.rt_app.specs.View.{app_of};

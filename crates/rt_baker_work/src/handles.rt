@@ -1,7 +1,7 @@
 // What a `cancel` and a `reschedule_after` do.
 
 ghost use Rattle.std.specs.Prelude.{◌+◌, ◌<◌, ◌≤◌, ◌^◌, OnOk};
-ghost use Rattle.rt_ids.specs.Action.{Leaves};
+ghost use Rattle.rt_actions.specs.Action.{Leaves};
 ghost use Rattle.rt_ids.specs.declared.ids.Section.TheVariants as section;
 ghost use Rattle.rt_app.specs.Tree.{App};
 ghost use Rattle.rt_app.specs.Sending.{act};

@@ -1,7 +1,7 @@
 // A job's work: what bodies and handlers have to do, one thing after another up to the next action, what actions change
 // in resources and queues, and which items show them.
 // Promises: what is left of a job is what its body means, after each thing that is done.
-// Stands on: rt_lemmas, rt_ids, rt_app, rt_frames, rt_trace.
+// Stands on: rt_lemmas, rt_ids, rt_actions, rt_app, rt_frames, rt_trace.
 // Read next: specs/Todo.antt, then src/statement.rt.
 #![tactic(auto)]
 

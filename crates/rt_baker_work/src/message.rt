@@ -14,7 +14,7 @@ pub struct Message {
 }
 
 impl Model for Message {
-    ghost use Rattle.rt_ids.specs.Content.{Message};
+    ghost use Rattle.rt_actions.specs.Content.{Message};
 
     ghost Value = { Message };
 
@@ -65,7 +65,7 @@ pub struct Armed {
 }
 
 impl Model for Armed {
-    ghost use Rattle.rt_ids.specs.Content.{Armed};
+    ghost use Rattle.rt_actions.specs.Content.{Armed};
 
     ghost Value = { Armed };
 

@@ -1,11 +1,11 @@
 // What resources and queues hold.
 
 ghost use Rattle.std.specs.Prelude.{◌≡◌, ◌≤◌, ◌++◌, OnOk, drop, is_some, length, map, slice_index};
-ghost use Rattle.rt_ids.specs.Action.{effect, Places, Frees, Readies, Starts, Arms, Fires, Cancels, Moves};
-ghost use Rattle.rt_ids.specs.Content as content;
-ghost use Rattle.rt_ids.specs.Location.{Guarded, Own};
-ghost use Rattle.rt_ids.specs.Content.{Number, number, messages, timer_content, delays, nothing_armed, values_with};
-ghost use Rattle.rt_ids.specs.Content.{message_of_handle, postponed_message, without_handle};
+ghost use Rattle.rt_actions.specs.Action.{effect, Places, Frees, Readies, Starts, Arms, Fires, Cancels, Moves};
+ghost use Rattle.rt_actions.specs.Content as content;
+ghost use Rattle.rt_actions.specs.Location.{Guarded, Own};
+ghost use Rattle.rt_actions.specs.Content.{Number, number, messages, timer_content, delays, nothing_armed, values_with};
+ghost use Rattle.rt_actions.specs.Content.{message_of_handle, postponed_message, without_handle};
 ghost use Rattle.rt_ids.specs.declared.ids.Section.TheVariants as section;
 ghost use Rattle.rt_baker_work.specs.Actions.{action_of};
 ghost use Rattle.rt_baker_work.specs.Store.{contents, MayTakeOne};

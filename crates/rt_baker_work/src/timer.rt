@@ -1,7 +1,7 @@
 // The armed messages: the first that is due, and the one of a handle.
 
 ghost use Rattle.std.specs.Prelude.{◌≡◌, ◌≤◌, OnOk, None, Some, option_map, position};
-ghost use Rattle.rt_ids.specs.Content.{least_instant, lesser, has_instant, has_handle};
+ghost use Rattle.rt_actions.specs.Content.{least_instant, lesser, has_instant, has_handle};
 ghost use Rattle.rt_app.specs.Tree as tree;
 ghost use Rattle.rt_app.specs.View.{app_of};
 ghost use Rattle.rt_app.specs.Doings.{due};

@@ -5,7 +5,7 @@ use Rattle.std.specs.List.{AllByRecursion}
 use Rattle.std.proofs.lemmas.Option.{slice_get_within}
 use Rattle.rt_lemmas.proofs.Membership.{contains_at}
 use Rattle.rt_ids.specs.Names.{Names}
-use Rattle.rt_ids.specs.Storage.{Starting}
+use Rattle.rt_actions.specs.Storage.{Starting}
 use Rattle.rt_app.specs.declared.app.App as code
 use Rattle.rt_app.specs.declared.app.Mono.{Mono}
 use Rattle.rt_app.specs.declared.plan.Plan.{Plan}

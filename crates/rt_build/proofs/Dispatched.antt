@@ -4,7 +4,7 @@ use Rattle.std.proofs.Common.{◌≡◌, ◌==◌, ℕ, true, List, length, slic
 use Rattle.std.proofs.Common.{if◌then◌else◌}
 use Rattle.rt_lemmas.proofs.Bools.{and_left}
 use Rattle.rt_ids.specs.Lists.{is_some_and}
-use Rattle.rt_ids.specs.Storage.{AtPriority}
+use Rattle.rt_actions.specs.Storage.{AtPriority}
 use Rattle.rt_app.specs.declared.costs.TheConstants.{DISPATCHER_WORDS}
 use Rattle.rt_app.specs.Tree.{Task, App}
 use Rattle.rt_app.specs.Accepted.{IsAccepted}

@@ -13,7 +13,7 @@ use Rattle.std.specs.Prelude.{slice_set}
 use Rattle.std.proofs.Math.Seq.{take-append_seam}
 use Rattle.rt_lemmas.proofs.Membership.{all_append}
 use Rattle.rt_lemmas.proofs.Indices.{at_back}
-use Rattle.rt_ids.specs.Storage.{Starting, AtPriority}
+use Rattle.rt_actions.specs.Storage.{Starting, AtPriority}
 use Rattle.rt_ids.specs.declared.ids.BodyId.TheVariants as body
 use Rattle.rt_app.specs.declared.app.Mono.{Mono}
 use Rattle.rt_app.specs.Tree.{Body, Task, App}

@@ -6,7 +6,7 @@
 use Rattle.std.specs.Prelude.{◌≡◌, ◌≤◌, ℕ, Bool, false, List, length, map, slice_get, Option, Some, None, if◌then◌else◌}
 use Rattle.std.specs.Prelude.{Contains}
 use Rattle.rt_ids.specs.Lists.{is_some_and}
-use Rattle.rt_ids.specs.Storage.{Starting, AtPriority}
+use Rattle.rt_actions.specs.Storage.{Starting, AtPriority}
 use Rattle.rt_app.specs.declared.app.Mono.{Mono}
 use Rattle.rt_app.specs.declared.costs.TheConstants.{DISPATCHER_WORDS, TIMER_WORDS}
 use Rattle.rt_app.specs.Tree.{Body, Task, App}

@@ -1,8 +1,8 @@
 -- What a line does when more serves: a weaker wish for what comes later, code that stands elsewhere, and other `lefts`.
 -- R says which `lefts` may stand for which; it holds of what opening and leaving a section make of them.
 use Rattle.std.proofs.Common.{ℕ, ◌-◌, Bool, List, ◌∷◌, drop, Option, Some, None}
-use Rattle.rt_ids.specs.Action.{Action, effect}
-use Rattle.rt_ids.specs.Storage.{Storage, Runner}
+use Rattle.rt_actions.specs.Action.{Action, effect}
+use Rattle.rt_actions.specs.Storage.{Storage, Runner}
 use Rattle.rt_ids.specs.declared.ids.BodyId.{BodyId}
 use Rattle.rt_ids.specs.declared.ids.BodyId.TheVariants as body
 use Rattle.rt_ids.specs.declared.ids.Section.{Section}

@@ -2,9 +2,9 @@
 use Rattle.std.proofs.Common.{◌≡◌, ◌≢◌, ℕ, zero, suc, ◌==◌, ◌⊎◌, inl, inr, Bool, true, false, List, [], ◌∷◌, length}
 use Rattle.std.proofs.Common.{slice_get, slice_index, Option, Some, None, refl, sym, ap, subst, ◌∙◌, arith}
 use Rattle.std.proofs.lemmas.Bool.Decides.{eqb_tells}
-use Rattle.rt_ids.specs.Entry.{Entry}
-use Rattle.rt_ids.specs.Location.{Location}
-use Rattle.rt_ids.specs.Storage.{Storage, Runner}
+use Rattle.rt_actions.specs.Entry.{Entry}
+use Rattle.rt_actions.specs.Location.{Location}
+use Rattle.rt_actions.specs.Storage.{Storage, Runner}
 use Rattle.rt_code.specs.Access.{Access, Loads, Stores, access_of, access_with}
 use Rattle.rt_code.specs.Effect.{effect}
 use Rattle.rt_code.specs.Owning.{Configuration, MayLoad, MayAccess, LeavesMine}

@@ -3,7 +3,7 @@ use Rattle.std.proofs.Common.{◌≡◌, ℕ, zero, suc, ◌-◌, ◌<◌, ◌�
 use Rattle.std.proofs.Common.{None, refl, subst, sym, arith}
 use Rattle.std.proofs.lemmas.Option.{none-some}
 use Rattle.std.specs.List.{AllByRecursion}
-use Rattle.rt_ids.specs.Storage.{Storage, Runner}
+use Rattle.rt_actions.specs.Storage.{Storage, Runner}
 use Rattle.rt_code.specs.Owning.{Configuration}
 use Rattle.rt_code.specs.Standing.{Stands, LineFits, spend_step}
 use Rattle.rt_code.specs.StandingLaws.{AreAtLeast, StandsBeforeMore, StandsWithMore}

@@ -3,14 +3,14 @@
 -- Actions are this project's own.
 use Rattle.std.specs.Prelude.{◌≡◌, ℕ, ◌+◌, ◌≤◌, true, List, [], ◌∷◌, ◌++◌, length, take, drop, slice_get, Option, Some}
 use Rattle.std.specs.Prelude.{if◌then◌else◌}
-use Rattle.rt_ids.specs.Location.{Location, Guarded, is_same_location}
-use Rattle.rt_ids.specs.Content.{Message, Values, delays, least_instant}
-use Rattle.rt_ids.specs.Entry.{Entry}
-use Rattle.rt_ids.specs.Action.{Action, Places, FindsFull, Readies, Starts, Frees, Arms, Fires, Cancels, Moves}
-use Rattle.rt_ids.specs.Action.{SetsAlarm}
-use Rattle.rt_ids.specs.Action.{effect}
-use Rattle.rt_ids.specs.Doing.{Doing, does}
-use Rattle.rt_ids.specs.Storage.{Storage, Runner}
+use Rattle.rt_actions.specs.Location.{Location, Guarded, is_same_location}
+use Rattle.rt_actions.specs.Content.{Message, Values, delays, least_instant}
+use Rattle.rt_actions.specs.Entry.{Entry}
+use Rattle.rt_actions.specs.Action.{Action, Places, FindsFull, Readies, Starts, Frees, Arms, Fires, Cancels, Moves}
+use Rattle.rt_actions.specs.Action.{SetsAlarm}
+use Rattle.rt_actions.specs.Action.{effect}
+use Rattle.rt_actions.specs.Doing.{Doing, does}
+use Rattle.rt_actions.specs.Storage.{Storage, Runner}
 use Rattle.rt_ids.specs.declared.ids.Section.{Section}
 use Rattle.rt_ids.specs.declared.ids.Section.TheVariants as section
 use Rattle.rt_code.specs.Owning.{Configuration, is_open, Agree}

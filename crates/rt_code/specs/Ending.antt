@@ -1,11 +1,11 @@
 -- How a job ends, and how a handler calls a body that runs in a frame of its own (the RTIC 1 book, software tasks: a
 -- dispatcher runs their bodies one after another). Calls are this project's own.
 use Rattle.std.specs.Prelude.{◌≡◌, ℕ, suc, ◌<◌, true, List, [], length, slice_get, slice_index, Option, Some, None}
-use Rattle.rt_ids.specs.Location.{Location}
-use Rattle.rt_ids.specs.Content.{Values}
-use Rattle.rt_ids.specs.Action.{Action, Ends}
-use Rattle.rt_ids.specs.Doing.{Doing, does}
-use Rattle.rt_ids.specs.Storage.{Storage, Runner, Starting, AtPriority}
+use Rattle.rt_actions.specs.Location.{Location}
+use Rattle.rt_actions.specs.Content.{Values}
+use Rattle.rt_actions.specs.Action.{Action, Ends}
+use Rattle.rt_actions.specs.Doing.{Doing, does}
+use Rattle.rt_actions.specs.Storage.{Storage, Runner, Starting, AtPriority}
 use Rattle.rt_ids.specs.declared.ids.BodyId.{BodyId}
 use Rattle.rt_ids.specs.declared.ids.BodyId.TheVariants as body
 use Rattle.rt_code.specs.Acting.{Acts}

@@ -6,12 +6,12 @@ use Rattle.std.specs.Prelude.{◌≡◌, ℕ, suc, ◌-◌, ◌<◌, ◌≤◌, 
 use Rattle.std.specs.Prelude.{slice_set, Contains}
 use Rattle.std.specs.List.{AllByRecursion}
 use Rattle.rt_ids.specs.Lists.{greatest}
-use Rattle.rt_ids.specs.Location.{Location, Guarded}
-use Rattle.rt_ids.specs.Content.{Values, MayArm}
-use Rattle.rt_ids.specs.Entry.{Entry}
-use Rattle.rt_ids.specs.Action.{Enters, Leaves}
-use Rattle.rt_ids.specs.Doing.{Doing, does}
-use Rattle.rt_ids.specs.Storage.{Storage, Runner, Starting, AtPriority}
+use Rattle.rt_actions.specs.Location.{Location, Guarded}
+use Rattle.rt_actions.specs.Content.{Values, MayArm}
+use Rattle.rt_actions.specs.Entry.{Entry}
+use Rattle.rt_actions.specs.Action.{Enters, Leaves}
+use Rattle.rt_actions.specs.Doing.{Doing, does}
+use Rattle.rt_actions.specs.Storage.{Storage, Runner, Starting, AtPriority}
 use Rattle.rt_ids.specs.declared.ids.Section.{Section}
 use Rattle.rt_code.specs.Owning.{Kind, Marked, Raised, Masked, OpenSection, Configuration, is_open, saved_slot}
 use Rattle.rt_code.specs.Owning.{saved_slots, mine}

@@ -4,11 +4,11 @@
 use Rattle.std.specs.Prelude.{◌≡◌, ℕ, ◌+◌, ◌<◌, ◌||◌, Bool, true, List, [], ◌∷◌, length, slice_index, flat_map, sum_by}
 use Rattle.std.specs.Prelude.{Option, Some, None}
 use Rattle.std.specs.List.{list_any}
-use Rattle.rt_ids.specs.Location.{Location, Guarded, Own, is_same_section}
-use Rattle.rt_ids.specs.Content.{Values}
-use Rattle.rt_ids.specs.Entry.{Entry, count}
-use Rattle.rt_ids.specs.Doing.{Doing}
-use Rattle.rt_ids.specs.Storage.{Storage, Runner, Home, At, In, Nowhere}
+use Rattle.rt_actions.specs.Location.{Location, Guarded, Own, is_same_section}
+use Rattle.rt_actions.specs.Content.{Values}
+use Rattle.rt_actions.specs.Entry.{Entry, count}
+use Rattle.rt_actions.specs.Doing.{Doing}
+use Rattle.rt_actions.specs.Storage.{Storage, Runner, Home, At, In, Nowhere}
 use Rattle.rt_ids.specs.declared.ids.Section.{Section}
 use Rattle.rt_code.specs.Access.{Access, Loads, Stores}
 

@@ -7,12 +7,12 @@
 use Rattle.std.specs.Prelude.{◌≡◌, ℕ, zero, suc, ◌-◌, ◌^◌, ◌<◌, Bool, true, false, ◌||◌, List, [], ◌∷◌, length, map}
 use Rattle.std.specs.Prelude.{slice_get, slice_index, Option, Some, None}
 use Rattle.std.specs.List.{AllByRecursion}
-use Rattle.rt_ids.specs.Location.{Location}
-use Rattle.rt_ids.specs.Content.{Values}
-use Rattle.rt_ids.specs.Entry.{Entry}
-use Rattle.rt_ids.specs.Action.{Emits, Posts, Clocks, Returns}
-use Rattle.rt_ids.specs.Doing.{Doing}
-use Rattle.rt_ids.specs.Storage.{Storage, Runner}
+use Rattle.rt_actions.specs.Location.{Location}
+use Rattle.rt_actions.specs.Content.{Values}
+use Rattle.rt_actions.specs.Entry.{Entry}
+use Rattle.rt_actions.specs.Action.{Emits, Posts, Clocks, Returns}
+use Rattle.rt_actions.specs.Doing.{Doing}
+use Rattle.rt_actions.specs.Storage.{Storage, Runner}
 use Rattle.rt_code.specs.Access.{access_of}
 use Rattle.rt_code.specs.Acting.{Acts, SetsTheAlarm, Noted}
 use Rattle.rt_code.specs.Effect as instruction

@@ -1,10 +1,10 @@
 -- What holds of all code that stands: further code after it, more steps than it needs, and whatever others do to what
 -- is not the job's own change nothing of it; and of each of its steps what the definition says.
 use Rattle.std.specs.Prelude.{◌≡◌, ℕ, suc, ◌<◌, ◌≤◌, ◌⊎◌, false, List, [], ◌∷◌, ◌++◌, Option}
-use Rattle.rt_ids.specs.Location.{Location}
-use Rattle.rt_ids.specs.Content.{Content}
-use Rattle.rt_ids.specs.Entry.{Entry, count}
-use Rattle.rt_ids.specs.Storage.{Storage, Runner, At, In}
+use Rattle.rt_actions.specs.Location.{Location}
+use Rattle.rt_actions.specs.Content.{Content}
+use Rattle.rt_actions.specs.Entry.{Entry, count}
+use Rattle.rt_actions.specs.Storage.{Storage, Runner, At, In}
 use Rattle.rt_code.specs.Owning.{Configuration, LeavesMine}
 use Rattle.rt_code.specs.Standing.{Stands}
 use Rattle.rt_code.specs.StandingSteps.{StepLaw, MaskLaw, FrameLaw, TakingOver, GivingBack, EndLaw}

@@ -3,8 +3,8 @@
 use Rattle.std.specs.Prelude.{◌≡◌, ℕ, suc, ◌^◌, ◌<◌, ◌⊎◌, Bool, true, false, List, ◌∷◌, length, slice_get}
 use Rattle.std.specs.Prelude.{Option, Some, None, Contains}
 use Rattle.std.specs.List.{AllByRecursion}
-use Rattle.rt_ids.specs.Action.{Ends, Returns}
-use Rattle.rt_ids.specs.Storage.{Storage, Runner, Starting, AtPriority}
+use Rattle.rt_actions.specs.Action.{Ends, Returns}
+use Rattle.rt_actions.specs.Storage.{Storage, Runner, Starting, AtPriority}
 use Rattle.rt_ids.specs.declared.ids.BodyId.TheVariants as body
 use Rattle.rt_ids.specs.declared.ids.Section.{Section}
 use Rattle.rt_code.specs.Access.{access_of}

@@ -1,6 +1,6 @@
 // Compiled code: instructions with their notes, the image that a core runs, and what one instruction does.
 // Promises: one instruction does what the definition says; the laws of correct code are lemmas here.
-// Stands on: rt_lemmas, rt_ids.
+// Stands on: rt_lemmas, rt_ids, rt_actions.
 // Read next: specs/Effect.antt, then specs/Standing.antt: what it is for code to be correct.
 #![tactic(auto)]
 

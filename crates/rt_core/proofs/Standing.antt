@@ -6,8 +6,8 @@ use Rattle.std.specs.List.{AllByRecursion}
 use Rattle.std.proofs.lemmas.Bool.{le-leb}
 use Rattle.rt_lemmas.proofs.Membership.{all_weaker}
 use Rattle.rt_ids.specs.Lists.{is_empty, then_from}
-use Rattle.rt_ids.specs.Action.{Clocks, Returns}
-use Rattle.rt_ids.specs.Storage.{Storage, Runner}
+use Rattle.rt_actions.specs.Action.{Clocks, Returns}
+use Rattle.rt_actions.specs.Storage.{Storage, Runner}
 use Rattle.rt_ids.specs.declared.ids.BodyId.{BodyId}
 use Rattle.rt_ids.specs.declared.ids.BodyId.TheVariants as body
 use Rattle.rt_ids.specs.declared.ids.Section.{Section}

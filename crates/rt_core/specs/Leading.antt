@@ -1,7 +1,7 @@
 -- Where a job is on the core, the cores that its instructions lead to, and what its notes show. They are words of
 -- this project's own for what the definitions of the core and of standing code say together.
 use Rattle.std.specs.Prelude.{◌≡◌, ℕ, false, List, length, None}
-use Rattle.rt_ids.specs.Storage.{Storage, Runner}
+use Rattle.rt_actions.specs.Storage.{Storage, Runner}
 use Rattle.rt_code.specs.Acting.{Noted}
 use Rattle.rt_code.specs.Owning.{Configuration}
 use Rattle.rt_code.specs.Processor.{Processor}

@@ -1,7 +1,7 @@
 // The core with its interrupt controller: a call is one event of the model, or several of one kind.
 // Promises: a call is one event of the model, or several of one kind; a step touches at most the one cell that it
 // names.
-// Stands on: rt_lemmas, rt_ids, rt_code, rt_nvic, rt_context, rt_image_tables, rt_trace.
+// Stands on: rt_lemmas, rt_ids, rt_actions, rt_code, rt_nvic, rt_context, rt_image_tables, rt_trace.
 // Read next: specs/Stepping.antt, then src/machine.rt.
 #![tactic(auto)]
 

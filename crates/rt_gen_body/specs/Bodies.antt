@@ -2,8 +2,8 @@
 -- has to do, whatever others do to what is not its own, within the cost that is printed for it, and then ends as its
 -- kind of body does (the RTIC 1 book: `init`, `idle`, hardware tasks, software tasks).
 use Rattle.std.specs.Prelude.{◌≡◌, ℕ, ◌<◌, true, false, ◌++◌, ⊤, List, [], length, slice_get, Option, Some, None}
-use Rattle.rt_ids.specs.Action.{Returns}
-use Rattle.rt_ids.specs.Storage.{Starting, AtPriority}
+use Rattle.rt_actions.specs.Action.{Returns}
+use Rattle.rt_actions.specs.Storage.{Starting, AtPriority}
 use Rattle.rt_ids.specs.declared.ids.BodyId.{BodyId}
 use Rattle.rt_ids.specs.declared.ids.BodyId.TheVariants as body
 use Rattle.rt_app.specs.Tree.{Task, App}

@@ -16,7 +16,7 @@ use Rattle.rt_gen_queue.proofs.Vocabulary.{rows_for, same_Some, slice_get, slice
 use Rattle.rt_gen_queue.proofs.Vocabulary.{suc, sym, take, take-append-le, true, with_queue, zero, zero-add, ℕ, ◌+◌}
 use Rattle.rt_gen_queue.proofs.Vocabulary.{◌-◌, ◌<◌, ◌==◌, ◌∙◌, ◌∷◌, ◌≡◌, ◌≤◌}
 use Rattle.std.proofs.lemmas.Bool.{cases_Bool}
-use Rattle.rt_ids.specs.Action.{Starts}
+use Rattle.rt_actions.specs.Action.{Starts}
 use Rattle.rt_ids.specs.declared.ids.BodyId.TheVariants as body
 use Rattle.rt_ids.specs.declared.ids.Section.TheVariants as section
 use Rattle.rt_ids.specs.declared.op.Op.TheVariants as op

@@ -2,7 +2,7 @@
 -- of the tasks stand when they are called: a dispatcher starts the oldest message of its level, gives its place back,
 -- runs the task's body and returns, whatever others do to what is not its own, within the cost that is counted for it.
 use Rattle.std.specs.Prelude.{◌≡◌, ℕ, true, List, length, slice_get, Some, Contains}
-use Rattle.rt_ids.specs.Storage.{AtPriority}
+use Rattle.rt_actions.specs.Storage.{AtPriority}
 use Rattle.rt_app.specs.declared.costs.TheConstants.{DISPATCHER_WORDS}
 use Rattle.rt_app.specs.Tree.{Task, App}
 use Rattle.rt_app.specs.Level.{is_of_level, levels}

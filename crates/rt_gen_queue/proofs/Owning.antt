@@ -12,7 +12,7 @@ use Rattle.rt_gen_queue.proofs.Vocabulary.{slice_index}
 use Rattle.rt_gen_queue.proofs.Vocabulary.{storage, subst, sym, true, with_queue, ℕ, ◌<◌, ◌||◌, ◌∙◌, ◌∷◌, ◌≡◌}
 use Rattle.std.proofs.lemmas.Bool.{cases_Bool}
 use Rattle.rt_lemmas.proofs.{Bools.or_neither, Indices.at_read}
-use Rattle.rt_ids.specs.Storage.{Nowhere}
+use Rattle.rt_actions.specs.Storage.{Nowhere}
 use Rattle.rt_ids.specs.declared.ids.Section.TheVariants as section
 use Rattle.rt_gen_queue.proofs.Layer.Jobs.{Setting}
 

@@ -7,7 +7,7 @@ use Rattle.rt_gen_queue.proofs.Vocabulary.{ready_room, refl, same_Some, same_ent
 use Rattle.rt_gen_queue.proofs.Vocabulary.{sum_by-append, sum_by-cons, sym, the_task, true, zero, ℕ, ◌*◌, ◌++◌, ◌+◌}
 use Rattle.rt_gen_queue.proofs.Vocabulary.{◌<◌, ◌∙◌, ◌∷◌, ◌≡◌, ◌≤◌}
 use Rattle.std.proofs.lemmas.Bool.{cases_Bool}
-use Rattle.rt_ids.specs.Entry.{is_same_entry}
+use Rattle.rt_actions.specs.Entry.{is_same_entry}
 use Rattle.rt_app.proofs.LaidQueues.{mapped}
 
 -- a list without one that stands in it

@@ -28,19 +28,20 @@ pub use Rattle.rt_lemmas.proofs.Lists.{rest_from}
 pub use Rattle.rt_lemmas.proofs.Membership.{all_append, all_at, all_has, all_weaker, any_passes, contains_cases}
 pub use Rattle.rt_lemmas.proofs.Membership.{contains_here, contains_none, contains_there}
 -- what jobs do and hold: sections, contents of queues, places of messages, actions
-pub use Rattle.rt_ids.specs.Action.{Action, Arms, Cancels, Clocks, Emits, Ends, Enters, Fires, Frees, Leaves, Moves}
-pub use Rattle.rt_ids.specs.Action.{Posts, Readies, FindsFull, Returns, SetsAlarm, Places, effect}
-pub use Rattle.rt_ids.specs.{Choice.IsIn, Doing.Doing, Doing.does, Entry.Entry, Entry.count, Names.Names}
+pub use Rattle.rt_actions.specs.Action.{Action, Arms, Cancels, Clocks, Emits, Ends, Enters, Fires, Frees, Leaves, Moves}
+pub use Rattle.rt_actions.specs.Action.{Posts, Readies, FindsFull, Returns, SetsAlarm, Places, effect}
+pub use Rattle.rt_ids.specs.{Choice.IsIn, Names.Names}
+pub use Rattle.rt_actions.specs.{Doing.Doing, Doing.does, Entry.Entry, Entry.count}
 pub use Rattle.rt_ids.specs.{Operation.number_of, Operation.operate, declared.ids.BodyId.BodyId}
 pub use Rattle.rt_ids.specs.{declared.ids.Section.Section, declared.limits.TheConstants.BODY_COST}
-pub use Rattle.rt_ids.specs.Content.{Armed, Content, Delays, MayArm, Message, Messages, Number, Timed, Values}
-pub use Rattle.rt_ids.specs.Content.{message_of_handle}
-pub use Rattle.rt_ids.specs.Content.{delays, least, least_instant, messages, number, values_with, timer_content}
-pub use Rattle.rt_ids.specs.Content.{with_armed}
-pub use Rattle.rt_ids.specs.Content.{with_moved, without_handle, without_least}
-pub use Rattle.rt_ids.specs.Location.{Guarded, Location, Own, is_same_location, is_same_section}
+pub use Rattle.rt_actions.specs.Content.{Armed, Content, Delays, MayArm, Message, Messages, Number, Timed, Values}
+pub use Rattle.rt_actions.specs.Content.{message_of_handle}
+pub use Rattle.rt_actions.specs.Content.{delays, least, least_instant, messages, number, values_with, timer_content}
+pub use Rattle.rt_actions.specs.Content.{with_armed}
+pub use Rattle.rt_actions.specs.Content.{with_moved, without_handle, without_least}
+pub use Rattle.rt_actions.specs.Location.{Guarded, Location, Own, is_same_location, is_same_section}
 pub use Rattle.rt_ids.specs.Lists.{greatest, is_some_and, or_zero, then_from}
-pub use Rattle.rt_ids.specs.Storage.{At, AtPriority, Home, In, Runner, Starting, Storage}
+pub use Rattle.rt_actions.specs.Storage.{At, AtPriority, Home, In, Runner, Starting, Storage}
 -- an application
 pub use Rattle.rt_app.specs.{Names.names_of, Spawned.spawns, Variables.variables, Variables.variables_in, View.app_of}
 pub use Rattle.rt_app.specs.{View.block_of, View.task_of, declared.app.Mono.Mono, declared.costs.TheConstants.FREE_COST}

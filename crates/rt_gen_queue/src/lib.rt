@@ -1,6 +1,6 @@
 // What code of bodies and of dispatchers is made with: lines, guards of sections, ready queues, and the code of spawns.
 // Promises: the code of a spawn stands wherever it is, in at most 128 lines.
-// Stands on: rt_lemmas, rt_ids, rt_app, rt_code.
+// Stands on: rt_lemmas, rt_ids, rt_actions, rt_app, rt_code.
 // Read next: specs/Spawning.antt, then src/spawn.rt; proofs/Layer.antt for the proofs of all generated code.
 #![tactic(auto)]
 

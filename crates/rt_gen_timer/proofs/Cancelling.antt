@@ -7,7 +7,7 @@ use Rattle.rt_gen_queue.proofs.Vocabulary.{handle_section_cost, leave, leave_tim
 use Rattle.rt_gen_queue.proofs.Vocabulary.{number}
 use Rattle.rt_gen_queue.proofs.Vocabulary.{operate, queued_more, refl, slice_index, storage, subst, suc, sym, take}
 use Rattle.rt_gen_queue.proofs.Vocabulary.{target_of, with_queue, ℕ, ◌*◌, ◌++◌, ◌+◌, ◌-◌, ◌<◌, ◌∙◌, ◌∷◌, ◌≡◌, ◌≤◌}
-use Rattle.rt_ids.specs.Content.{with_cancelled}
+use Rattle.rt_actions.specs.Content.{with_cancelled}
 use Rattle.rt_ids.specs.declared.ids.Section.TheVariants as section
 use Rattle.rt_ids.specs.declared.op.Op.TheVariants as op
 use Rattle.rt_app.{proofs.Counting.parts_alike, specs.Sending.cancel_actions}

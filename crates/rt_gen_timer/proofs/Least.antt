@@ -5,7 +5,7 @@ use Rattle.rt_gen_queue.proofs.Vocabulary.{least_instant, min, ne_eqb, not, refl
 use Rattle.rt_gen_queue.proofs.Vocabulary.{without_least, ℕ, ◌++◌, ◌+◌, ◌<◌, ◌==◌, ◌∙◌, ◌∷◌, ◌≡◌, ◌≢◌, ◌≤◌, ◌⊎◌}
 use Rattle.std.proofs.lemmas.Bool.{and_from, and_left, and_right}
 use Rattle.std.specs.List.{position_or_len, remove}
-use Rattle.rt_ids.specs.Content.{has_handle, has_instant, lesser}
+use Rattle.rt_actions.specs.Content.{has_handle, has_instant, lesser}
 use Rattle.rt_gen_timer.proofs.Numbered.{Along, all_around, along_before, along_others}
 
 -- where none passes none is found

@@ -8,7 +8,7 @@ use Rattle.rt_gen_queue.proofs.Vocabulary.{length}
 use Rattle.rt_gen_queue.proofs.Vocabulary.{length_push, map, map-append, operate, refl, slice_index, subst, sym}
 use Rattle.rt_gen_queue.proofs.Vocabulary.{timer_at, with_moved, without_handle, ℕ, ◌++◌, ◌+◌, ◌<◌, ◌^◌, ◌∙◌, ◌∷◌, ◌≡◌}
 use Rattle.rt_gen_queue.proofs.Vocabulary.{◌≢◌}
-use Rattle.rt_ids.specs.Content.{postponed_message}
+use Rattle.rt_actions.specs.Content.{postponed_message}
 use Rattle.rt_ids.specs.declared.op.Op.TheVariants as op
 use Rattle.rt_gen_queue.proofs.{Layer.Here, Layer.Setting, Layer.Straight, Layer.ahead, Layer.calculates, Layer.loads}
 use Rattle.rt_gen_queue.proofs.{Layer.reads_open, Layer.stores, Layer.stores_at, Layer.writes_open, Numbers.added}

@@ -12,7 +12,8 @@ use Rattle.rt_gen_queue.proofs.Vocabulary.{slice_get, slice_get_within, slice_in
 use Rattle.rt_gen_queue.proofs.Vocabulary.{the_task, timer_cost, true, with_queue, without_least, ℕ, ◌*◌}
 use Rattle.rt_gen_queue.proofs.Vocabulary.{◌++◌}
 use Rattle.rt_gen_queue.proofs.Vocabulary.{◌+◌, ◌-◌, ◌<◌, ◌^◌, ◌∙◌, ◌∷◌, ◌≡◌, ◌≤◌}
-use Rattle.rt_ids.specs.{Content.with_fired, declared.limits.TheConstants.CAPACITY}
+use Rattle.rt_ids.specs.{declared.limits.TheConstants.CAPACITY}
+use Rattle.rt_actions.specs.{Content.with_fired}
 use Rattle.rt_ids.specs.declared.ids.Section.TheVariants as section
 use Rattle.rt_app.{proofs.TimerCeilings.mover_within, proofs.TimerCeilings.timer_within, specs.Level.armed_tasks}
 use Rattle.rt_code.specs.declared.instr.Instr.TheVariants as instr

@@ -6,10 +6,10 @@
 use Rattle.std.specs.Prelude.{◌≡◌, ℕ, ◌+◌, ◌*◌, ◌^◌, ◌<◌, ◌≤◌, ◌⊎◌, true, false, List, length, take, drop}
 use Rattle.std.specs.Prelude.{slice_index, Some, IsSome}
 use Rattle.std.specs.List.{AllByRecursion}
-use Rattle.rt_ids.specs.Location.{Location}
-use Rattle.rt_ids.specs.Content.{Values}
-use Rattle.rt_ids.specs.Entry.{Entry}
-use Rattle.rt_ids.specs.Storage.{Runner, AtPriority}
+use Rattle.rt_actions.specs.Location.{Location}
+use Rattle.rt_actions.specs.Content.{Values}
+use Rattle.rt_actions.specs.Entry.{Entry}
+use Rattle.rt_actions.specs.Storage.{Runner, AtPriority}
 use Rattle.rt_ids.specs.declared.ids.Section.TheVariants as section
 use Rattle.rt_app.specs.declared.app.Mono.{Mono}
 use Rattle.rt_app.specs.declared.costs.TheConstants.{SPAWN_AFTER_COST, MESSAGE_COST, HANDLE_COST, HANDLE_MESSAGE_COST}

@@ -1,7 +1,7 @@
 // The timer queue of the monotonic, as code: it arms, cancels and moves messages, and its handler makes the due one
 // ready.
 // Promises: the code of the calls and of the handler stands, also within the short cost of the heap.
-// Stands on: rt_lemmas, rt_ids, rt_app, rt_code, rt_frames, rt_gen_queue.
+// Stands on: rt_lemmas, rt_ids, rt_actions, rt_app, rt_code, rt_frames, rt_gen_queue.
 // Read next: specs/TimerCalls.antt, then src/template.rt and src/heap.rt.
 #![tactic(auto)]
 

@@ -12,10 +12,4 @@ pub mod Operation
 pub mod Priority
 pub mod Choice
 pub mod Arrivals
-pub mod Location
-pub mod Content
-pub mod Action
-pub mod Doing
-pub mod Entry
-pub mod Storage
 pub mod Inside

@@ -1,7 +1,7 @@
 // The names and numbers that every crate of rtic speaks of: interrupts, priorities, tasks, sections, limits, statuses.
 // Promises: limits and frame sizes are the documented numbers; a name, a number and a priority are within their limits.
 // Stands on: nothing but the library.
-// Read next: src/ids.rt and src/refusal.rt, then specs/Doing.antt, the tree of actions that all meaning is told in.
+// Read next: src/ids.rt and src/refusal.rt.
 #![tactic(auto)]
 
 pub mod cell;

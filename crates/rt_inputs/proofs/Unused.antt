@@ -9,8 +9,8 @@ use Rattle.rt_lemmas.proofs.Lists.{found}
 use Rattle.rt_lemmas.proofs.Membership.{any_contained, any_one, any_passes}
 use Rattle.rt_ids.specs.Choice.{IsIn}
 use Rattle.rt_ids.specs.Lists.{is_some_and, then_from}
-use Rattle.rt_ids.specs.Location.{Own}
-use Rattle.rt_ids.specs.Storage.{Starting, AtPriority}
+use Rattle.rt_actions.specs.Location.{Own}
+use Rattle.rt_actions.specs.Storage.{Starting, AtPriority}
 use Rattle.rt_ids.specs.declared.ids.BodyId.TheVariants as body
 use Rattle.rt_ids.proofs.Lists.{list_any-map}
 use Rattle.rt_app.specs.Tree.{Task, App}

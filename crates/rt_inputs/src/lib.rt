@@ -1,6 +1,6 @@
 // Runs beside devices that give values: which words they put, and when.
 // Promises: whatever devices give, and whenever: a run with inputs is as good as one without.
-// Stands on: rt_lemmas, rt_ids, rt_app, rt_build, rt_code, rt_core, rt_trace, rt_laws, rt_sim, rt_board.
+// Stands on: rt_lemmas, rt_ids, rt_actions, rt_app, rt_build, rt_code, rt_core, rt_trace, rt_laws, rt_sim, rt_board.
 // Read next: specs/Inputs.antt, then specs/Laws.antt.
 #![tactic(auto)]
 

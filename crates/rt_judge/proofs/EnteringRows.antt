@@ -3,7 +3,7 @@ use Rattle.std.proofs.Common.{◌≡◌, true, false, ℕ, zero, suc, List, [], 
 use Rattle.std.proofs.Common.{Some, refl, sym, ap, subst, ◌∙◌, if◌then◌else◌}
 use Rattle.std.proofs.lemmas.Option.{same_Some, none-some}
 use Rattle.rt_lemmas.proofs.Bools.{both_of_none, or_left, or_right, or_neither, true_and_false}
-use Rattle.rt_ids.specs.Location.{is_same_section}
+use Rattle.rt_actions.specs.Location.{is_same_section}
 use Rattle.rt_ids.specs.declared.ids.Section.{Section}
 use Rattle.rt_judge.specs.Inside.Entering.{has_row, AreApart, with_entering, row_with_entering}
 use Rattle.rt_judge.specs.Inside.Entering.{rows_with_entering}

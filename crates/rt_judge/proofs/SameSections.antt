@@ -1,6 +1,6 @@
 -- The test of two sections.
 use Rattle.std.proofs.Common.{◌≡◌, ◌↔◌, Bool, true, false, IsTrue, refl}
-use Rattle.rt_ids.specs.Location.{is_same_section}
+use Rattle.rt_actions.specs.Location.{is_same_section}
 use Rattle.rt_ids.specs.declared.ids.Section.{Section}
 use Rattle.rt_code.proofs.Mine.{one_section, same_section}
 

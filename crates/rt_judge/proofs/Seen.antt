@@ -6,7 +6,7 @@ use Rattle.std.proofs.lemmas.Option.{same_Some, none-some}
 use Rattle.rt_lemmas.proofs.Bools.{and_parts, and_both, or_left, or_right, or_cases}
 use Rattle.rt_lemmas.proofs.Membership.{all_append}
 use Rattle.rt_ids.specs.Choice.{IsIn}
-use Rattle.rt_ids.specs.Location.{is_same_section}
+use Rattle.rt_actions.specs.Location.{is_same_section}
 use Rattle.rt_ids.specs.declared.ids.Section.{Section}
 use Rattle.rt_points.specs.Point.{Point, sections}
 use Rattle.rt_points.specs.declared.point.Opened.{Opened}

@@ -9,7 +9,7 @@ use Rattle.std.proofs.lemmas.Option.{none-some, slice_get-get_or}
 use Rattle.rt_lemmas.proofs.Bools.{and_left, and_right, not_false}
 use Rattle.rt_lemmas.proofs.Membership.{all_has, all_at, all_weaker, any_one}
 use Rattle.rt_ids.specs.Choice.{IsIn}
-use Rattle.rt_ids.specs.Location.{is_same_section}
+use Rattle.rt_actions.specs.Location.{is_same_section}
 use Rattle.rt_ids.specs.declared.ids.Section.{Section}
 use Rattle.rt_code.specs.Access.{Access}
 use Rattle.rt_code.specs.Image.{Image}

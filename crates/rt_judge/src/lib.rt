@@ -1,6 +1,6 @@
 // The judge of images from anywhere: whether one keeps the seven rules, or the least that it breaks.
 // Promises: exact: an image is checked, or the least rule that it breaks.
-// Stands on: rt_lemmas, rt_ids, rt_code, rt_image_tables, rt_points.
+// Stands on: rt_lemmas, rt_ids, rt_actions, rt_code, rt_image_tables, rt_points.
 // Read next: src/verdict.rt, then src/walk.rt.
 #![tactic(auto)]
 

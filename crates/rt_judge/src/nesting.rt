@@ -3,7 +3,7 @@
 ghost use Rattle.std.specs.Prelude.{◌≡◌, ◌↔◌, ◌++◌, [], ◌∷◌, List, drop, IfOk, OnOk, IsTrue};
 ghost use Rattle.rt_points.specs.declared.point.Opened.{Opened as OpenedView};
 ghost use Rattle.rt_points.specs.Leading.{kind_of, inside_after};
-ghost use Rattle.rt_ids.specs.Location.{is_same_section};
+ghost use Rattle.rt_actions.specs.Location.{is_same_section};
 ghost use Rattle.std.specs.List.{list_any};
 ghost use Rattle.rt_judge.specs.Inside.Nestings as spec;
 

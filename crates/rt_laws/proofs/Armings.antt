@@ -1,8 +1,8 @@
 -- How many times messages were armed, each time that one was put to another instant counted too, rises by one at an
 -- arming and at a move, and at no other step.
 use Rattle.std.proofs.Common.{◌≡◌, ℕ, ◌+◌, ap}
-use Rattle.rt_ids.specs.Location.{Guarded}
-use Rattle.rt_ids.specs.Content.{Values, timer_content}
+use Rattle.rt_actions.specs.Location.{Guarded}
+use Rattle.rt_actions.specs.Content.{Values, timer_content}
 use Rattle.rt_ids.specs.declared.ids.Section.TheVariants as section
 use Rattle.rt_app.specs.Tree.{App}
 use Rattle.rt_app.specs.Accepted.{IsAccepted}

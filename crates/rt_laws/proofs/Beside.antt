@@ -1,7 +1,7 @@
 -- Runs beside devices: a run without words is one of them, a word keeps what is well, and a run can be cut and joined.
 use Rattle.std.proofs.Common.{◌≡◌, ℕ, zero, suc, List, [], ◌∷◌, ◌++◌, take, refl, ap, ◌∙◌, le_refl}
-use Rattle.rt_ids.specs.Location.{Own}
-use Rattle.rt_ids.specs.Content.{Number, values_with}
+use Rattle.rt_actions.specs.Location.{Own}
+use Rattle.rt_actions.specs.Content.{Number, values_with}
 use Rattle.rt_trace.specs.Label.{Label}
 use Rattle.rt_app.specs.Tree.{App}
 use Rattle.rt_laws.specs.State.{State}

@@ -9,12 +9,12 @@ use Rattle.std.proofs.lemmas.List.Sums.{sum_by-cons, sum_by_push}
 use Rattle.rt_lemmas.proofs.Bools.{and_parts}
 use Rattle.rt_lemmas.proofs.Numbers.{one_add}
 use Rattle.rt_ids.specs.Lists.{is_some_and, or_zero}
-use Rattle.rt_ids.specs.Location.{Guarded}
-use Rattle.rt_ids.specs.Content.{Message, Armed, Values, Number, Messages, number, messages, delays, has_instant}
-use Rattle.rt_ids.specs.Content.{least_instant, least, has_handle, message_of_handle, without_least, without_handle}
-use Rattle.rt_ids.specs.Content.{postponed_message}
-use Rattle.rt_ids.specs.Action.{Action, Places, Frees, Readies, Starts, Arms, Fires, Cancels, Moves, SetsAlarm}
-use Rattle.rt_ids.specs.Action.{Returns, effect}
+use Rattle.rt_actions.specs.Location.{Guarded}
+use Rattle.rt_actions.specs.Content.{Message, Armed, Values, Number, Messages, number, messages, delays, has_instant}
+use Rattle.rt_actions.specs.Content.{least_instant, least, has_handle, message_of_handle, without_least, without_handle}
+use Rattle.rt_actions.specs.Content.{postponed_message}
+use Rattle.rt_actions.specs.Action.{Action, Places, Frees, Readies, Starts, Arms, Fires, Cancels, Moves, SetsAlarm}
+use Rattle.rt_actions.specs.Action.{Returns, effect}
 use Rattle.rt_ids.specs.declared.ids.Section.{Section}
 use Rattle.rt_ids.specs.declared.ids.Section.TheVariants as section
 use Rattle.rt_trace.specs.declared.item.What.{What}

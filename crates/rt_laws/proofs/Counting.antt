@@ -1,9 +1,9 @@
 -- The counts of a state rise by one at most with each label of a run.
 use Rattle.std.proofs.Common.{ℕ, suc, ◌+◌, ◌-◌, ◌≤◌, ◌==◌, true, false, if◌then◌else◌, List, [], ◌∷◌, sym, subst, refl}
 use Rattle.std.proofs.Common.{arith}
-use Rattle.rt_ids.specs.Location.{Guarded}
-use Rattle.rt_ids.specs.Content.{Content, Number, number, timer_content}
-use Rattle.rt_ids.specs.Action.{Action, Places, Frees, Arms, Moves, effect}
+use Rattle.rt_actions.specs.Location.{Guarded}
+use Rattle.rt_actions.specs.Content.{Content, Number, number, timer_content}
+use Rattle.rt_actions.specs.Action.{Action, Places, Frees, Arms, Moves, effect}
 use Rattle.rt_ids.specs.declared.ids.Section.TheVariants as section
 use Rattle.rt_trace.specs.Label.{Label}
 use Rattle.rt_app.specs.Tree.{App}

@@ -10,14 +10,14 @@ use Rattle.rt_lemmas.proofs.Membership.{all_append}
 use Rattle.rt_lemmas.proofs.Lists.{find_has}
 use Rattle.rt_ids.specs.Lists.{is_some_and}
 use Rattle.rt_ids.specs.Choice.{IsIn}
-use Rattle.rt_ids.specs.Location.{Guarded, is_same_section}
-use Rattle.rt_ids.specs.Content.{Message, Armed, Content, Values, Number, Messages, Delays, number, messages}
-use Rattle.rt_ids.specs.Content.{timer_content, delays, values_with, has_instant, least_instant, least, has_handle}
-use Rattle.rt_ids.specs.Content.{message_of_handle, without_handle, postponed_message, with_armed, with_fired}
-use Rattle.rt_ids.specs.Content.{with_cancelled, with_moved}
-use Rattle.rt_ids.specs.Action.{Action, Enters, Leaves, Places, FindsFull, Frees, Readies, Starts, Arms, Fires, Cancels}
-use Rattle.rt_ids.specs.Action.{Moves, Ends, Returns, effect}
-use Rattle.rt_ids.specs.Doing.{Doing, over, does}
+use Rattle.rt_actions.specs.Location.{Guarded, is_same_section}
+use Rattle.rt_actions.specs.Content.{Message, Armed, Content, Values, Number, Messages, Delays, number, messages}
+use Rattle.rt_actions.specs.Content.{timer_content, delays, values_with, has_instant, least_instant, least, has_handle}
+use Rattle.rt_actions.specs.Content.{message_of_handle, without_handle, postponed_message, with_armed, with_fired}
+use Rattle.rt_actions.specs.Content.{with_cancelled, with_moved}
+use Rattle.rt_actions.specs.Action.{Action, Enters, Leaves, Places, FindsFull, Frees, Readies, Starts, Arms, Fires, Cancels}
+use Rattle.rt_actions.specs.Action.{Moves, Ends, Returns, effect}
+use Rattle.rt_actions.specs.Doing.{Doing, over, does}
 use Rattle.rt_ids.specs.declared.ids.BodyId.TheVariants as body
 use Rattle.rt_ids.specs.declared.ids.Section.{Section}
 use Rattle.rt_ids.specs.declared.ids.Section.TheVariants as section

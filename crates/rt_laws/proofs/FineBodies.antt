@@ -10,12 +10,12 @@ use Rattle.rt_lemmas.proofs.Membership.{contains_here, contains_there}
 use Rattle.rt_lemmas.proofs.Lists.{all_front, all_behind}
 use Rattle.rt_ids.specs.Lists.{is_some_and, or_zero}
 use Rattle.rt_ids.specs.Choice.{IsIn}
-use Rattle.rt_ids.specs.Location.{Guarded, Own}
-use Rattle.rt_ids.specs.Content.{Content, Values, number, timer_content, delays, message_of_handle, Message, Number}
-use Rattle.rt_ids.specs.Content.{values_with}
-use Rattle.rt_ids.specs.Action.{Enters, Leaves, Emits, Posts, Clocks, Places, FindsFull, Frees, Arms, Cancels, Moves}
-use Rattle.rt_ids.specs.Action.{SetsAlarm}
-use Rattle.rt_ids.specs.Doing.{does}
+use Rattle.rt_actions.specs.Location.{Guarded, Own}
+use Rattle.rt_actions.specs.Content.{Content, Values, number, timer_content, delays, message_of_handle, Message, Number}
+use Rattle.rt_actions.specs.Content.{values_with}
+use Rattle.rt_actions.specs.Action.{Enters, Leaves, Emits, Posts, Clocks, Places, FindsFull, Frees, Arms, Cancels, Moves}
+use Rattle.rt_actions.specs.Action.{SetsAlarm}
+use Rattle.rt_actions.specs.Doing.{does}
 use Rattle.rt_ids.specs.declared.ids.Section.{Section}
 use Rattle.rt_ids.specs.declared.ids.Section.TheVariants as section
 use Rattle.rt_app.specs.declared.costs.TheConstants.{FREE_COST, READY_COST}

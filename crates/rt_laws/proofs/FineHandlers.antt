@@ -10,9 +10,9 @@ use Rattle.rt_lemmas.proofs.Lists.{all_front, all_behind, find_has, AreFrom, all
 use Rattle.rt_lemmas.proofs.Membership.{all_append, all_flat_map, any_one}
 use Rattle.rt_ids.specs.Lists.{is_some_and, then_from, is_empty}
 use Rattle.rt_ids.specs.Choice.{IsIn}
-use Rattle.rt_ids.specs.Location.{Guarded}
-use Rattle.rt_ids.specs.Content.{Message, Armed, Values, messages, delays, least}
-use Rattle.rt_ids.specs.Action.{Action, Enters, Leaves, Posts, Starts, Frees, Fires, SetsAlarm, Ends, Returns}
+use Rattle.rt_actions.specs.Location.{Guarded}
+use Rattle.rt_actions.specs.Content.{Message, Armed, Values, messages, delays, least}
+use Rattle.rt_actions.specs.Action.{Action, Enters, Leaves, Posts, Starts, Frees, Fires, SetsAlarm, Ends, Returns}
 use Rattle.rt_ids.specs.declared.ids.BodyId.TheVariants as body
 use Rattle.rt_ids.specs.declared.ids.Section.{Section}
 use Rattle.rt_ids.specs.declared.ids.Section.TheVariants as section

@@ -5,8 +5,8 @@ use Rattle.std.specs.List.{AllByRecursion, position_or_len, remove}
 use Rattle.std.proofs.lemmas.Option.{same_Some, none-some}
 use Rattle.rt_lemmas.proofs.Membership.{all_append, all_at, all_weaker}
 use Rattle.rt_lemmas.proofs.Lists.{find_has}
-use Rattle.rt_ids.specs.Content.{Message, Armed, Timed, has_handle, message_of_handle, without_handle}
-use Rattle.rt_ids.specs.Content.{postponed_message, with_armed, with_moved}
+use Rattle.rt_actions.specs.Content.{Message, Armed, Timed, has_handle, message_of_handle, without_handle}
+use Rattle.rt_actions.specs.Content.{postponed_message, with_armed, with_moved}
 use Rattle.rt_app.specs.Handled.{AreHandled}
 
 -- of a list of armed messages no two have one handle

@@ -6,11 +6,11 @@ use Rattle.std.proofs.Common.{◌≡◌, ℕ, zero, suc, ◌==◌, Bool, true, f
 use Rattle.std.proofs.Common.{replicate}
 use Rattle.std.proofs.Common.{slice_get, slice_set, map, Option, Some, None, refl}
 use Rattle.rt_ids.specs.Lists.{then_from}
-use Rattle.rt_ids.specs.Location.{Guarded, Own}
-use Rattle.rt_ids.specs.Content.{Message, Armed, Values, Number, messages, timer_content, delays, values_with}
-use Rattle.rt_ids.specs.Action.{Action, Enters, Leaves, Clocks, Places, FindsFull, Readies, Starts, Frees, Arms, Fires}
-use Rattle.rt_ids.specs.Action.{Cancels, Moves, Ends, Returns}
-use Rattle.rt_ids.specs.Doing.{Doing, over, does}
+use Rattle.rt_actions.specs.Location.{Guarded, Own}
+use Rattle.rt_actions.specs.Content.{Message, Armed, Values, Number, messages, timer_content, delays, values_with}
+use Rattle.rt_actions.specs.Action.{Action, Enters, Leaves, Clocks, Places, FindsFull, Readies, Starts, Frees, Arms, Fires}
+use Rattle.rt_actions.specs.Action.{Cancels, Moves, Ends, Returns}
+use Rattle.rt_actions.specs.Doing.{Doing, over, does}
 use Rattle.rt_ids.specs.declared.ids.BodyId.TheVariants as body
 use Rattle.rt_ids.specs.declared.ids.Section.TheVariants as section
 use Rattle.rt_app.specs.declared.costs.TheConstants.{FREE_COST}

@@ -5,8 +5,8 @@ use Rattle.std.specs.List.{AllByRecursion}
 use Rattle.std.proofs.lemmas.Option.{none-some}
 use Rattle.rt_lemmas.proofs.Lists.{find_has}
 use Rattle.rt_ids.specs.Lists.{or_zero}
-use Rattle.rt_ids.specs.Content.{Values}
-use Rattle.rt_ids.specs.Doing.{Doing}
+use Rattle.rt_actions.specs.Content.{Values}
+use Rattle.rt_actions.specs.Doing.{Doing}
 use Rattle.rt_trace.specs.Label.{Label, Arrived, Ticked, Rang, Stepped}
 use Rattle.rt_trace.specs.declared.item.What.{What}
 use Rattle.rt_trace.specs.declared.item.What.TheVariants as what

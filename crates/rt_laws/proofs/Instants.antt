@@ -6,11 +6,11 @@ use Rattle.std.proofs.Common.{arith}
 use Rattle.std.specs.List.{AllByRecursion}
 use Rattle.std.proofs.lemmas.Bool.{eqb-true}
 use Rattle.std.proofs.lemmas.Option.{same_Some, none-some}
-use Rattle.rt_ids.specs.Location.{Guarded}
-use Rattle.rt_ids.specs.Content.{Armed, Content, Values, timer_content, delays, lesser, least_instant, has_instant}
-use Rattle.rt_ids.specs.Content.{least, without_handle, postponed_message}
-use Rattle.rt_ids.specs.Action.{Action, Arms, Moves, SetsAlarm, Returns, effect}
-use Rattle.rt_ids.specs.Doing.{Doing, over, does}
+use Rattle.rt_actions.specs.Location.{Guarded}
+use Rattle.rt_actions.specs.Content.{Armed, Content, Values, timer_content, delays, lesser, least_instant, has_instant}
+use Rattle.rt_actions.specs.Content.{least, without_handle, postponed_message}
+use Rattle.rt_actions.specs.Action.{Action, Arms, Moves, SetsAlarm, Returns, effect}
+use Rattle.rt_actions.specs.Doing.{Doing, over, does}
 use Rattle.rt_ids.specs.declared.ids.Section.{Section}
 use Rattle.rt_ids.specs.declared.ids.Section.TheVariants as section
 use Rattle.rt_trace.specs.declared.item.What.{What}

@@ -4,10 +4,10 @@ use Rattle.std.proofs.Common.{[]}
 use Rattle.std.proofs.Common.{◌∷◌, ◌++◌, map, take, slice_get, Some, None, option_map, sym, ap, subst, ◌∙◌}
 use Rattle.std.proofs.Common.{append-nil, append_assoc, arith}
 use Rattle.std.proofs.lemmas.Option.{same_Some, none-some}
-use Rattle.rt_ids.specs.Location.{Guarded}
-use Rattle.rt_ids.specs.Content.{Armed, Values, messages, delays, least, message_of_handle}
-use Rattle.rt_ids.specs.Action.{Places, FindsFull, Fires, Cancels, Moves, SetsAlarm, Returns}
-use Rattle.rt_ids.specs.Doing.{Doing, over, does}
+use Rattle.rt_actions.specs.Location.{Guarded}
+use Rattle.rt_actions.specs.Content.{Armed, Values, messages, delays, least, message_of_handle}
+use Rattle.rt_actions.specs.Action.{Places, FindsFull, Fires, Cancels, Moves, SetsAlarm, Returns}
+use Rattle.rt_actions.specs.Doing.{Doing, over, does}
 use Rattle.rt_ids.specs.declared.ids.Section.{Section}
 use Rattle.rt_ids.specs.declared.ids.Section.TheVariants as section
 use Rattle.rt_trace.specs.Label.{Label, Arrived, Ticked, Rang, Stepped, items_of}

@@ -12,9 +12,9 @@ use Rattle.std.proofs.lemmas.List.Elements.{Contains-append_left, Contains-appen
 use Rattle.rt_lemmas.proofs.Bools.{and_parts, true_and_false}
 use Rattle.rt_lemmas.proofs.Membership.{all_at, any_passes, contains_here}
 use Rattle.rt_ids.specs.Lists.{is_some_and, or_zero, those_below}
-use Rattle.rt_ids.specs.Content.{Armed, Message, Values, lesser, least_instant}
-use Rattle.rt_ids.specs.Action.{Readies, SetsAlarm, Returns}
-use Rattle.rt_ids.specs.Doing.{Doing, over, does}
+use Rattle.rt_actions.specs.Content.{Armed, Message, Values, lesser, least_instant}
+use Rattle.rt_actions.specs.Action.{Readies, SetsAlarm, Returns}
+use Rattle.rt_actions.specs.Doing.{Doing, over, does}
 use Rattle.rt_ids.specs.declared.ids.Section.{Section}
 use Rattle.rt_ids.specs.declared.ids.Section.TheVariants as section
 use Rattle.rt_trace.specs.Label.{Label, Stepped}

@@ -2,10 +2,10 @@
 use Rattle.std.proofs.Common.{◌≡◌, ℕ, ◌≤◌, List, [], ◌∷◌, Option, Some, None, IfSome, refl, ◌∙◌, subst, le_refl, inl}
 use Rattle.std.proofs.Common.{inr, arith}
 use Rattle.rt_ids.specs.Choice.{IsIn}
-use Rattle.rt_ids.specs.Location.{Guarded}
-use Rattle.rt_ids.specs.Content.{Values}
-use Rattle.rt_ids.specs.Action.{Action, Places, FindsFull, Readies, Starts, Frees, Arms, Fires, Cancels, Moves, Clocks}
-use Rattle.rt_ids.specs.Doing.{Doing, over, does}
+use Rattle.rt_actions.specs.Location.{Guarded}
+use Rattle.rt_actions.specs.Content.{Values}
+use Rattle.rt_actions.specs.Action.{Action, Places, FindsFull, Readies, Starts, Frees, Arms, Fires, Cancels, Moves, Clocks}
+use Rattle.rt_actions.specs.Doing.{Doing, over, does}
 use Rattle.rt_ids.specs.declared.ids.Section.{Section}
 use Rattle.rt_app.specs.Tree.{App}
 use Rattle.rt_app.specs.Ceiling.{ceiling}

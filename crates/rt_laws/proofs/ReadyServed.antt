@@ -3,9 +3,9 @@ use Rattle.std.proofs.Common.{length-set, ◌≡◌, ℕ, zero, suc, ◌⊎◌, 
 use Rattle.std.proofs.Common.{slice_set, slice_index_or, refl, sym, ap, subst, ◌∙◌, inl, inr, eq-eqb}
 use Rattle.std.proofs.lemmas.Option.{same_Some}
 use Rattle.rt_ids.specs.Choice.{IsIn}
-use Rattle.rt_ids.specs.Location.{Guarded}
-use Rattle.rt_ids.specs.Content.{Message, Values, messages}
-use Rattle.rt_ids.specs.Action.{Readies, Starts, effect}
+use Rattle.rt_actions.specs.Location.{Guarded}
+use Rattle.rt_actions.specs.Content.{Message, Values, messages}
+use Rattle.rt_actions.specs.Action.{Readies, Starts, effect}
 use Rattle.rt_ids.specs.declared.ids.Section.{Section}
 use Rattle.rt_ids.specs.declared.ids.Section.TheVariants as section
 use Rattle.rt_ids.specs.declared.limits.TheConstants.{IRQ_NUMBERS}

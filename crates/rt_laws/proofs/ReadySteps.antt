@@ -6,11 +6,11 @@ use Rattle.std.proofs.lemmas.Bool.{eqb-true}
 use Rattle.std.proofs.lemmas.Option.{none-some}
 use Rattle.rt_lemmas.proofs.Membership.{all_at}
 use Rattle.rt_ids.specs.Choice.{IsIn}
-use Rattle.rt_ids.specs.Location.{Guarded}
-use Rattle.rt_ids.specs.Content.{Message, Values, messages}
-use Rattle.rt_ids.specs.Action.{Action, Enters, Leaves, Posts, Clocks, Readies, Starts, SetsAlarm, Ends, Returns}
-use Rattle.rt_ids.specs.Action.{effect}
-use Rattle.rt_ids.specs.Doing.{Doing, over, does}
+use Rattle.rt_actions.specs.Location.{Guarded}
+use Rattle.rt_actions.specs.Content.{Message, Values, messages}
+use Rattle.rt_actions.specs.Action.{Action, Enters, Leaves, Posts, Clocks, Readies, Starts, SetsAlarm, Ends, Returns}
+use Rattle.rt_actions.specs.Action.{effect}
+use Rattle.rt_actions.specs.Doing.{Doing, over, does}
 use Rattle.rt_ids.specs.declared.ids.BodyId.TheVariants as body
 use Rattle.rt_ids.specs.declared.ids.Section.{Section}
 use Rattle.rt_ids.specs.declared.ids.Section.TheVariants as section

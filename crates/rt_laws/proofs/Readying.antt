@@ -2,10 +2,10 @@
 -- timer handler and the dispatcher itself, whatever the values are on the way.
 use Rattle.std.proofs.Common.{◌≡◌, ℕ, ◌⊎◌, Bool, true, false, if◌then◌else◌, List, [], ◌∷◌, ◌++◌, drop, map, Option}
 use Rattle.std.proofs.Common.{Some, None, refl, sym, ap, subst, inl, inr}
-use Rattle.rt_ids.specs.Location.{Guarded}
-use Rattle.rt_ids.specs.Content.{Message, Armed, Values, messages, timer_content, delays}
-use Rattle.rt_ids.specs.Action.{Enters, Leaves, Posts, Clocks, Readies, Starts, Frees, Cancels, Moves, Ends, Returns}
-use Rattle.rt_ids.specs.Doing.{Doing, over, does}
+use Rattle.rt_actions.specs.Location.{Guarded}
+use Rattle.rt_actions.specs.Content.{Message, Armed, Values, messages, timer_content, delays}
+use Rattle.rt_actions.specs.Action.{Enters, Leaves, Posts, Clocks, Readies, Starts, Frees, Cancels, Moves, Ends, Returns}
+use Rattle.rt_actions.specs.Doing.{Doing, over, does}
 use Rattle.rt_ids.specs.declared.ids.BodyId.TheVariants as body
 use Rattle.rt_ids.specs.declared.ids.Section.TheVariants as section
 use Rattle.rt_app.specs.Tree.{Expression, Spawn, Soon, After, Cancel, Move, App}

@@ -2,8 +2,8 @@
 -- serves them is pending, and then a job has all of its handler left to do.
 use Rattle.std.proofs.Common.{◌≡◌, true, false, [], ◌∷◌, slice_index_or, None, inl, refl}
 use Rattle.rt_ids.specs.Lists.{those_below}
-use Rattle.rt_ids.specs.Location.{Guarded}
-use Rattle.rt_ids.specs.Content.{messages}
+use Rattle.rt_actions.specs.Location.{Guarded}
+use Rattle.rt_actions.specs.Content.{messages}
 use Rattle.rt_ids.specs.declared.ids.BodyId.TheVariants as body
 use Rattle.rt_ids.specs.declared.ids.Section.TheVariants as section
 use Rattle.rt_trace.specs.Label.{Arrived, Ticked, Rang}

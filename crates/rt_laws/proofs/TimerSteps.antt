@@ -4,10 +4,10 @@ use Rattle.std.proofs.Common.{◌∷◌, drop, length, slice_set, Option, Some, 
 use Rattle.std.specs.List.{AllByRecursion}
 use Rattle.std.proofs.lemmas.Option.{none-some}
 use Rattle.rt_ids.specs.Choice.{IsIn}
-use Rattle.rt_ids.specs.Content.{Values, delays, least_instant}
-use Rattle.rt_ids.specs.Action.{Action, Enters, Leaves, Posts, Clocks, Arms, Fires, Cancels, Moves, SetsAlarm, Ends}
-use Rattle.rt_ids.specs.Action.{Returns, effect}
-use Rattle.rt_ids.specs.Doing.{Doing, over, does}
+use Rattle.rt_actions.specs.Content.{Values, delays, least_instant}
+use Rattle.rt_actions.specs.Action.{Action, Enters, Leaves, Posts, Clocks, Arms, Fires, Cancels, Moves, SetsAlarm, Ends}
+use Rattle.rt_actions.specs.Action.{Returns, effect}
+use Rattle.rt_actions.specs.Doing.{Doing, over, does}
 use Rattle.rt_ids.specs.declared.ids.BodyId.TheVariants as body
 use Rattle.rt_ids.specs.declared.ids.Section.{Section}
 use Rattle.rt_ids.specs.declared.ids.Section.TheVariants as section

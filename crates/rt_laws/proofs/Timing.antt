@@ -3,10 +3,10 @@
 -- find it leaves the queue as it was. Nobody sets the alarm outside.
 use Rattle.std.proofs.Common.{◌≡◌, ℕ, Bool, true, false, not, if◌then◌else◌, List, [], ◌∷◌, map, Option, Some, None}
 use Rattle.std.proofs.Common.{refl}
-use Rattle.rt_ids.specs.Location.{Guarded}
-use Rattle.rt_ids.specs.Content.{Message, Armed, Values, messages, timer_content, delays}
-use Rattle.rt_ids.specs.Action.{Enters, Leaves, Frees, Clocks, SetsAlarm, Arms, Fires, Cancels, Moves, Ends, Returns}
-use Rattle.rt_ids.specs.Doing.{Doing, over, does}
+use Rattle.rt_actions.specs.Location.{Guarded}
+use Rattle.rt_actions.specs.Content.{Message, Armed, Values, messages, timer_content, delays}
+use Rattle.rt_actions.specs.Action.{Enters, Leaves, Frees, Clocks, SetsAlarm, Arms, Fires, Cancels, Moves, Ends, Returns}
+use Rattle.rt_actions.specs.Doing.{Doing, over, does}
 use Rattle.rt_ids.specs.declared.ids.BodyId.TheVariants as body
 use Rattle.rt_ids.specs.declared.ids.Section.TheVariants as section
 use Rattle.rt_app.specs.Tree.{Expression, Spawn, Soon, After, Cancel, Move, App}

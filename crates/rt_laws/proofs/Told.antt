@@ -7,13 +7,13 @@ use Rattle.std.proofs.lemmas.Bool.{eqb-true}
 use Rattle.std.proofs.lemmas.List.{map-append, map_push, flat_map_more}
 use Rattle.std.proofs.lemmas.List.Sums.{sum_by-cons}
 use Rattle.std.proofs.lemmas.Option.{same_Some}
-use Rattle.rt_ids.specs.Location.{Guarded}
-use Rattle.rt_ids.specs.Content.{Message, Armed, Timed, Values, Messages, messages, timer_content, delays, lesser}
-use Rattle.rt_ids.specs.Content.{nothing_armed, least_instant, has_instant, least, has_handle}
-use Rattle.rt_ids.specs.Content.{message_of_handle, without_handle, with_armed, postponed_message, with_fired}
-use Rattle.rt_ids.specs.Content.{with_cancelled, with_moved}
-use Rattle.rt_ids.specs.Action.{Action, Places, Frees, Readies, Starts, Arms, Fires, Cancels, Moves, SetsAlarm}
-use Rattle.rt_ids.specs.Action.{Returns, effect}
+use Rattle.rt_actions.specs.Location.{Guarded}
+use Rattle.rt_actions.specs.Content.{Message, Armed, Timed, Values, Messages, messages, timer_content, delays, lesser}
+use Rattle.rt_actions.specs.Content.{nothing_armed, least_instant, has_instant, least, has_handle}
+use Rattle.rt_actions.specs.Content.{message_of_handle, without_handle, with_armed, postponed_message, with_fired}
+use Rattle.rt_actions.specs.Content.{with_cancelled, with_moved}
+use Rattle.rt_actions.specs.Action.{Action, Places, Frees, Readies, Starts, Arms, Fires, Cancels, Moves, SetsAlarm}
+use Rattle.rt_actions.specs.Action.{Returns, effect}
 use Rattle.rt_ids.specs.declared.ids.Section.{Section}
 use Rattle.rt_ids.specs.declared.ids.Section.TheVariants as section
 use Rattle.rt_trace.specs.declared.item.What.{What}

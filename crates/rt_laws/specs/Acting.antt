@@ -2,9 +2,9 @@
 -- is not named stays. After an action the job's rest runs on to the next action at once; the code runs instructions,
 -- and can be interrupted between any two.
 use Rattle.std.specs.Prelude.{ℕ, ◌-◌, true, if◌then◌else◌, List, ◌∷◌, map, drop, slice_set, Option, Some, None}
-use Rattle.rt_ids.specs.Content.{Values}
-use Rattle.rt_ids.specs.Action.{Action, Enters, Leaves, Posts, Clocks, SetsAlarm, Ends, Returns, effect}
-use Rattle.rt_ids.specs.Doing.{Doing, over, does}
+use Rattle.rt_actions.specs.Content.{Values}
+use Rattle.rt_actions.specs.Action.{Action, Enters, Leaves, Posts, Clocks, SetsAlarm, Ends, Returns, effect}
+use Rattle.rt_actions.specs.Doing.{Doing, over, does}
 use Rattle.rt_ids.specs.declared.ids.BodyId.TheVariants as body
 use Rattle.rt_app.specs.Tree.{App, Body}
 use Rattle.rt_app.specs.Doings.{idle_doing}

@@ -1,8 +1,8 @@
 -- How far the counts of a state rise: with each label by one at most. So after n labels that show something the time,
 -- the handles given, the moves, and the places that are out of each task, are n at most.
 use Rattle.std.specs.Prelude.{ℕ, suc, ◌≤◌, List, None}
-use Rattle.rt_ids.specs.Location.{Guarded}
-use Rattle.rt_ids.specs.Content.{number, timer_content}
+use Rattle.rt_actions.specs.Location.{Guarded}
+use Rattle.rt_actions.specs.Content.{number, timer_content}
 use Rattle.rt_ids.specs.declared.ids.Section.TheVariants as section
 use Rattle.rt_trace.specs.Label.{Label, Stepped}
 use Rattle.rt_app.specs.Tree.{App}

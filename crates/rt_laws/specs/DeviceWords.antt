@@ -5,9 +5,9 @@
 -- has a register, which the body reads.
 use Rattle.std.specs.Prelude.{◌≡◌, ℕ, ◌^◌, ◌<◌, false, List, [], ◌∷◌, length, map, take}
 use Rattle.std.specs.List.{AllByRecursion}
-use Rattle.rt_ids.specs.Location.{Own}
-use Rattle.rt_ids.specs.Content.{Number, values_with}
-use Rattle.rt_ids.specs.Storage.{Runner, Starting, AtPriority}
+use Rattle.rt_actions.specs.Location.{Own}
+use Rattle.rt_actions.specs.Content.{Number, values_with}
+use Rattle.rt_actions.specs.Storage.{Runner, Starting, AtPriority}
 use Rattle.rt_trace.specs.Label.{Label}
 use Rattle.rt_app.specs.Tree.{App}
 use Rattle.rt_app.specs.Holding.{is_kept}

@@ -1,7 +1,7 @@
 -- What holds of the handles of armed messages in every run (the RTIC 1 book, the handles of scheduled messages): each
 -- was given, and a handle is of one armed message at most. So a cancel and a move by a handle are of one message.
-use Rattle.rt_ids.specs.Location.{Guarded}
-use Rattle.rt_ids.specs.Content.{timer_content}
+use Rattle.rt_actions.specs.Location.{Guarded}
+use Rattle.rt_actions.specs.Content.{timer_content}
 use Rattle.rt_ids.specs.declared.ids.Section.TheVariants as section
 use Rattle.rt_app.specs.Handled.{AreHandled}
 use Rattle.rt_laws.specs.State.{State}

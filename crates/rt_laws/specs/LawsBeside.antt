@@ -1,8 +1,8 @@
 -- What holds of every run beside devices: all that holds of a run without them. Each law speaks of the labels alone, as
 -- if no word had come; the states are those that the words have led to.
 use Rattle.std.specs.Prelude.{◌≡◌, ℕ, ◌<◌, List, ◌++◌, length, take, Some}
-use Rattle.rt_ids.specs.Location.{Guarded}
-use Rattle.rt_ids.specs.Content.{messages}
+use Rattle.rt_actions.specs.Location.{Guarded}
+use Rattle.rt_actions.specs.Content.{messages}
 use Rattle.rt_ids.specs.declared.ids.Section.TheVariants as section
 use Rattle.rt_trace.specs.Label.{Label, items_of}
 use Rattle.rt_app.specs.declared.app.Mono.{Mono}

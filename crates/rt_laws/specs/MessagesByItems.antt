@@ -4,8 +4,8 @@
 -- the lines of a trace. `KeepsMessages` has it beside what it says of the machine's contents.
 use Rattle.std.specs.Prelude.{◌≡◌, ℕ, ◌+◌, ◌==◌, ◌<◌, ◌≤◌, Bool, true, false, if◌then◌else◌, List, [], ◌∷◌, ◌++◌}
 use Rattle.std.specs.Prelude.{map, take, slice_get, count_by, flat_map, Some}
-use Rattle.rt_ids.specs.Content.{Armed, Timed, nothing_armed, least, message_of_handle, with_armed, with_fired}
-use Rattle.rt_ids.specs.Content.{with_cancelled, with_moved}
+use Rattle.rt_actions.specs.Content.{Armed, Timed, nothing_armed, least, message_of_handle, with_armed, with_fired}
+use Rattle.rt_actions.specs.Content.{with_cancelled, with_moved}
 use Rattle.rt_trace.specs.declared.item.Item.{Item}
 use Rattle.rt_trace.specs.declared.item.What.{What}
 use Rattle.rt_trace.specs.declared.item.What.TheVariants as what

@@ -5,8 +5,8 @@
 -- code keeps the numbers of free places in cells.
 use Rattle.std.specs.Prelude.{◌≡◌, ℕ, ◌+◌, ◌==◌, count_by, List, [], ◌∷◌, drop, Option, Some, None}
 use Rattle.rt_ids.specs.Lists.{is_some_and}
-use Rattle.rt_ids.specs.Location.{Guarded}
-use Rattle.rt_ids.specs.Content.{Values, number, messages, delays}
+use Rattle.rt_actions.specs.Location.{Guarded}
+use Rattle.rt_actions.specs.Content.{Values, number, messages, delays}
 use Rattle.rt_ids.specs.declared.ids.Section.TheVariants as section
 use Rattle.rt_trace.specs.Label.{Label, Stepped}
 use Rattle.rt_trace.specs.declared.item.What.{What}

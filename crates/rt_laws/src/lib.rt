@@ -1,7 +1,7 @@
 // Baker's machine on an application, and the laws of its runs: sections are exclusive, no job finds one taken, and none
 // waits for more than one section of one lower job.
 // Promises: every run of Baker's machine keeps the laws of locks, waiting and messages.
-// Stands on: rt_lemmas, rt_ids, rt_app, rt_trace.
+// Stands on: rt_lemmas, rt_ids, rt_actions, rt_app, rt_trace.
 // Read next: specs/State.antt, Preemption.antt and Giving.antt, then src/laws.rt.
 #![tactic(auto)]
 

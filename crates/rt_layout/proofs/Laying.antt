@@ -21,8 +21,8 @@ use Rattle.rt_app.specs.Layout.{task_cells, ready_cells, ready_room, timer_colum
 use Rattle.rt_app.specs.Layout.{ready_at, has_inputs, numbers_of}
 use Rattle.rt_app.proofs.SoundCeilings.{those_all}
 use Rattle.rt_app.proofs.Laid.{on_ready, on_queues, on_locals}
-use Rattle.rt_ids.specs.Location.{Guarded}
-use Rattle.rt_ids.specs.Storage.{At}
+use Rattle.rt_actions.specs.Location.{Guarded}
+use Rattle.rt_actions.specs.Storage.{At}
 use Rattle.rt_ids.specs.declared.ids.Section.TheVariants as section
 use Rattle.rt_ids.specs.declared.cell.CellRow.{CellRow}
 use Rattle.rt_layout.specs.Inside.Rows.{row, task_front, resource_row, local_row, free_rows, input_rows, queue_rows}

@@ -3,9 +3,9 @@
 use Rattle.std.proofs.Common.{◌≡◌, ℕ, zero, suc, ◌+◌, ◌==◌, true, false, if◌then◌else◌, List, [], ◌∷◌, ◌++◌}
 use Rattle.std.proofs.Common.{replicate, slice_set, slice_get, Option, Some, None, option_map, refl, ap}
 use Rattle.rt_lemmas.proofs.Bools.{and_parts, true_and_false}
-use Rattle.rt_ids.specs.Action.{Action, Emits, Ends}
-use Rattle.rt_ids.specs.Content.{Values}
-use Rattle.rt_ids.specs.Doing.{Doing, over, does}
+use Rattle.rt_actions.specs.Action.{Action, Emits, Ends}
+use Rattle.rt_actions.specs.Content.{Values}
+use Rattle.rt_actions.specs.Doing.{Doing, over, does}
 use Rattle.rt_ids.specs.declared.ids.BodyId.TheVariants as body
 use Rattle.rt_app.specs.declared.app.Mono.{Mono}
 use Rattle.rt_app.specs.declared.expr.Atom.{Atom}

@@ -10,9 +10,9 @@ use Rattle.rt_lemmas.proofs.Bools.{true_and_false}
 use Rattle.rt_lemmas.proofs.Lists.{find_has}
 use Rattle.rt_lemmas.proofs.Membership.{contains_cases, contains_none, contains_here, contains_there, all_at, any_one}
 use Rattle.rt_ids.specs.Lists.{or_zero}
-use Rattle.rt_ids.specs.Action.{Action, Ends, SetsAlarm, Returns}
-use Rattle.rt_ids.specs.Content.{Values}
-use Rattle.rt_ids.specs.Doing.{Doing, over, does}
+use Rattle.rt_actions.specs.Action.{Action, Ends, SetsAlarm, Returns}
+use Rattle.rt_actions.specs.Content.{Values}
+use Rattle.rt_actions.specs.Doing.{Doing, over, does}
 use Rattle.rt_ids.specs.declared.ids.BodyId.TheVariants as body
 use Rattle.rt_ids.specs.declared.ids.Section.{Section}
 use Rattle.rt_ids.specs.declared.limits.TheConstants.{IRQ_NUMBERS}

@@ -8,9 +8,9 @@ use Rattle.rt_lemmas.proofs.Bools.{and_left, and_right, and_parts, not_true, tru
 use Rattle.rt_lemmas.proofs.Membership.{all_at, any_passes}
 use Rattle.rt_ids.specs.Lists.{then_from}
 use Rattle.rt_ids.specs.Choice.{IsIn}
-use Rattle.rt_ids.specs.Content.{Values}
-use Rattle.rt_ids.specs.Action.{Action, Posts, SetsAlarm, Ends, Returns}
-use Rattle.rt_ids.specs.Doing.{Doing, over, does}
+use Rattle.rt_actions.specs.Content.{Values}
+use Rattle.rt_actions.specs.Action.{Action, Posts, SetsAlarm, Ends, Returns}
+use Rattle.rt_actions.specs.Doing.{Doing, over, does}
 use Rattle.rt_ids.specs.declared.ids.BodyId.{BodyId}
 use Rattle.rt_ids.specs.declared.ids.BodyId.TheVariants as body
 use Rattle.rt_app.specs.declared.expr.Atom.{Atom}

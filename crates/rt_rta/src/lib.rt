@@ -1,6 +1,6 @@
 // Response times of applications whose interrupts come from outside alone, for least distances between requests.
 // Promises: exact response times; requests that keep the limits are served within them.
-// Stands on: rt_lemmas, rt_ids, rt_lines, rt_app, rt_ceil, rt_frames, rt_trace, rt_laws, rt_script.
+// Stands on: rt_lemmas, rt_ids, rt_actions, rt_lines, rt_app, rt_ceil, rt_frames, rt_trace, rt_laws, rt_script.
 // Read next: specs/Response.antt and specs/Kept.antt, then src/search.rt.
 #![tactic(auto)]
 

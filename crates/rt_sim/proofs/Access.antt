@@ -3,8 +3,8 @@ use Rattle.std.proofs.Common.{◌≡◌, ℕ, zero, suc, ◌<◌, ◌||◌, ◌�
 use Rattle.std.proofs.Common.{length, map, Option, Some, None, refl, sym, ap, subst, ◌∙◌}
 use Rattle.rt_lemmas.proofs.Bools.{and_parts, or_cases}
 use Rattle.rt_ids.specs.Choice.{IsIn}
-use Rattle.rt_ids.specs.Location.{Guarded, is_same_section}
-use Rattle.rt_ids.specs.Storage.{Runner, Starting, AtPriority, At}
+use Rattle.rt_actions.specs.Location.{Guarded, is_same_section}
+use Rattle.rt_actions.specs.Storage.{Runner, Starting, AtPriority, At}
 use Rattle.rt_ids.specs.declared.ids.Section.{Section}
 use Rattle.rt_ids.specs.declared.ids.Section.TheVariants as section
 use Rattle.rt_app.specs.Tree.{App}

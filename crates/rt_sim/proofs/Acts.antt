@@ -2,12 +2,12 @@
 use Rattle.std.proofs.Common.{◌≡◌, ℕ, ◌+◌, ◌||◌, ◌++◌, Bool, true, List, [], ◌∷◌, length, map, slice_set, Option, Some}
 use Rattle.std.proofs.Common.{None, refl, ap, subst, ◌∙◌, length-set}
 use Rattle.std.specs.List.{list_any}
-use Rattle.rt_ids.specs.Location.{Location, Guarded, Own, is_same_section}
-use Rattle.rt_ids.specs.Content.{Values}
-use Rattle.rt_ids.specs.Action.{Action, Emits, Posts, Clocks, FindsFull, effect}
-use Rattle.rt_ids.specs.Doing.{Doing, over, does}
-use Rattle.rt_ids.specs.Entry.{Entry, count}
-use Rattle.rt_ids.specs.Storage.{Runner}
+use Rattle.rt_actions.specs.Location.{Location, Guarded, Own, is_same_section}
+use Rattle.rt_actions.specs.Content.{Values}
+use Rattle.rt_actions.specs.Action.{Action, Emits, Posts, Clocks, FindsFull, effect}
+use Rattle.rt_actions.specs.Doing.{Doing, over, does}
+use Rattle.rt_actions.specs.Entry.{Entry, count}
+use Rattle.rt_actions.specs.Storage.{Runner}
 use Rattle.rt_ids.specs.declared.ids.Section.{Section}
 use Rattle.rt_app.specs.Tree.{App}
 use Rattle.rt_app.specs.Holding.{storage, is_kept}

@@ -3,9 +3,9 @@
 use Rattle.std.proofs.Common.{◌≡◌, ℕ, suc, ◌++◌, nat_le, Bool, true, false, if◌then◌else◌, List, [], ◌∷◌, map}
 use Rattle.std.proofs.Common.{slice_set, Option, Some, None, IfSome, refl, sym, ap, ◌∙◌, length-set}
 use Rattle.rt_ids.specs.Lists.{or_zero}
-use Rattle.rt_ids.specs.Action.{SetsAlarm}
-use Rattle.rt_ids.specs.Content.{delays, least_instant}
-use Rattle.rt_ids.specs.Location.{Guarded}
+use Rattle.rt_actions.specs.Action.{SetsAlarm}
+use Rattle.rt_actions.specs.Content.{delays, least_instant}
+use Rattle.rt_actions.specs.Location.{Guarded}
 use Rattle.rt_ids.specs.declared.ids.Section.TheVariants as section
 use Rattle.rt_app.specs.Tree.{App}
 use Rattle.rt_app.specs.Holding.{storage}

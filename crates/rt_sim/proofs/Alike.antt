@@ -2,7 +2,7 @@
 -- have as many arguments.
 use Rattle.std.proofs.Common.{◌≡◌, ℕ, zero, suc, false, if◌then◌else◌, List, [], ◌∷◌, length, slice_get}
 use Rattle.std.proofs.Common.{Option, Some, None, option_map, refl, sym, ap, subst, ◌∙◌}
-use Rattle.rt_ids.specs.Storage.{Storage, Runner}
+use Rattle.rt_actions.specs.Storage.{Storage, Runner}
 use Rattle.rt_ids.specs.declared.ids.Section.{Section}
 use Rattle.rt_ids.specs.declared.ids.Section.TheVariants as section
 use Rattle.rt_code.specs.Effect.{effect}

@@ -6,10 +6,10 @@ use Rattle.std.proofs.Common.{refl, ap, ◌∙◌, arith}
 use Rattle.std.proofs.lemmas.List.{length-map}
 use Rattle.std.proofs.lemmas.List.Sums.{sum_by-cons}
 use Rattle.rt_lemmas.proofs.Lists.{find_has}
-use Rattle.rt_ids.specs.Content.{Values, timer_content}
+use Rattle.rt_actions.specs.Content.{Values, timer_content}
 use Rattle.rt_ids.specs.Event.{Event, Arrive, Tick, Step}
-use Rattle.rt_ids.specs.Action.{Action, Arms, Moves, SetsAlarm, Ends, Returns, effect}
-use Rattle.rt_ids.specs.Doing.{Doing, over, does}
+use Rattle.rt_actions.specs.Action.{Action, Arms, Moves, SetsAlarm, Ends, Returns, effect}
+use Rattle.rt_actions.specs.Doing.{Doing, over, does}
 use Rattle.rt_ids.specs.declared.ids.BodyId.TheVariants as body
 use Rattle.rt_ids.specs.declared.ids.Section.{Section}
 use Rattle.rt_ids.specs.declared.ids.Section.TheVariants as section

@@ -7,10 +7,10 @@ use Rattle.std.specs.List.{AllByRecursion}
 use Rattle.std.proofs.lemmas.Bool.{eqb-true}
 use Rattle.rt_lemmas.proofs.Bools.{and_left, and_right}
 use Rattle.rt_ids.specs.Lists.{is_some_and, or_zero, then_from}
-use Rattle.rt_ids.specs.Location.{Guarded}
-use Rattle.rt_ids.specs.Content.{Message, Armed, messages, delays}
-use Rattle.rt_ids.specs.Action.{Action, Enters, Leaves, Posts, Starts, Frees, Fires, Returns, Ends}
-use Rattle.rt_ids.specs.Storage.{Runner, Starting, AtPriority}
+use Rattle.rt_actions.specs.Location.{Guarded}
+use Rattle.rt_actions.specs.Content.{Message, Armed, messages, delays}
+use Rattle.rt_actions.specs.Action.{Action, Enters, Leaves, Posts, Starts, Frees, Fires, Returns, Ends}
+use Rattle.rt_actions.specs.Storage.{Runner, Starting, AtPriority}
 use Rattle.rt_ids.specs.declared.ids.BodyId.{BodyId}
 use Rattle.rt_ids.specs.declared.ids.BodyId.TheVariants as body
 use Rattle.rt_ids.specs.declared.ids.Section.{Section}

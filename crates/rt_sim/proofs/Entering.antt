@@ -4,8 +4,8 @@ use Rattle.std.proofs.Common.{◌≡◌, ℕ, ◌^◌, ◌<◌, ◌≤◌, ◌||
 use Rattle.std.proofs.Common.{ap, subst, ◌∙◌, arith}
 use Rattle.std.specs.List.{AllByRecursion}
 use Rattle.rt_lemmas.proofs.Bools.{or_neither, or_cases, or_left, or_right}
-use Rattle.rt_ids.specs.Location.{Location, Guarded, Own, is_same_section}
-use Rattle.rt_ids.specs.Storage.{Runner, AtPriority}
+use Rattle.rt_actions.specs.Location.{Location, Guarded, Own, is_same_section}
+use Rattle.rt_actions.specs.Storage.{Runner, AtPriority}
 use Rattle.rt_ids.specs.declared.ids.Section.{Section}
 use Rattle.rt_app.specs.Tree.{App}
 use Rattle.rt_app.specs.Ceiling.{ceiling}

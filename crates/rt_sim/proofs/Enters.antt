@@ -7,14 +7,14 @@ use Rattle.std.specs.List.{AllByRecursion}
 use Rattle.rt_lemmas.proofs.Bools.{left_of_none, true_and_false, or_neither}
 use Rattle.rt_lemmas.proofs.Lists.{all_map}
 use Rattle.rt_lemmas.proofs.Membership.{contains_here, contains_there, all_weaker}
-use Rattle.rt_ids.specs.Location.{Guarded}
+use Rattle.rt_actions.specs.Location.{Guarded}
 use Rattle.rt_ids.specs.Lists.{is_some_and}
-use Rattle.rt_ids.specs.Content.{Content, Number, Messages, Delays, Values, messages, timer_content, MayArm}
-use Rattle.rt_ids.specs.Action.{Enters}
-use Rattle.rt_ids.specs.Doing.{Doing}
+use Rattle.rt_actions.specs.Content.{Content, Number, Messages, Delays, Values, messages, timer_content, MayArm}
+use Rattle.rt_actions.specs.Action.{Enters}
+use Rattle.rt_actions.specs.Doing.{Doing}
 use Rattle.rt_ids.specs.Operation.{number_of}
 use Rattle.rt_ids.specs.Priority.{hardware}
-use Rattle.rt_ids.specs.Storage.{Runner, Starting, AtPriority}
+use Rattle.rt_actions.specs.Storage.{Runner, Starting, AtPriority}
 use Rattle.rt_ids.specs.declared.ids.Section.{Section}
 use Rattle.rt_ids.specs.declared.ids.Section.TheVariants as section
 use Rattle.rt_app.specs.Tree.{App}

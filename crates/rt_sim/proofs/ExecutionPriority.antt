@@ -6,7 +6,7 @@ use Rattle.std.proofs.lemmas.Bool.{cases_lt, eqb-true}
 use Rattle.rt_lemmas.proofs.Membership.{all_weaker}
 use Rattle.rt_ids.specs.Lists.{greatest}
 use Rattle.rt_ids.specs.Priority.{hardware}
-use Rattle.rt_ids.specs.Storage.{AtPriority}
+use Rattle.rt_actions.specs.Storage.{AtPriority}
 use Rattle.rt_ids.specs.declared.limits.TheConstants.{THREAD_VALUE}
 use Rattle.rt_ids.proofs.Hardware.{hardware_falls, hardware_of_none}
 use Rattle.rt_app.specs.Tree.{App}

@@ -7,8 +7,8 @@ use Rattle.std.specs.List.{range_with_len}
 use Rattle.std.proofs.lemmas.Bool.{eqb-true, eq-eqb}
 use Rattle.std.proofs.lemmas.List.Sums.{sum_by-cons}
 use Rattle.rt_lemmas.proofs.Bools.{true_and_false, and_parts}
-use Rattle.rt_ids.specs.Entry.{Entry, is_same_entry, count}
-use Rattle.rt_ids.specs.Location.{Location, Guarded, Own, is_same_location}
+use Rattle.rt_actions.specs.Entry.{Entry, is_same_entry, count}
+use Rattle.rt_actions.specs.Location.{Location, Guarded, Own, is_same_location}
 use Rattle.rt_ids.specs.declared.ids.Section.TheVariants as section
 use Rattle.rt_app.specs.Tree.{App}
 use Rattle.rt_app.specs.Sending.{capacity_of}

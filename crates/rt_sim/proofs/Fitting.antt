@@ -1,7 +1,7 @@
 -- Where there is a monotonic its counts fit a word: the time where a job reads the clock, and the armings where one
 -- opens the timer queue. Nobody else goes by them.
 use Rattle.std.proofs.Common.{◌≡◌, ℕ, ◌+◌, ◌^◌, ◌<◌, Option, Some, None, IsSome, refl, arith}
-use Rattle.rt_ids.specs.Action.{Clocks}
+use Rattle.rt_actions.specs.Action.{Clocks}
 use Rattle.rt_app.specs.declared.app.Mono.{Mono}
 use Rattle.rt_app.specs.Tree.{App}
 use Rattle.rt_code.specs.Image.{Image}

@@ -7,7 +7,7 @@ use Rattle.std.specs.List.{AllByRecursion, list_any}
 use Rattle.rt_lemmas.proofs.Bools.{and_both, or_left, or_right}
 use Rattle.rt_lemmas.proofs.Membership.{all_append, all_flat_map, all_from_members, any_passes}
 use Rattle.rt_ids.specs.Lists.{is_some_and, greatest}
-use Rattle.rt_ids.specs.Storage.{AtPriority}
+use Rattle.rt_actions.specs.Storage.{AtPriority}
 use Rattle.rt_ids.proofs.Greatest.{greatest_has}
 use Rattle.rt_app.specs.declared.app.Mono.{Mono}
 use Rattle.rt_app.specs.declared.costs.TheConstants.{TIMER_WORDS}
@@ -23,7 +23,7 @@ use Rattle.rt_app.specs.Layout.{memory}
 use Rattle.rt_app.specs.Level.{is_software, levels}
 use Rattle.rt_app.specs.Sending.{act}
 use Rattle.rt_app.specs.Stack.{is_bound_at, frames_of, is_timed_at, timer_need}
-use Rattle.rt_ids.specs.Action.{Returns}
+use Rattle.rt_actions.specs.Action.{Returns}
 use Rattle.rt_build.specs.Entries.{handler_words, task_words}
 use Rattle.rt_build.specs.Image.{IsImageOf}
 use Rattle.rt_code.specs.Image.{Image}

@@ -7,10 +7,10 @@ use Rattle.std.proofs.lemmas.Option.{slice_get_within, slice_get-get_or}
 use Rattle.rt_lemmas.proofs.Bools.{true_and_false, or_left}
 use Rattle.rt_lemmas.proofs.Indices.{there_is}
 use Rattle.rt_ids.specs.Lists.{then_from}
-use Rattle.rt_ids.specs.Location.{Location, Guarded}
-use Rattle.rt_ids.specs.Content.{Values, number}
-use Rattle.rt_ids.specs.Action.{Leaves}
-use Rattle.rt_ids.specs.Doing.{Doing, does}
+use Rattle.rt_actions.specs.Location.{Location, Guarded}
+use Rattle.rt_actions.specs.Content.{Values, number}
+use Rattle.rt_actions.specs.Action.{Leaves}
+use Rattle.rt_actions.specs.Doing.{Doing, does}
 use Rattle.rt_ids.specs.Operation.{number_of}
 use Rattle.rt_ids.specs.declared.ids.Section.{Section}
 use Rattle.rt_ids.specs.declared.ids.Section.TheVariants as section

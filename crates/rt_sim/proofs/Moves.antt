@@ -4,10 +4,10 @@
 use Rattle.std.proofs.Common.{◌≡◌, ℕ, ◌+◌, ◌++◌, Bool, true, false, List, [], ◌∷◌, map, Some, None, refl}
 use Rattle.std.proofs.Common.{ap, subst, ◌∙◌, if◌then◌else◌, arith}
 use Rattle.rt_lemmas.proofs.Bools.{true_and_false}
-use Rattle.rt_ids.specs.Location.{Location, Guarded, is_same_location}
-use Rattle.rt_ids.specs.Content.{Values}
-use Rattle.rt_ids.specs.Entry.{Entry, count}
-use Rattle.rt_ids.specs.Action.{Action, Places, Readies, Starts, Frees, Arms, Fires, Cancels, Moves, effect}
+use Rattle.rt_actions.specs.Location.{Location, Guarded, is_same_location}
+use Rattle.rt_actions.specs.Content.{Values}
+use Rattle.rt_actions.specs.Entry.{Entry, count}
+use Rattle.rt_actions.specs.Action.{Action, Places, Readies, Starts, Frees, Arms, Fires, Cancels, Moves, effect}
 use Rattle.rt_ids.specs.declared.ids.Section.{Section}
 use Rattle.rt_ids.specs.declared.ids.Section.TheVariants as section
 use Rattle.rt_app.specs.Tree.{App}

@@ -7,11 +7,11 @@ use Rattle.std.proofs.Common.{slice_index, Option, Some, None, refl, sym, subst,
 use Rattle.std.specs.List.{AllByRecursion}
 use Rattle.std.proofs.lemmas.Bool.{eqb-true, eq-eqb}
 use Rattle.rt_lemmas.proofs.Bools.{true_and_false}
-use Rattle.rt_ids.specs.Location.{Location, Guarded, Own}
-use Rattle.rt_ids.specs.Content.{Content, Values}
-use Rattle.rt_ids.specs.Entry.{Entry, count}
-use Rattle.rt_ids.specs.Doing.{Doing, over, does}
-use Rattle.rt_ids.specs.Storage.{Runner, Home, At, In, Nowhere}
+use Rattle.rt_actions.specs.Location.{Location, Guarded, Own}
+use Rattle.rt_actions.specs.Content.{Content, Values}
+use Rattle.rt_actions.specs.Entry.{Entry, count}
+use Rattle.rt_actions.specs.Doing.{Doing, over, does}
+use Rattle.rt_actions.specs.Storage.{Runner, Home, At, In, Nowhere}
 use Rattle.rt_app.specs.Tree.{App}
 use Rattle.rt_app.specs.Holding.{storage}
 use Rattle.rt_code.specs.Access.{Access, Loads, Stores}

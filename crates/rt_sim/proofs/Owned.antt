@@ -11,9 +11,9 @@ use Rattle.std.proofs.lemmas.Option.{none-some}
 use Rattle.rt_lemmas.proofs.Bools.{or_left, or_right, and_both, true_and_false}
 use Rattle.rt_lemmas.proofs.Membership.{all_at, any_contained, contained_any, any_passes, any_left, any_right}
 use Rattle.rt_ids.specs.Choice.{IsIn}
-use Rattle.rt_ids.specs.Location.{Guarded, Own, is_same_section}
+use Rattle.rt_actions.specs.Location.{Guarded, Own, is_same_section}
 use Rattle.rt_ids.specs.Lists.{is_some_and, those_below}
-use Rattle.rt_ids.specs.Storage.{Starting, AtPriority}
+use Rattle.rt_actions.specs.Storage.{Starting, AtPriority}
 use Rattle.rt_ids.specs.declared.ids.Section.{Section}
 use Rattle.rt_ids.specs.declared.ids.Section.TheVariants as section
 use Rattle.rt_ids.proofs.Lists.{list_any-map}

@@ -6,10 +6,10 @@ use Rattle.std.proofs.Common.{refl, sym, ap, subst, ◌∙◌, inl, inr, arith}
 use Rattle.std.specs.List.{AllByRecursion}
 use Rattle.std.proofs.lemmas.Bool.{eqb-true, eq-eqb}
 use Rattle.rt_lemmas.proofs.Bools.{true_and_false}
-use Rattle.rt_ids.specs.Location.{Location, Guarded, Own}
-use Rattle.rt_ids.specs.Content.{Content, Number, Values, values_with}
-use Rattle.rt_ids.specs.Entry.{Entry}
-use Rattle.rt_ids.specs.Storage.{Runner, Starting, AtPriority, At, In}
+use Rattle.rt_actions.specs.Location.{Location, Guarded, Own}
+use Rattle.rt_actions.specs.Content.{Content, Number, Values, values_with}
+use Rattle.rt_actions.specs.Entry.{Entry}
+use Rattle.rt_actions.specs.Storage.{Runner, Starting, AtPriority, At, In}
 use Rattle.rt_app.specs.Tree.{App}
 use Rattle.rt_app.specs.Holding.{storage, is_kept}
 use Rattle.rt_app.specs.Layout.{local_at}

@@ -8,8 +8,8 @@ use Rattle.std.specs.List.{AllByRecursion}
 use Rattle.std.proofs.lemmas.List.{length-replicate}
 use Rattle.rt_lemmas.proofs.Lists.{find_has}
 use Rattle.rt_ids.specs.Lists.{or_zero}
-use Rattle.rt_ids.specs.Action.{Returns}
-use Rattle.rt_ids.specs.Storage.{AtPriority}
+use Rattle.rt_actions.specs.Action.{Returns}
+use Rattle.rt_actions.specs.Storage.{AtPriority}
 use Rattle.rt_app.specs.declared.app.Mono.{Mono}
 use Rattle.rt_app.specs.Tree.{Task, App}
 use Rattle.rt_app.specs.Accepted.{IsAccepted}

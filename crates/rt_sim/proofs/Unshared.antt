@@ -7,9 +7,9 @@ use Rattle.std.proofs.lemmas.Bool.{cases_lt}
 use Rattle.std.proofs.lemmas.Option.{none-some, same_Some}
 use Rattle.rt_lemmas.proofs.Bools.{and_both, or_left, or_right, true_and_false}
 use Rattle.rt_ids.specs.Choice.{IsIn}
-use Rattle.rt_ids.specs.Entry.{Entry, count}
-use Rattle.rt_ids.specs.Location.{Location, Guarded, Own, is_same_section}
-use Rattle.rt_ids.specs.Storage.{AtPriority, Home, At, In, Nowhere}
+use Rattle.rt_actions.specs.Entry.{Entry, count}
+use Rattle.rt_actions.specs.Location.{Location, Guarded, Own, is_same_section}
+use Rattle.rt_actions.specs.Storage.{AtPriority, Home, At, In, Nowhere}
 use Rattle.rt_ids.specs.declared.ids.Section.{Section}
 use Rattle.rt_ids.specs.declared.ids.Section.TheVariants as section
 use Rattle.rt_app.specs.Tree.{App}

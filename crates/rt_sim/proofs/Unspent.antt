@@ -5,10 +5,10 @@ use Rattle.std.proofs.Common.{if◌then◌else◌, List, [], ◌∷◌, ◌++◌
 use Rattle.std.proofs.Common.{map, take, append_assoc, Option, Some, None, refl, sym, ap, subst, ◌∙◌}
 use Rattle.std.specs.List.{AllByRecursion}
 use Rattle.rt_lemmas.proofs.Lists.{all_behind}
-use Rattle.rt_ids.specs.Location.{Location}
-use Rattle.rt_ids.specs.Entry.{Entry}
+use Rattle.rt_actions.specs.Location.{Location}
+use Rattle.rt_actions.specs.Entry.{Entry}
 use Rattle.rt_ids.specs.Event.{Event, Arrive, Tick, Step}
-use Rattle.rt_ids.specs.Content.{Values}
+use Rattle.rt_actions.specs.Content.{Values}
 use Rattle.rt_trace.specs.Label.{Label, Arrived, Ticked, Rang}
 use Rattle.rt_app.specs.Tree.{App}
 use Rattle.rt_app.specs.Accepted.{IsAccepted}

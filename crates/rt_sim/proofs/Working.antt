@@ -4,11 +4,11 @@ use Rattle.std.proofs.Common.{◌≡◌, ℕ, zero, suc, ◌^◌, ◌<◌, ◌�
 use Rattle.std.proofs.Common.{length}
 use Rattle.std.proofs.Common.{slice_get, Option, Some, None, refl, sym, ap, subst, ◌∙◌, arith}
 use Rattle.rt_lemmas.proofs.Membership.{all_weaker}
-use Rattle.rt_ids.specs.Content.{Values, delays}
-use Rattle.rt_ids.specs.Location.{Location, Guarded}
+use Rattle.rt_actions.specs.Content.{Values, delays}
+use Rattle.rt_actions.specs.Location.{Location, Guarded}
 use Rattle.rt_ids.specs.Lists.{is_some_and}
-use Rattle.rt_ids.specs.Storage.{Starting, AtPriority}
-use Rattle.rt_ids.specs.Action.{Clocks, Returns, Ends}
+use Rattle.rt_actions.specs.Storage.{Starting, AtPriority}
+use Rattle.rt_actions.specs.Action.{Clocks, Returns, Ends}
 use Rattle.rt_ids.specs.declared.ids.BodyId.TheVariants as body
 use Rattle.rt_ids.specs.declared.ids.Section.TheVariants as section
 use Rattle.rt_app.specs.Tree.{App}

@@ -6,10 +6,10 @@
 -- belongs to the layout says, by whose names the image names its cells.
 use Rattle.std.specs.Prelude.{◌≡◌, ℕ, ◌<◌, ◌⊎◌, true, ◌&&◌, List, [], ◌∷◌, length, drop, Option, Some, None}
 use Rattle.std.specs.List.{list_any}
-use Rattle.rt_ids.specs.Entry.{Entry, count}
+use Rattle.rt_actions.specs.Entry.{Entry, count}
 use Rattle.rt_ids.specs.Event.{Event}
-use Rattle.rt_ids.specs.Location.{Location, Guarded, Own}
-use Rattle.rt_ids.specs.Storage.{Home, At, In, Nowhere}
+use Rattle.rt_actions.specs.Location.{Location, Guarded, Own}
+use Rattle.rt_actions.specs.Storage.{Home, At, In, Nowhere}
 use Rattle.rt_ids.specs.declared.ids.Section.{Section}
 use Rattle.rt_ids.specs.declared.ids.Section.TheVariants as section
 use Rattle.rt_app.specs.Tree.{App}

@@ -5,8 +5,8 @@
 -- ownership that `hands_behind` tells by tasks alone, with the places themselves.
 use Rattle.std.specs.Prelude.{◌≡◌, ℕ, ◌+◌, ◌-◌, ◌≤◌, false, List, [], ◌∷◌, ◌++◌, map, Some}
 use Rattle.std.specs.List.{range_with_len}
-use Rattle.rt_ids.specs.Entry.{Entry, count}
-use Rattle.rt_ids.specs.Location.{Location, Guarded, is_same_location}
+use Rattle.rt_actions.specs.Entry.{Entry, count}
+use Rattle.rt_actions.specs.Location.{Location, Guarded, is_same_location}
 use Rattle.rt_ids.specs.declared.ids.Section.{Section}
 use Rattle.rt_ids.specs.declared.ids.Section.TheVariants as section
 use Rattle.rt_trace.specs.Label.{Label, Stepped}

@@ -2,8 +2,8 @@
 // application, within the stack bound, without a trap, and with shared resources touched only where they may be. A core
 // with such an image, which runs scripts.
 // Promises: the theorem: every image of an accepted application is good.
-// Stands on: rt_lemmas, rt_ids, rt_app, rt_code, rt_trace, rt_core, rt_run, rt_laws, rt_gen_queue, rt_gen_body,
-// rt_build, rt_rta.
+// Stands on: rt_lemmas, rt_ids, rt_actions, rt_app, rt_code, rt_trace, rt_core, rt_run, rt_laws, rt_gen_queue,
+// rt_gen_body, rt_build, rt_rta.
 // Read next: specs/Good.antt, then proofs/Good.antt from its end backwards.
 #![tactic(auto)]
 

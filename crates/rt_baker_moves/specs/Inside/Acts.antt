@@ -2,10 +2,10 @@
 -- machine of the definitions changes (`rt_laws`; Baker, Stack-Based Scheduling of Realtime Processes, 1991).
 use Rattle.std.specs.Prelude.{◌≡◌, ℕ, ◌-◌, true, [], ◌∷◌, ◌++◌, map, drop, slice_set, slice_index_or, Option, None}
 use Rattle.std.specs.Prelude.{if◌then◌else◌}
-use Rattle.rt_ids.specs.Location.{Guarded}
-use Rattle.rt_ids.specs.Content.{Values, delays, least_instant}
-use Rattle.rt_ids.specs.Action.{Action, Enters, Leaves, Posts, SetsAlarm, effect}
-use Rattle.rt_ids.specs.Doing.{Doing}
+use Rattle.rt_actions.specs.Location.{Guarded}
+use Rattle.rt_actions.specs.Content.{Values, delays, least_instant}
+use Rattle.rt_actions.specs.Action.{Action, Enters, Leaves, Posts, SetsAlarm, effect}
+use Rattle.rt_actions.specs.Doing.{Doing}
 use Rattle.rt_ids.specs.declared.ids.Section.TheVariants as section
 use Rattle.rt_app.specs.Tree.{App}
 use Rattle.rt_laws.specs.Services.{timer_number}

@@ -2,8 +2,8 @@
 -- what an auditor keeps. In the definitions the return of a handler is a part of what it does; here it comes after all
 -- that there is to do.
 use Rattle.std.specs.Prelude.{◌≡◌, ℕ, [], false, slice_set}
-use Rattle.rt_ids.specs.Content.{Values}
-use Rattle.rt_ids.specs.Doing.{Doing}
+use Rattle.rt_actions.specs.Content.{Values}
+use Rattle.rt_actions.specs.Doing.{Doing}
 use Rattle.rt_app.specs.Tree.{App}
 use Rattle.rt_app.specs.Meaning.{Later}
 use Rattle.rt_laws.specs.State as laws

@@ -1,7 +1,7 @@
 -- What comes on top of the things to do, and what a spawn has to do. The definitions have the actions of a spawn as a
 -- function of what comes after them (`rt_app`; the RTIC 1 book, software tasks and the monotonic).
 use Rattle.std.specs.Prelude.{◌≡◌, ℕ, List, Option}
-use Rattle.rt_ids.specs.Content.{Values}
+use Rattle.rt_actions.specs.Content.{Values}
 use Rattle.rt_app.specs.Tree.{Spawn, App}
 use Rattle.rt_app.specs.Sending.{spawn_actions}
 use Rattle.rt_app.specs.Meaning.{Later, value_in}

@@ -2,7 +2,7 @@
 use Rattle.std.specs.Prelude.{◌≡◌, ◌≢◌, ◌↔◌, ℕ, ◌≤◌, ◌++◌, [], ◌∷◌, Bool, true, IsTrue, nat_le, min, max, map}
 use Rattle.std.specs.Prelude.{false, List, Some, Option, None, if◌then◌else◌, slice_get}
 use Rattle.std.specs.List.{Contains, AllByRecursion, list_any}
-use Rattle.rt_ids.specs.Location.{is_same_section}
+use Rattle.rt_actions.specs.Location.{is_same_section}
 use Rattle.rt_ids.specs.declared.ids.Section.{Section}
 use Rattle.rt_code.specs.Image.{Image}
 use Rattle.rt_code.specs.declared.instr.Instr.{Instr}

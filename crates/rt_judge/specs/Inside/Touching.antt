@@ -2,7 +2,7 @@
 use Rattle.std.specs.Prelude.{◌≡◌, ◌≢◌, ◌⊎◌, ◌||◌, ◌==◌, not, ℕ, Bool, true, false, List, Some, Option, None, slice_get}
 use Rattle.std.specs.Prelude.{slice_set, option_map, map, filter, length}
 use Rattle.std.specs.List.{Contains, list_any}
-use Rattle.rt_ids.specs.Location.{is_same_section}
+use Rattle.rt_actions.specs.Location.{is_same_section}
 use Rattle.rt_ids.specs.Choice.{IsIn}
 use Rattle.rt_ids.specs.declared.ids.Section.{Section}
 use Rattle.rt_code.specs.Access.{Access, Loads, Stores, cell_of}

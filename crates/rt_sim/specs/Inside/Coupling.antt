@@ -1,10 +1,10 @@
 -- A coupling of both machines at a moment of a run: what the core has in frames, masks and cells, and what Baker's
 -- machine has in jobs and values. Each job has its frame beside it, so that both states can be read off.
 use Rattle.std.specs.Prelude.{ℕ, Bool, List, [], ◌∷◌, ◌++◌, map, Option}
-use Rattle.rt_ids.specs.Location.{Location}
-use Rattle.rt_ids.specs.Content.{Values}
-use Rattle.rt_ids.specs.Entry.{Entry}
-use Rattle.rt_ids.specs.Doing.{Doing}
+use Rattle.rt_actions.specs.Location.{Location}
+use Rattle.rt_actions.specs.Content.{Values}
+use Rattle.rt_actions.specs.Entry.{Entry}
+use Rattle.rt_actions.specs.Doing.{Doing}
 use Rattle.rt_ids.specs.declared.ids.Section.{Section}
 use Rattle.rt_code.specs.Owning.{OpenSection, Configuration}
 use Rattle.rt_code.specs.declared.image.BodyRow.{BodyRow}

@@ -4,11 +4,11 @@
 use Rattle.std.specs.Prelude.{◌≡◌, ℕ, ◌||◌, Bool, true, false, List, ◌∷◌, drop, slice_get, IsSome}
 use Rattle.std.specs.List.{AllByRecursion, list_any}
 use Rattle.rt_ids.specs.Lists.{is_some_and}
-use Rattle.rt_ids.specs.Location.{Location, Guarded, Own, is_same_section}
-use Rattle.rt_ids.specs.Content.{Values, messages, delays}
-use Rattle.rt_ids.specs.Action.{Action, Enters, Leaves, Clocks, Returns}
-use Rattle.rt_ids.specs.Doing.{Doing, over, does}
-use Rattle.rt_ids.specs.Storage.{Runner}
+use Rattle.rt_actions.specs.Location.{Location, Guarded, Own, is_same_section}
+use Rattle.rt_actions.specs.Content.{Values, messages, delays}
+use Rattle.rt_actions.specs.Action.{Action, Enters, Leaves, Clocks, Returns}
+use Rattle.rt_actions.specs.Doing.{Doing, over, does}
+use Rattle.rt_actions.specs.Storage.{Runner}
 use Rattle.rt_ids.specs.declared.ids.Section.{Section}
 use Rattle.rt_ids.specs.declared.ids.Section.TheVariants as section
 use Rattle.rt_app.specs.Tree.{App}

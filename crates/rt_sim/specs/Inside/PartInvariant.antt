@@ -3,11 +3,11 @@
 -- follows no instruction.
 use Rattle.std.specs.Prelude.{◌≡◌, ℕ, Bool, true, false, List, [], ◌∷◌, length, slice_get, Some, None}
 use Rattle.std.specs.List.{AllByRecursion}
-use Rattle.rt_ids.specs.Location.{Location, Guarded}
-use Rattle.rt_ids.specs.Content.{Values}
-use Rattle.rt_ids.specs.Entry.{Entry}
-use Rattle.rt_ids.specs.Doing.{Doing, over, does}
-use Rattle.rt_ids.specs.Storage.{Runner}
+use Rattle.rt_actions.specs.Location.{Location, Guarded}
+use Rattle.rt_actions.specs.Content.{Values}
+use Rattle.rt_actions.specs.Entry.{Entry}
+use Rattle.rt_actions.specs.Doing.{Doing, over, does}
+use Rattle.rt_actions.specs.Storage.{Runner}
 use Rattle.rt_app.specs.Tree.{App}
 use Rattle.rt_app.specs.Holding.{storage, IsHeld}
 use Rattle.rt_code.specs.Image.{Image}

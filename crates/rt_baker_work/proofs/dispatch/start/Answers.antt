@@ -1,5 +1,5 @@
 use Rattle.std.proofs.Common.{[], ◌∷◌, ap, ◌∙◌}
-use Rattle.rt_ids.specs.Content.{Message}
+use Rattle.rt_actions.specs.Content.{Message}
 use Rattle.rt_app.specs.View.{app_of}
 use Rattle.rt_baker_work.specs.declared.action.Action.TheVariants as action
 use Rattle.rt_baker_work.specs.declared.todo.Todo.TheVariants as todo

@@ -1,5 +1,5 @@
 use Rattle.std.proofs.Common.{refl, ap, ◌∙◌, arith}
-use Rattle.rt_ids.specs.Content.{Message}
+use Rattle.rt_actions.specs.Content.{Message}
 use Rattle.rt_app.specs.View.{app_of}
 use Rattle.rt_app.specs.Bodies.{task_priority}
 use Rattle.rt_baker_work.proofs.Pushing.{four_more, readied}

@@ -1,5 +1,5 @@
 use Rattle.std.proofs.Common.{List, [], ◌∷◌, ◌++◌, position, ap, ◌∙◌}
-use Rattle.rt_ids.specs.Content.{Armed, has_handle}
+use Rattle.rt_actions.specs.Content.{Armed, has_handle}
 use Rattle.rt_baker_work.proofs.Stores.{gone_last, none_last}
 use Rattle.rt_baker_work.proofs.store.postpone.Goals as goal
 

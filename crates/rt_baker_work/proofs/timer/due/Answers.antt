@@ -1,5 +1,5 @@
 use Rattle.std.proofs.Common.{ap, arith}
-use Rattle.rt_ids.specs.Content.{Armed}
+use Rattle.rt_actions.specs.Content.{Armed}
 use Rattle.rt_baker_work.proofs.Timing.{due_none, due_now, due_later}
 use Rattle.rt_baker_work.proofs.timer.due.Goals as goal
 

@@ -1,5 +1,5 @@
 use Rattle.std.proofs.Common.{ap, ◌∙◌}
-use Rattle.rt_ids.specs.Content.{Armed, lesser}
+use Rattle.rt_actions.specs.Content.{Armed, lesser}
 use Rattle.rt_baker_work.proofs.Timing.{least_more}
 use Rattle.rt_baker_work.proofs.timer.least_instant.Goals as goal
 

@@ -1,5 +1,5 @@
 use Rattle.std.proofs.Common.{List, position, refl, ap, ◌∙◌}
-use Rattle.rt_ids.specs.Content.{Armed, has_handle}
+use Rattle.rt_actions.specs.Content.{Armed, has_handle}
 use Rattle.rt_baker_work.specs.Store.{Store}
 use Rattle.rt_baker_work.proofs.Stores.{taken_back, one_removed, none_removed}
 use Rattle.rt_baker_work.proofs.store.Store.cancel.Goals as goal

@@ -1,5 +1,5 @@
 use Rattle.std.proofs.Common.{ap, ◌∙◌, sym}
-use Rattle.rt_ids.specs.Action.{effect}
+use Rattle.rt_actions.specs.Action.{effect}
 use Rattle.rt_baker_work.specs.declared.action.Action.{Action}
 use Rattle.rt_baker_work.specs.Actions.{action_of}
 use Rattle.rt_baker_work.specs.Store.{contents}

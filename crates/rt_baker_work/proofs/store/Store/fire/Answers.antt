@@ -1,5 +1,5 @@
 use Rattle.std.proofs.Common.{◌≡◌, Option, ℕ, List, position, refl, ap, ◌∙◌}
-use Rattle.rt_ids.specs.Content.{Armed, has_instant, least_instant}
+use Rattle.rt_actions.specs.Content.{Armed, has_instant, least_instant}
 use Rattle.rt_baker_work.specs.Store.{Store}
 use Rattle.rt_baker_work.proofs.Stores.{fired, one_removed, none_removed}
 use Rattle.rt_baker_work.proofs.store.Store.fire.Goals as goal

@@ -1,5 +1,5 @@
 use Rattle.std.proofs.Common.{List, is_some, ap, ◌∙◌}
-use Rattle.rt_ids.specs.Content.{Armed, has_handle, message_of_handle}
+use Rattle.rt_actions.specs.Content.{Armed, has_handle, message_of_handle}
 use Rattle.rt_baker_work.specs.Store.{Store, contents}
 use Rattle.rt_baker_work.proofs.Stores.{found_as}
 use Rattle.rt_baker_work.proofs.store.Store.is_armed_as.Goals as goal

@@ -1,6 +1,6 @@
 use Rattle.std.proofs.Common.{◌≡◌, ◌&&◌, not, Some, refl, sym, ap, subst, ◌∙◌}
 use Rattle.std.specs.List.{list_any}
-use Rattle.rt_ids.specs.Location.{is_same_section}
+use Rattle.rt_actions.specs.Location.{is_same_section}
 use Rattle.rt_points.specs.Point.{Point}
 use Rattle.rt_points.specs.Leading.{kind_of}
 use Rattle.rt_points.specs.ExecutionPriority.{lowered_value}

@@ -5,7 +5,7 @@
 use Rattle.std.specs.Prelude.{ℕ, ◌+◌, ◌^◌, ◌<◌, Bool, false, ◌==◌, ◌&&◌, min, List, [], ◌∷◌, ◌++◌, Option, Some, None}
 use Rattle.std.specs.Prelude.{if◌then◌else◌, find, remove}
 use Rattle.std.specs.List.{position_or_len}
-use Rattle.rt_ids.specs.Location.{Location, is_same_location}
+use Rattle.rt_actions.specs.Location.{Location, is_same_location}
 
 -- a message to a software task, with its arguments
 pub record Message : Type 0 where

@@ -2,9 +2,9 @@
 -- an application where code is said to do what its body means. The code has a layout with numbers of cells.
 use Rattle.std.specs.Prelude.{ℕ, Bool, List, Option}
 use Rattle.rt_ids.specs.declared.ids.Section.{Section}
-use Rattle.rt_ids.specs.Location.{Location}
-use Rattle.rt_ids.specs.Content.{Content}
-use Rattle.rt_ids.specs.Entry.{Entry}
+use Rattle.rt_actions.specs.Location.{Location}
+use Rattle.rt_actions.specs.Content.{Content}
+use Rattle.rt_actions.specs.Entry.{Entry}
 
 -- what a cell belongs to
 pub data Home : Type 0 where

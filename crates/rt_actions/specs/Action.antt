@@ -5,10 +5,10 @@ use Rattle.std.specs.Prelude.{ℕ, ◌+◌, ◌-◌, [], ◌∷◌, ◌++◌, dr
 use Rattle.rt_ids.specs.declared.ids.BodyId.{BodyId}
 use Rattle.rt_ids.specs.declared.ids.Section.{Section}
 use Rattle.rt_ids.specs.declared.ids.Section.TheVariants as section
-use Rattle.rt_ids.specs.Location.{Guarded}
-use Rattle.rt_ids.specs.Content.{Message, Number, Messages, Delays, Values, number, messages, timer_content}
-use Rattle.rt_ids.specs.Content.{values_with}
-use Rattle.rt_ids.specs.Content.{with_armed, with_fired, with_cancelled, with_moved}
+use Rattle.rt_actions.specs.Location.{Guarded}
+use Rattle.rt_actions.specs.Content.{Message, Number, Messages, Delays, Values, number, messages, timer_content}
+use Rattle.rt_actions.specs.Content.{values_with}
+use Rattle.rt_actions.specs.Content.{with_armed, with_fired, with_cancelled, with_moved}
 
 -- a visible action of a body, as a label of a transition system; its sections are the critical sections of Baker (1991)
 pub data Action : Type 0 where
