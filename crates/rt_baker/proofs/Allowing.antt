@@ -20,7 +20,7 @@ use Rattle.rt_laws.proofs.Silent.{silent_steps_by_cost}
 use Rattle.rt_baker_work.specs.Work.{IsSettled}
 use Rattle.rt_baker_moves.specs.State.{AuditorState, StateIs, IsEarly}
 use Rattle.rt_baker_moves.proofs.Early.{all_settled, early_held}
-use Rattle.rt_baker.specs.Inside.Judging.{IsTurn, MayGoOn, Came, Judges, Passes}
+use Rattle.rt_baker.specs.Judging.{IsTurn, MayGoOn, Came, Judges, Passes}
 
 -- what a state stands for owes an alarm where the one that is kept does
 pub owes_as : (app : App) (s : AuditorState) (t : laws.State) (b : Bool) → StateIs app s t → s.owing ≡ b → t.owing ≡ b

@@ -25,7 +25,7 @@ use Rattle.rt_baker.specs.Audit.{front, IsRight, IsWrongAt, IsVerdict}
 use Rattle.rt_baker.specs.Judge.{steps_done, state_after, steps_done_after, AreRight, Follows, FailsAt, HasComeTo}
 use Rattle.rt_baker.specs.Judge.{HasJudged}
 use Rattle.rt_baker.specs.Judge.{MayTake}
-use Rattle.rt_baker.specs.Inside.Judging.{MayGoOn, Judges, Passes, Behind, ItemComes, ItemJudged, Ends, TotalJudged}
+use Rattle.rt_baker.specs.Judging.{MayGoOn, Judges, Passes, Behind, ItemComes, ItemJudged, Ends, TotalJudged}
 use Rattle.rt_baker.proofs.Allowing.{owes_as}
 use Rattle.rt_baker.proofs.Counting.{silent_within, behind_within}
 use Rattle.rt_baker.proofs.Running.{silent_owing, come_more, come_last, state_more}

@@ -1,4 +1,4 @@
--- The definitions of this crate, a file each. Those in Inside are for private contracts alone.
+-- The definitions of this crate, a file each.
 pub mod Audit
 pub mod Judge
-pub mod Inside
+pub mod Judging

@@ -8,7 +8,7 @@ ghost use Rattle.rt_laws.specs.Silent.{MaySpend};
 ghost use Rattle.rt_laws.specs.State as laws;
 ghost use Rattle.rt_baker_moves.specs.Machine.{IsMachine};
 ghost use Rattle.rt_baker_moves.specs.State.{StateIs};
-ghost use Rattle.rt_baker.specs.Inside.Judging.{IsTurn, MayGoOn, Judges, Passes};
+ghost use Rattle.rt_baker.specs.Judging.{IsTurn, MayGoOn, Judges, Passes};
 
 use rt_app::App;
 use rt_baker_moves::{Machine, State};
@@ -37,7 +37,7 @@ fn may_go<'a>(state: &State<'a>, machine: &Machine<'a>, steps: u64) -> bool
 }
 
 /// So many silent steps pass, where they may.
-pub(crate) fn pass_steps<'a>(state: &mut State<'a>, machine: &Machine<'a>, steps: u64) -> bool
+pub fn pass_steps<'a>(state: &mut State<'a>, machine: &Machine<'a>, steps: u64) -> bool
     requires { IsMachine machine.now }
     ensures { Passes (app_of machine.now.code.now.app.now) result state.old state.new steps }
 {

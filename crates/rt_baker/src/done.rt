@@ -9,7 +9,7 @@ use rt_trace::{Item, What};
 /// How many core steps are done: those in front of an item of this number, and one more where that is a step itself. So
 /// the number is never one above the greatest.
 #[derive(Clone, Copy)]
-pub(crate) struct Done {
+pub struct Done {
     step: u64,
     is_step: bool,
 }
@@ -28,7 +28,7 @@ fn is_step(what: &What, owing: bool) -> bool
 
 impl Done {
     /// None are done.
-    pub(crate) fn none() -> Done
+    pub fn none() -> Done
         ensures { steps_done result ≡ 0 }
     {
         Done {
@@ -38,7 +38,7 @@ impl Done {
     }
 
     /// Those that are done after an item, where an alarm is owed or not.
-    pub(crate) fn behind(item: &Item, owing: bool) -> Done
+    pub fn behind(item: &Item, owing: bool) -> Done
         ensures { steps_done result ≡ steps_after item.now.step (label_of owing item.now.what) }
     {
         Done {
@@ -48,7 +48,7 @@ impl Done {
     }
 
     /// How many more there are in front of an item of this number. None where it is out of order.
-    pub(crate) fn until(self, number: u64) -> Option<u64>
+    pub fn until(self, number: u64) -> Option<u64>
         ensures { MatchOption result (number < steps_done self) (λ more.
             (steps_done self ≤ number) × (more ≡ number - steps_done self)) }
     {

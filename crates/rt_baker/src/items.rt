@@ -7,7 +7,7 @@ ghost use Rattle.rt_app.specs.View.{app_of};
 ghost use Rattle.rt_laws.specs.Run.{IsWithinStack};
 ghost use Rattle.rt_baker_moves.specs.Machine.{IsMachine};
 ghost use Rattle.rt_baker.specs.Judge.{steps_done};
-ghost use Rattle.rt_baker.specs.Inside.Judging.{MayGoOn, ItemComes, ItemJudged, TotalJudged};
+ghost use Rattle.rt_baker.specs.Judging.{MayGoOn, ItemComes, ItemJudged, TotalJudged};
 
 use crate::coming::{come, pass_steps};
 use crate::done::Done;
@@ -55,7 +55,7 @@ fn come_after<'a>(
 }
 
 /// An item comes, where it may and is within so many stack bytes. The steps that are done then.
-pub(crate) fn judge_item<'a>(
+pub fn judge_item<'a>(
     state: &mut State<'a>,
     machine: &Machine<'a>,
     stack: u32,
@@ -76,7 +76,7 @@ pub(crate) fn judge_item<'a>(
 }
 
 /// Whether a trace may end with so many core steps, where it states a total.
-pub(crate) fn judge_total<'a>(
+pub fn judge_total<'a>(
     state: &mut State<'a>,
     machine: &Machine<'a>,
     done: Done,

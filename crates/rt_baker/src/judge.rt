@@ -34,7 +34,7 @@ pub struct Judge<'a> {
 }
 
 /// The bytes of the stack.
-fn stack_bytes(machine: &Machine<'_>) -> Result<u32, NoMemory>
+pub fn stack_bytes(machine: &Machine<'_>) -> Result<u32, NoMemory>
     requires { IsMachine machine.now }
     ensures { IfOk result (λ bytes. bytes ≡ stack.stack_bytes (app_of machine.now.code.now.app.now)) }
 {

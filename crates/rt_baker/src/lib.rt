@@ -4,13 +4,14 @@
 // Read next: specs/Audit.antt, then src/coming.rt.
 #![tactic(auto)]
 
-mod coming;
-mod done;
-mod items;
+pub mod coming;
+pub mod done;
+pub mod items;
 pub mod judge;
 mod judging;
 pub mod verdict;
 
+pub use done::Done;
 pub use judge::Judge;
 pub use judging::audit;
 pub use verdict::Verdict;

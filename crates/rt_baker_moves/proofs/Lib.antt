@@ -15,3 +15,4 @@ pub mod SystemCeiling
 pub mod Steps
 pub mod Showing
 pub mod Early
+pub mod Putting

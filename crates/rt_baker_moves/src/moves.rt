@@ -8,6 +8,7 @@ ghost use Rattle.rt_app.specs.View.{app_of};
 ghost use Rattle.rt_trace.specs.Label.{Ticked, Rang};
 ghost use Rattle.rt_laws.specs.Acting.{state_after_pend};
 ghost use Rattle.rt_laws.specs.Allowed.{state_after_item, after};
+ghost use Rattle.rt_laws.specs.DeviceWords.{state_after_put};
 ghost use Rattle.rt_laws.specs.Silent.{jobs_after_steps};
 ghost use Rattle.rt_laws.specs.State as laws;
 ghost use Rattle.rt_baker_work.specs.Code.{IsCode};
@@ -55,6 +56,14 @@ impl<'a> State<'a> {
         self.owing = false;
         self.pend(machine, timer(machine.code.app))?;
         Ok(())
+    }
+
+    /// A device puts a word into a local resource.
+    pub fn put(&mut self, local: u8, word: u32)
+        ensures { (app : App) (t : laws.State) → StateIs app self.old t
+            → StateIs app self.new (state_after_put local word t) }
+    {
+        self.store.set_local(local, word);
     }
 
     /// So many silent steps pass.

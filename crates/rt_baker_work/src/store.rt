@@ -171,7 +171,7 @@ impl Store {
     }
 
     /// A local resource has another value.
-    pub(crate) fn set_local(&mut self, local: u8, value: u32)
+    pub fn set_local(&mut self, local: u8, value: u32)
         ensures { contents self.new ≡ values_with (contents self.old) (Own local) (Number value) }
     {
         self.locals[usize::from(local)] = value;

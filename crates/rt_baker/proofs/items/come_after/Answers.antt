@@ -2,7 +2,7 @@ use Rattle.std.proofs.Common.{Bool, ap, ◌∙◌, subst}
 use Rattle.rt_app.specs.View.{app_of}
 use Rattle.rt_laws.specs.ByItems.{label_of, steps_after}
 use Rattle.rt_baker.specs.Judge.{steps_done}
-use Rattle.rt_baker.specs.Inside.Judging.{Judges}
+use Rattle.rt_baker.specs.Judging.{Judges}
 use Rattle.rt_baker.proofs.Verdicts.{item_disordered, item_stopped, still_early, item_refused, item_comes}
 use Rattle.rt_baker.proofs.items.come_after.Goals as goal
 
