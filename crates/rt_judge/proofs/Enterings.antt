@@ -46,8 +46,8 @@ module _ (img : Image) (p : Point) (i j : Instr) (x y : Section) (stands : Enter
   one_instr : i ≡ j
   one_instr = ap (instr_in i) same_line
 
-  one_section : x ≡ y
-  one_section = ap (section_in x) same_line
+  entered_section : x ≡ y
+  entered_section = ap (section_in x) same_line
 
 -- the value of the next who enters, `init` aside
 abbrev pub IsValueOf : Image → Point → Option ℕ → Type 0
@@ -76,7 +76,7 @@ module _ (img : Image) (ps : List Point) (p : Point) (i : Instr) (x : Section) (
   by_cases y q j e before now = ⊎_elim
       (λ seen. before (record { seen = seen; enters = e.enters }))
       (λ same. let enters : EntersBy img p j y = subst (λ r. EntersBy img r j y) (sym same) e.enters in
-      now same (one_instr img p i j x y stands enters) (one_section img p i j x y stands enters))
+      now same (one_instr img p i j x y stands enters) (entered_section img p i j x y stands enters))
       (Contains-push_cases ps p q e.seen)
 
   abbrev priority_now : ℕ
@@ -264,7 +264,7 @@ module _ (img : Image) (ps : List Point) (p : Point) (i : Instr) (x : Section) (
       free_here : IsTrue (not (list_any (λ o. is_same_section o.section x) p.inside)) ↔ FreeAt img p
       free_here = (
         λ closed j y enters inside.
-            let same = one_section img p i j x y stands enters in
+            let same = entered_section img p i j x y stands enters in
             let yes = inside_any x p.inside (subst (λ z. IsIn (sections p.inside) z) (sym same) inside) in
             let no = not_true (list_any (λ o. is_same_section o.section x) p.inside) closed in
             absurd (cc),

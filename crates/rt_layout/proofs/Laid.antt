@@ -23,15 +23,16 @@ use Rattle.rt_layout.specs.Inside.Rows.{resource_row, local_row, task_rows, read
 use Rattle.rt_layout.specs.Inside.Rooms.{room_of, HasRooms}
 use Rattle.rt_layout.specs.Inside.Growing.{none, with_resources, with_task, with_level, with_levels, roomy, with_mono}
 use Rattle.rt_layout.proofs.Growing.{free_from, inputs_from, rows_of_levels, ready_from, tasks_cells, tasks_free}
+use Rattle.rt_frames.proofs.Below.{below_none}
 use Rattle.rt_layout.proofs.Growing.{tasks_inputs, tasks_ready, tasks_timer, levels_cells, levels_ready}
 use Rattle.rt_layout.proofs.Growing.{levels_inputs, levels_free, levels_timer, mono_cells, mono_inputs, mono_free}
 use Rattle.rt_layout.proofs.Growing.{mono_ready}
 use Rattle.rt_layout.proofs.Laying.{rows_are, free_are, inputs_are, ready_are, length-task_cells, length-ready}
-use Rattle.rt_layout.proofs.Laying.{those_next, those_none, those_less}
+use Rattle.rt_layout.proofs.Laying.{those_next, those_less}
 use Rattle.rt_layout.proofs.Few.{few_cells}
 
 those_alike : (a b : ℕ → Bool) (n : ℕ) → ((p : ℕ) → p < n → a p ≡ b p) → those_below a n ≡ those_below b n
-those_alike a b zero same = those_none a ∙ sym (those_none b)
+those_alike a b zero same = below_none a ∙ sym (below_none b)
 those_alike a b (suc n) same =
     those_next a n
     ∙ (ap (λ x. those_below a n ++ (if x then n ∷ [] else [])) (same n (omega arith))
@@ -222,7 +223,7 @@ module _ (rooms : List ℕ) where
   next l p = with_level l p (slice_index rooms p)
 
   pub no_levels : (l : Layout) → l ≡ with_levels rooms l 0
-  no_levels l = ap (fold next l) (sym (those_none has))
+  no_levels l = ap (fold next l) (sym (below_none has))
 
   with_next : (old : Layout) (n : ℕ) (b : Bool) → has n ≡ b → with_levels rooms old (n + 1)
       ≡ fold next (with_levels rooms old n) (if b then n ∷ [] else [])
