@@ -13,7 +13,7 @@ SAID = re.compile(r"//[^\n]*|b?\"(?:\\.|[^\"\\])*\"|b?'(?:\\(?:x..|.)|[^\\'\n])'
 GHOST_USE = re.compile(r"^[ \t]*ghost use [^;]*;", re.M)
 USE = re.compile(r"^[ \t]*(?:pub(?:\(crate\))? )?use [^;]*;", re.M)
 CLAUSE = re.compile(r"\b(?:requires|ensures)(?:\s*\*)?\s*\w*\s*(?=\{)|\bghost \w+\s*[:=]\s*(?=\{)")
-CITED = re.compile(r"\bcrate::((?:proofs|specs)(?:::\w+)*)::([\w-]+)")
+CITED = re.compile(r"\b(\w+)::((?:proofs|specs)(?:::\w+)*)::([\w-]+)")
 ATTRIBUTE = re.compile(r"#!?\[[^\]]*\]")
 BEGINS = re.compile(
     r"^( *)(?:pub(?:\(crate\))? )?(?:const (?=fn)|unsafe )?(fn|struct|enum|trait|const|static|type|macro_rules!) (\w+)",
@@ -97,12 +97,17 @@ class File:
         self.imports = list(imports(text))
         ghost = GHOST_USE.sub(blank, text)
         self.names, self.paths = antt.names_in(ghost), antt.paths_in(ghost)
-        self.cited = [(f"{self.crate}.{module.replace('::', '.')}", name) for module, name in CITED.findall(ghost)]
+        self.cited = list(self.cites(ghost))
         self.libraries = set(re.findall(r"\b([a-z_]\w*)(?=::)", ghost))
         code = USE.sub(blank, ghost)
         self.items = list(self.read(without_clauses(code)))
         # constants and types in contracts have their own names there
         self.in_clauses = {word for clause in clauses(code) for word in WORD.findall(clause)}
+
+    def cites(self, text):
+        """The modules and names of this crate and of others that hints name."""
+        for crate, module, name in CITED.findall(text):
+            yield f"{self.crate if crate == 'crate' else crate}.{module.replace('::', '.')}", name
 
     def read(self, text):
         """The items of a text of code."""

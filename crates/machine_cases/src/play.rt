@@ -83,7 +83,7 @@ fn tick(core: &mut Core, trace: &mut Vec<u8>) -> Result<()>
 }
 
 /// One request of an interrupt.
-#[tactic(auto, using(rt_core::proofs::Keeping::arrivals_keep_time))]
+#[tactic(auto, using(crate::proofs::Arriving::arrivals_keep_time))]
 fn arrive(core: &mut Core, irq: Irq, trace: &mut Vec<u8>) -> Result<()>
     ensures steps { core.new.steps ≡ core.old.steps }
     ensures time { core.new.core.time ≡ core.old.core.time }
