@@ -6,12 +6,8 @@ use Rattle.std.proofs.lemmas.List.{take-append-drop, replicate-append-replicate}
 use Rattle.std.proofs.lemmas.Grind.{flat_map-append}
 use Rattle.rt_lemmas.proofs.Lists.{flat_map_next}
 use Rattle.rt_words.specs.declared.call.Call.{Call}
-use Rattle.rt_words.specs.declared.call.Call.TheVariants.{Pend}
-use Rattle.rt_words.specs.declared.call.Pended.{Pended}
-use Rattle.rt_words.specs.Lines.{Line}
-use Rattle.rt_words.specs.Row.{bit_in_row}
-use Rattle.rt_devices.specs.declared.device.Device.{Device}
-use Rattle.rt_devices.specs.Work.{requests, interrupt_asked, Works}
+use Rattle.rt_words.specs.{declared.call.Call.TheVariants.Pend, declared.call.Pended.Pended, Lines.Line, Row.bit_in_row}
+use Rattle.rt_devices.specs.{declared.device.Device.Device, Work.Works, Work.interrupt_asked, Work.requests}
 
 -- one pend
 pub works_one : (a : Device) (line : Line) (irq : ℕ) (answer : Pended)

@@ -1,8 +1,7 @@
 -- What a device does to the pending words. It is this project's own.
 use Rattle.std.specs.Prelude.{◌≡◌, ℕ, List, ◌++◌, Option, Some, None, map, flat_map, replicate}
 use Rattle.rt_words.specs.declared.call.Call.{Call}
-use Rattle.rt_words.specs.declared.call.Call.TheVariants.{Pend, Latch}
-use Rattle.rt_words.specs.Row.{bit_in_row}
+use Rattle.rt_words.specs.{declared.call.Call.TheVariants.Latch, declared.call.Call.TheVariants.Pend, Row.bit_in_row}
 use Rattle.rt_devices.specs.declared.device.Device.{Device}
 
 -- the interrupts that a script asks for, each as often as its entry says

@@ -2,8 +2,7 @@
 
 ghost use Rattle.std.specs.Prelude.{◌≡◌, ◌+◌, ◌-◌, ◌^◌, ◌<◌, length, replicate};
 ghost use Rattle.std.specs.List.{AllByRecursion};
-ghost use Rattle.rt_words.specs.Row.{bit_in_row};
-ghost use Rattle.rt_words.specs.Object.{IsPending};
+ghost use Rattle.rt_words.specs.{Row.bit_in_row, Object.IsPending};
 ghost use Rattle.rt_devices.specs.Work.{requests, Works};
 
 use crate::gate::Gate;

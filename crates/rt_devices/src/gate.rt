@@ -1,3 +1,5 @@
+// A seam for tests, through which they hold what comes next.
+
 /// A seam for tests: it is told what comes next, and may hold it. No contract says that it is told, or of what: a call
 /// of it leaves nothing that a clause could name.
 pub trait Gate {

@@ -1,19 +1,12 @@
 -- What the lines of both cores counted, as the rows of their accounts have it.
-use Rattle.std.proofs.Common.{◌≡◌, ◌<◌, ℕ, List, [], ◌∷◌, map, length, Contains, inl, inr, ap, sym, subst, ◌∙◌, arith}
-use Rattle.std.specs.List.{AllByRecursion}
-use Rattle.rt_ids.specs.declared.limits.TheConstants.{IRQ_NUMBERS}
-use Rattle.rt_lemmas.proofs.Membership.{all_weaker, contains_here, contains_cases, contains_none}
-use Rattle.rt_words.specs.Account.{IsTally}
-use Rattle.rt_words.specs.Ending.{AllGathered, OneHistory, calls_in}
-use Rattle.rt_words.specs.Lines.{Row, Line}
-use Rattle.rt_words.specs.declared.tally.Tally.{Tally}
-use Rattle.rt_words.specs.declared.view.Part.{Part}
-use Rattle.rt_live.specs.Account.{HasRoom, account_of, counted_row, settled_row, with_counts}
-use Rattle.rt_live.specs.Ready.{irqs_of}
-use Rattle.rt_live.specs.declared.account.AccountRow.{AccountRow}
+use Rattle.rt_live.proofs.Vocabulary.{AllByRecursion, AllGathered, Contains, HasRoom, IRQ_NUMBERS, IsTally, List}
+use Rattle.rt_live.proofs.Vocabulary.{OneHistory, Part, Row, Tally, [], account_of, all_weaker, ap, arith, calls_in}
+use Rattle.rt_live.proofs.Vocabulary.{contains_cases, contains_here, contains_none, counted_row, inl, inr, irqs_of}
+use Rattle.rt_live.proofs.Vocabulary.{length, map, settled_row, subst, sym, with_counts, ℕ, ◌<◌, ◌∙◌, ◌∷◌, ◌≡◌}
+use Rattle.rt_dual.proofs.Vocabulary.{AccountRow, AreAccounts, AreEmpty, placed_line}
+use Rattle.rt_words.specs.Lines.{Line}
 use Rattle.rt_live.proofs.Tallied.{all_counted, counts_fit, rows_settled}
-use Rattle.rt_dual.specs.Course.{first_place}
-use Rattle.rt_dual.specs.Inside.Both.{AreAccounts, AreEmpty, CanClose, placed_line}
+use Rattle.rt_dual.specs.{Course.first_place, Inside.Both.CanClose}
 
 -- rows that count nothing have room for what a line did
 pub room_for : (core : ℕ) (rows : List AccountRow) → AreEmpty rows → AllByRecursion HasRoom rows
@@ -79,8 +72,7 @@ module _ {row : Row} {first second : Line} {ones twos : List AccountRow} (closes
           → map (settled_row core bits) (map (with_counts core 0 1 own) (map (with_counts core 1 0 far) rows))
           ≡ account_of core (irqs_of rows) (calls_in h.history) bits
       settled core rows none =
-          ap (λ rs. map (settled_row core bits) (map (with_counts core 0 1 own) rs))
-          (counted core rows none
+          ap (λ rs. map (settled_row core bits) (map (with_counts core 0 1 own) rs)) (counted core rows none
           ∙ ap (λ ps. map (counted_row core ps) (irqs_of rows)) (sym (ap (λ (l : Line). l.gathered) then_is)))
           ∙ rows_settled core 0 1 then bits h own
           (subst (λ (l : Line). IsTally l.here l.there then.calls own) then_is is_own) (irqs_of rows)
@@ -97,8 +89,7 @@ module _ {row : Row} {first second : Line} {ones twos : List AccountRow} (closes
         legal = h.legal;
         first = h.own ∙ ap (λ (l : Line). l.calls) is_then ∙ ap (λ (l : Line). l.calls) is_near;
         second =
-            h.gathered part
-            (subst (λ (l : Line). Contains l.gathered part) (sym then_is) (contains_here part []))
+            h.gathered part (subst (λ (l : Line). Contains l.gathered part) (sym then_is) (contains_here part []))
             ∙ ap (λ (l : Line). l.calls) is_beyond;
         others = λ number ne other.
             h.unmade number ne (λ there.

@@ -1,39 +1,15 @@
 -- What is made for two cores lets them run, and lets the words be closed when they have ended.
-use Rattle.std.proofs.Common.{◌≡◌, ℕ, ◌/◌, ◌<◌, List, [], ◌∷◌, ◌++◌, map, length, Contains, sym, ap, subst, ◌∙◌}
-use Rattle.std.proofs.Common.{◌^◌, arith}
-use Rattle.std.specs.List.{AllByRecursion}
-use Rattle.std.proofs.lemmas.Bool.{false≢true}
-use Rattle.rt_lemmas.proofs.Membership.{all_has, all_weaker}
-use Rattle.rt_ids.specs.Event.{Event}
-use Rattle.rt_ids.specs.Names.{Names}
-use Rattle.rt_ids.specs.declared.limits.TheConstants.{IRQ_NUMBERS}
-use Rattle.rt_code.specs.Image.{Image}
-use Rattle.rt_code.specs.Lines.{HasLines}
-use Rattle.rt_core.specs.Core.{Core}
-use Rattle.rt_core.specs.Machine.{Machine, IsFresh}
-use Rattle.rt_run.proofs.Known.{steps_below}
-use Rattle.rt_script.specs.Script.{IsScript, HasName, HasNames}
-use Rattle.rt_script.specs.declared.line.Line.{Line}
-use Rattle.rt_script.specs.declared.line.Line.TheVariants.{Steps, Ticks, Pends, Device}
-use Rattle.rt_words.specs.Lines.{Row, Line as Caller, count as row_count}
-use Rattle.rt_words.specs.Object.{IsPending, pending_bit}
-use Rattle.rt_words.specs.Row.{bit_in_row}
-use Rattle.rt_live.specs.Account.{declared_irqs, empty_row}
-use Rattle.rt_live.specs.Ready.{HasBits, irqs_of}
-use Rattle.rt_live.specs.Shares.{HasOwnName, HasOwnNames, own_events}
-use Rattle.rt_live.specs.declared.share.Share.{Share}
-use Rattle.rt_live.specs.declared.share.Share.TheVariants.{First, Second}
-use Rattle.rt_live.specs.Interleaving.{last_turns, with_looks}
-use Rattle.rt_live.proofs.Weaving.{IsWoven, weave}
-use Rattle.rt_live.proofs.Woven.{looks-append, looks_own, happenings-append, happenings_own}
-use Rattle.rt_live.proofs.Turning.{own_length}
-use Rattle.rt_live.proofs.Readied.{able_placed, irqs_empty}
-use Rattle.rt_dual.specs.Course.{Place, turns}
-use Rattle.rt_dual.specs.Inside.Both.{AreBefore, AreEmpty, CanRun, CanWrite, HasEnded, HasRun, HaveRun, IsBefore}
-use Rattle.rt_dual.specs.Inside.Both.{leads_by, placed_line}
-use Rattle.rt_dual.specs.declared.making.Both.{Both}
-use Rattle.rt_dual.specs.declared.making.Side.{Side}
-use Rattle.rt_dual.proofs.Routing.{forwards_declared}
+use Rattle.rt_live.proofs.Vocabulary.{AllByRecursion, Caller, Contains, Core, Device, Event, HasBits, HasLines}
+use Rattle.rt_live.proofs.Vocabulary.{HasOwnName, HasOwnNames, IRQ_NUMBERS, Image, IsFresh, IsPending, IsScript, Line}
+use Rattle.rt_live.proofs.Vocabulary.{List, Machine, Names, Pends, Row, Steps, Ticks, [], all_has, ap, arith}
+use Rattle.rt_live.proofs.Vocabulary.{bit_in_row, declared_irqs, empty_row, false≢true, irqs_of, last_turns, length}
+use Rattle.rt_live.proofs.Vocabulary.{map, own_events, pending_bit, row_count, steps_below, subst, sym, true}
+use Rattle.rt_live.proofs.Vocabulary.{with_looks, ℕ, ◌++◌, ◌/◌, ◌<◌, ◌^◌, ◌∙◌, ◌∷◌, ◌≡◌}
+use Rattle.rt_dual.proofs.Vocabulary.{AreEmpty, Both, HasRun, HaveRun, IsWoven, Place, Second, Share, Side, irqs_empty}
+use Rattle.rt_dual.proofs.Vocabulary.{leads_by, own_length, placed_line, turns, weave}
+use Rattle.rt_live.proofs.{Woven.looks-append, Woven.looks_own, Readied.able_placed}
+use Rattle.rt_dual.specs.Inside.Both.{AreBefore, CanRun, CanWrite, HasEnded, IsBefore}
+use Rattle.rt_dual.proofs.{Posted.turn_events, Routing.forwards_declared}
 
 -- bits of another core leave those of this one
 pub bits_kept : (core : ℕ) (old new irqs : List ℕ)
@@ -85,15 +61,16 @@ module _ {place : Place} {made : List ℕ} {share : Share} {head : List ℕ} {ro
     {script : List Line} {m n : Machine} {side : Side} (run : HasRun place made share head row other script m n side)
   where
     -- what its turns came to
-    abbrev pub woven : IsWoven (leads_by run.old.role.routes) (turns (own_events run.old.role.share script))
-        run.old.line.value side.line.value m n run.old.text.bytes.items run.ended.ends.shown
-    woven = weave run.ended.ends.goes
+    abbrev pub woven : IsWoven (leads_by run.old.role.routes) run.old.line.value.here run.old.line.value.there true
+        (turns (own_events run.old.role.share script)) run.ended.ends.calls m n run.old.text.bytes.items
+        run.ended.ends.ended.shown
+    woven = weave run.ended.ends.ended.done
 
-    abbrev ended_line : side.line.value ≡ placed_line place row made woven.calls
+    abbrev ended_line : side.line.value ≡ placed_line place row made run.ended.ends.calls
     ended_line =
-        woven.same ∙ ap (λ (l : Caller). record l { calls = l.calls ++ woven.calls }) run.before.line
+        run.ended.ends.same ∙ ap (λ (l : Caller). record l { calls = l.calls ++ run.ended.ends.calls }) run.before.line
 
-    pub own_calls : side.line.value.calls ≡ woven.calls
+    pub own_calls : side.line.value.calls ≡ run.ended.ends.calls
     own_calls = ap (λ (l : Caller). l.calls) ended_line
 
     still_placed : side.line.value ≡ placed_line place row made side.line.value.calls
@@ -121,8 +98,7 @@ module _ {place : Place} {made : List ℕ} {share : Share} {head : List ℕ} {ro
           looks-append (with_looks events) (last_turns 0),
           looks_own events,
           steps_below events,
-          happenings-append (with_looks events) (last_turns 0),
-          happenings_own events,
+          ap length (turn_events events),
           own_length run.old.role.share script,
           scripted.few,
         )
@@ -138,11 +114,7 @@ can_write run scripted = record {
   two_empty = still_empty run.two;
 }
 
--- the first core gets what has names, and the second no request of the script
-pub first_names : (names : Names) (script : List Line) → HasNames names script → HasOwnNames First names script
-first_names names script named =
-    all_weaker (HasName names) (HasOwnName First names) (λ line has taken. has) script named
-
+-- the second core gets no request of the script
 pub second_names : (names : Names) (script : List Line) → HasOwnNames Second names script
 second_names names [] = tt
 second_names names (line ∷ script) = (one line, second_names names script)

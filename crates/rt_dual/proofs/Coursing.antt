@@ -1,32 +1,12 @@
 -- What is written of two cores that have ended is a text that the definitions allow.
-use Rattle.std.proofs.Common.{◌≡◌, ℕ, List, [], ◌++◌, map, Option, sym, ap, subst, ◌∙◌}
-use Rattle.std.proofs.Common.{append_assoc}
-use Rattle.rt_ids.specs.Event.{Event}
-use Rattle.rt_code.specs.Image.{Image}
-use Rattle.rt_core.specs.Core.{Core}
-use Rattle.rt_core.specs.Machine.{Machine}
-use Rattle.rt_run.specs.Done.{Leads}
-use Rattle.rt_run.specs.Sending.{lines_of}
-use Rattle.rt_run.proofs.Taking.{took_on}
-use Rattle.rt_script.specs.declared.line.Line.{Line}
-use Rattle.rt_trace.specs.Text.{total_text}
-use Rattle.rt_words.specs.Ending.{calls_in}
-use Rattle.rt_words.specs.History.{part}
-use Rattle.rt_words.specs.declared.call.Entry.{Entry}
-use Rattle.rt_words.specs.Lines.{Row, Line as Caller}
-use Rattle.rt_live.specs.Account.{account_of, account_text}
-use Rattle.rt_live.specs.Interleaving.{looks}
-use Rattle.rt_live.specs.Ready.{irqs_of}
-use Rattle.rt_live.specs.Requests.{Request, request_of, turn_requests}
-use Rattle.rt_live.specs.Shares.{own_events}
-use Rattle.rt_live.specs.declared.account.AccountRow.{AccountRow}
-use Rattle.rt_live.specs.declared.share.Share.{Share}
-use Rattle.rt_dual.specs.Course.{Place, IsCourse, turns, first_events, second_events, course_events}
-use Rattle.rt_dual.specs.Forwarded.{forward}
-use Rattle.rt_dual.specs.Output.{IsPairText, account, core_text, course_text}
-use Rattle.rt_dual.specs.Inside.Both.{HasRun, HaveRun, IsWritten, front}
-use Rattle.rt_dual.specs.declared.making.Both.{Both}
-use Rattle.rt_dual.specs.declared.making.Side.{Side}
+use Rattle.rt_live.proofs.Vocabulary.{Caller, Core, Entry, Event, Image, Leads, Line, List, Machine, Option, Request}
+use Rattle.rt_live.proofs.Vocabulary.{Row, [], account_of, account_text, ap, append_assoc, calls_in, irqs_of, lines_of}
+use Rattle.rt_live.proofs.Vocabulary.{looks, map, own_events, part, refl, request_of, subst, sym, took_on, total_text}
+use Rattle.rt_live.proofs.Vocabulary.{turn_requests, ℕ, ◌++◌, ◌∙◌, ◌≡◌}
+use Rattle.rt_dual.proofs.Vocabulary.{AccountRow, Both, HasRun, HaveRun, IsCourse, IsPairText, IsWritten, Place, Share}
+use Rattle.rt_dual.proofs.Vocabulary.{Side, course_events, first_events, forward, second_events, sends_of}
+use Rattle.std.proofs.Common.{ap₂}
+use Rattle.rt_dual.specs.{Course.turns, Output.account, Output.core_text, Output.course_text, Inside.Both.front}
 use Rattle.rt_live.proofs.Ended.{fresh_text}
 use Rattle.rt_dual.proofs.Beforehand.{own_calls, rows_irqs, woven}
 
@@ -41,8 +21,7 @@ module _ {place : Place} {made : List ℕ} {share : Share} {head : List ℕ} {ro
   found = (woven run).found
 
   abbrev asks : (ℕ → Option ℕ) → ℕ → ℕ → Share → Core → List Request
-  asks route here there own core =
-      turn_requests route here there m.image core (turns (own_events own script)) found
+  asks route here there own core = turn_requests route here there m.image core (turns (own_events own script)) found
 
   pub is_course : part history place.line ≡ side.line.value.calls
       → IsCourse place m.image other.names events found history
@@ -51,12 +30,12 @@ module _ {place : Place} {made : List ℕ} {share : Share} {head : List ℕ} {ro
       let by : Share = run.old.role.share in
       record {
         bits = run.before.bits;
-        many = (woven run).many ∙ ap (λ s. looks (turns (own_events s script))) run.before.shares;
+        many = (woven run).reach.0 ∙ ap (λ s. looks (turns (own_events s script))) run.before.shares;
         whole = (woven run).whole;
         declared = (woven run).declared;
         called =
             ap (map request_of) (own ∙ own_calls run)
-            ∙ (woven run).asked
+            ∙ (woven run).asked refl
             ∙ ap (λ (r : ℕ → Option ℕ). asks r line.here line.there by m.core) (λ i post. run.before.routes post i)
             ∙ ap (λ k. asks (forward m.image other.names) k line.there by m.core) (ap (λ
             (l : Caller). l.here) run.before.line)
@@ -68,7 +47,7 @@ module _ {place : Place} {made : List ℕ} {share : Share} {head : List ℕ} {ro
 
   pub leads : Leads (course_events events found) m n
   leads =
-      subst (λ s. Leads (course_events (own_events s script) found) m n) run.before.shares (woven run).sends.leads
+      subst (λ s. Leads (course_events (own_events s script) found) m n) run.before.shares (sends_of (woven run)).leads
 
   -- and its text
   pub core_written : (left : List ℕ) (rows : List AccountRow)
@@ -78,9 +57,9 @@ module _ {place : Place} {made : List ℕ} {share : Share} {head : List ℕ} {ro
   core_written left rows are =
       let told : List ℕ = course_text m.image events found in
       ap (λ t. t ++ account_text m.image.names rows)
-      (took_on run.old.text.bytes.items run.ended.ends.shown side.text.bytes.items
+      (took_on run.old.text.bytes.items run.ended.ends.ended.shown side.text.bytes.items
       (lines_of m (course_events (own_events run.old.role.share script) found)) (total_text n.steps)
-      (woven run).sends.took run.ended.ends.total
+      (sends_of (woven run)).took run.ended.ends.ended.total
       ∙ ap (λ x. x ++ (lines_of m (course_events (own_events run.old.role.share script) found) ++ total_text n.steps))
       run.before.text
       ∙ ap (λ s. front head m.image ++ (lines_of m (course_events (own_events s script) found) ++ total_text n.steps))
@@ -92,9 +71,6 @@ module _ {place : Place} {made : List ℕ} {share : Share} {head : List ℕ} {ro
       ∙ sym (append_assoc (front head m.image) told (account place.here m.image history left))
 
 -- both of them
-pub two_texts : {x x' y y' : List ℕ} → x ≡ x' → y ≡ y' → x ++ y ≡ x' ++ y'
-two_texts one two = cc
-
 abbrev pub pair_text : {script : List Line} {a a' b b' : Machine} {both : Both} {bytes : List ℕ}
     → HaveRun script a a' b b' both → IsWritten a.image b.image both bytes → IsPairText a.image b.image script bytes
 pair_text run written =
@@ -110,7 +86,7 @@ pair_text run written =
       others = are.others;
       written =
           written.written
-          ∙ two_texts (core_written run.one are.history are.left written.one are.one_rows)
+          ∙ ap₂ (λ (x y : List ℕ). x ++ y) (core_written run.one are.history are.left written.one are.one_rows)
           (core_written run.two are.history are.left written.two are.two_rows);
     }
 

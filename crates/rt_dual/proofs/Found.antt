@@ -1,64 +1,25 @@
 -- What the looks of a core of a pair find: what the other core posts, each post at most once.
-use Rattle.std.proofs.Common.{◌≡◌, ◌≢◌, ℕ, suc, ◌+◌, ◌*◌, ◌/◌, ◌≤◌, ◌==◌, ◌⊎◌, inl, inr, Bool, true, false, List, []}
-use Rattle.std.proofs.Common.{◌∷◌, ◌++◌, map, length, option_to_list, Option, Some, None, refl, ap, arith, eq-eqb}
-use Rattle.std.proofs.Common.{ne_eqb, length-append}
-use Rattle.std.specs.List.{AllByRecursion, count_by}
-use Rattle.rt_lemmas.proofs.Membership.{all_append, all_flat_map}
-use Rattle.rt_ids.specs.Event.{Event, Arrive, Tick, Step, steps}
-use Rattle.rt_ids.specs.Arrivals.{arrivals}
-use Rattle.rt_code.specs.Image.{Image}
-use Rattle.rt_core.specs.Core.{Core, reset}
-use Rattle.rt_core.specs.Stepping.{step}
-use Rattle.rt_core.specs.Trace.{core_after}
-use Rattle.rt_script.specs.Script.{HasNames, IsScript, line_events}
-use Rattle.rt_script.specs.declared.line.Line.{Line}
-use Rattle.rt_script.specs.declared.line.Line.TheVariants.{Steps, Ticks, Pends, Device}
-use Rattle.rt_run.proofs.Advancing.{steps-append}
-use Rattle.rt_run.proofs.Weighing.{Arrives, Named, weight, weight_append, steps_weigh}
-use Rattle.rt_trace.specs.declared.item.What.{What}
-use Rattle.rt_words.specs.Ending.{calls_in}
-use Rattle.rt_words.specs.History.{part}
-use Rattle.rt_words.specs.Row.{bit_in_row, word_in_row}
-use Rattle.rt_words.specs.declared.call.Call.{Call}
-use Rattle.rt_words.specs.declared.call.Call.TheVariants.{Pend, Latch}
-use Rattle.rt_words.proofs.Found.{as_many, bits_below, counted, all_found_there, all_asked_there, found_there}
-use Rattle.rt_words.proofs.Accounting.{count_first}
-use Rattle.rt_words.proofs.Counting.{one_if}
-use Rattle.rt_words.proofs.Found.{few_found_there, part_counts}
-use Rattle.rt_live.specs.Account.{row_of}
-use Rattle.rt_live.specs.Going.{IsWholeLook}
-use Rattle.rt_live.specs.Interleaving.{Turn, Happens, Looks, looks, last_turns, arrivals_from, look_arrivals}
-use Rattle.rt_live.specs.Interleaving.{look_calls_from}
-use Rattle.rt_live.specs.Requests.{Request, Pends as Asks, Latches, request_of, routed, look_requests, post_requests}
-use Rattle.rt_live.specs.Requests.{step_item, turn_requests}
-use Rattle.rt_live.specs.Shares.{own_line_events}
-use Rattle.rt_live.specs.declared.account.AccountRow.{AccountRow}
-use Rattle.rt_live.specs.declared.share.Share.TheVariants.{First, Second}
-use Rattle.rt_live.proofs.Found.{found_irqs, woven_all, woven_weight, named_events, own_turns_named, own_weight}
-use Rattle.rt_live.proofs.Found.{replicated_events}
-use Rattle.rt_live.proofs.Turning.{own_length}
-use Rattle.rt_dual.specs.Course.{Place, IsCourse, first_events, second_events, turns}
-use Rattle.rt_dual.specs.Course.{course_events}
-use Rattle.rt_dual.specs.Forwarded.{forward}
-use Rattle.rt_dual.specs.Output.{IsPairText}
-use Rattle.rt_dual.proofs.Ordered.{asks_in, two_lines}
-use Rattle.rt_dual.proofs.Posted.{Within}
+use Rattle.rt_live.proofs.Vocabulary.{AllByRecursion, Arrive, Arrives, Asks, Bool, Call, Core, Device, Event, Happens}
+use Rattle.rt_live.proofs.Vocabulary.{HasNames, Image, IsScript, IsWholeLook, Latch, Latches, Line, List, Looks, Named}
+use Rattle.rt_live.proofs.Vocabulary.{None, Option, Pend, Pends, Request, Some, Step, Steps, Tick, Ticks, Turn, What}
+use Rattle.rt_live.proofs.Vocabulary.{[], all_flat_map, ap, arith, arrivals, arrivals_from, as_many, bit_in_row}
+use Rattle.rt_live.proofs.Vocabulary.{calls_in, core_after, count_by, count_first, eq-eqb, false, inl, inr, length}
+use Rattle.rt_live.proofs.Vocabulary.{length-append, line_events, look_arrivals, look_calls_from, look_requests, looks}
+use Rattle.rt_live.proofs.Vocabulary.{map, ne_eqb, one_if, option_to_list, own_line_events, part, post_requests, refl}
+use Rattle.rt_live.proofs.Vocabulary.{request_of, reset, routed, row_of, step, step_item, steps, steps-append}
+use Rattle.rt_live.proofs.Vocabulary.{steps_weigh, subst, suc, sym, true, turn_requests, weight, weight_append}
+use Rattle.rt_live.proofs.Vocabulary.{word_in_row, ℕ, ◌*◌, ◌++◌, ◌+◌, ◌/◌, ◌==◌, ◌∷◌, ◌≡◌, ◌≢◌, ◌≤◌, ◌⊎◌}
+use Rattle.rt_dual.proofs.Vocabulary.{AccountRow, First, IsCourse, IsPairText, Place, Second, course_events, events_of}
+use Rattle.rt_dual.proofs.Vocabulary.{first_events, forward, own_length, second_events, turns}
+use Rattle.rt_words.proofs.Found.{bits_below, counted, all_found_there, all_asked_there, found_there, few_found_there}
+use Rattle.rt_words.proofs.Found.{part_counts}
+use Rattle.rt_live.proofs.Found.{found_irqs, named_events, own_named, woven_all, woven_weight}
+use Rattle.rt_dual.proofs.{Ordered.asks_in, Ordered.two_lines, Beforehand.second_names, Posted.Within}
+use Rattle.rt_dual.proofs.{Posted.turn_events}
 
 -- the words of a core
 abbrev is_of : ℕ → ℕ → Bool
 is_of core word = word / 16 == core
-
--- how many core steps are among turns
-abbrev steps_of : List Turn → ℕ
-steps_of [] = 0
-steps_of (Happens Step ∷ ts) = suc (steps_of ts)
-steps_of (t ∷ ts) = steps_of ts
-
-own_steps : (es : List Event) → steps_of (turns es) ≡ steps es
-own_steps [] = refl
-own_steps (Step ∷ es) = ap suc (own_steps es)
-own_steps (Tick ∷ es) = own_steps es
-own_steps (Arrive irq ∷ es) = own_steps es
 
 -- requests that find bits in the words of a core, and that ask for pends there
 module _ (core : ℕ) where
@@ -103,10 +64,6 @@ module _ (core : ℕ) where
         look_found (suc k) (suc j) words (omega (arith, least)) (omega (arith, most)),
       )
 
-  whole_found : (words : List ℕ) → IsWholeLook words
-      → length (arrivals_from 0 words) ≡ sum found_of (look_requests core words)
-  whole_found words whole = look_found 0 (word_in_row core 0) words (omega arith) (omega (arith, whole))
-
   -- what asks for no pend there
   none_asked : (rs : List Request) (here there : ℕ) → there ≢ core → AllByRecursion (Within here there) rs
       → sum asked_of rs ≡ 0
@@ -138,7 +95,7 @@ module _ (core : ℕ) where
       one false = omega arith
 
   few_asks : (route : ℕ → Option ℕ) (here there : ℕ) (img : Image) (c : Core) (ts : List Turn) (found : List (List ℕ))
-      → sum asked_of (turn_requests route here there img c ts found) ≤ steps_of ts
+      → sum asked_of (turn_requests route here there img c ts found) ≤ steps (events_of ts)
   few_asks route here there img c [] found = omega arith
   few_asks route here there img c (Happens (Arrive irq) ∷ ts) found =
       few_asks route here there img (core_after img c (Arrive irq ∷ [])) ts found
@@ -182,7 +139,7 @@ module _ (core : ℕ) where
       omega (
         arith,
         sum_on found_of (look_requests core ws) (turn_requests route core there img d ts found),
-        whole_found ws whole.0,
+        look_found 0 (word_in_row core 0) ws (omega arith) (omega (arith, whole.0)),
         length-append (arrivals_from 0 ws) (found_irqs found),
         all_found route there img d ts found (omega (arith, many)) whole.1,
       )
@@ -195,30 +152,13 @@ module _ (core : ℕ) where
   asked_counts : (calls : List Call) → all_asked_there (is_of core) calls ≡ count_by pends_there calls
   asked_counts [] = refl
   asked_counts (Pend bit answer ∷ calls) =
-      omega (
-        arith,
-        asked_counts calls,
-        count_first pends_there (Pend bit answer) calls,
-        one (is_of core (bit / 32)),
-      )
+      omega (arith, asked_counts calls, count_first pends_there (Pend bit answer) calls, one (is_of core (bit / 32)))
     where
       one : (b : Bool) → counted b 1 ≡ one_if b
       one true = refl
       one false = refl
   asked_counts (Latch word found ∷ calls) =
       omega (arith, asked_counts calls, count_first pends_there (Latch word found) calls)
-
--- ticks and steps alone come to the second core
-second_all : (P : ℕ → Type 0) (script : List Line) → AllByRecursion (Arrives P) (second_events script)
-second_all P [] = tt
-second_all P (line ∷ script) =
-    all_append (Arrives P) (own_line_events Second line) (second_events script) (one line) (second_all P script)
-  where
-    one : (l : Line) → AllByRecursion (Arrives P) (own_line_events Second l)
-    one (Steps n) = replicated_events P n Step tt
-    one (Ticks n) = replicated_events P n Tick tt
-    one (Pends irq n) = tt
-    one (Device d irq n) = tt
 
 -- no more than to the first
 some_or_none : (line : Line) → (own_line_events Second line ≡ line_events line) ⊎ (own_line_events Second line ≡ [])
@@ -245,7 +185,8 @@ course_named : (img : Image) (es : List Event) (found : List (List ℕ))
     → AllByRecursion (Arrives (Named img.names)) es
     → AllByRecursion (Arrives (Named img.names)) (course_events es found)
 course_named img es found declared own =
-    woven_all (Named img.names) (turns es) found (own_turns_named (Named img.names) es (last_turns 0) own (tt, tt))
+    woven_all (Named img.names) (turns es) found
+    (subst (AllByRecursion (Arrives (Named img.names))) (sym (turn_events es)) own)
     (all_flat_map (Named img.names) (arrivals_from 0) found declared)
 
 module _ (first second : Image) (script : List Line) (bytes : List ℕ) (p : IsPairText first second script bytes)
@@ -258,12 +199,12 @@ module _ (first second : Image) (script : List Line) (bytes : List ℕ) (p : IsP
 
   pub second_named : AllByRecursion (Arrives (Named second.names)) (course_events (second_events script) p.two)
   second_named =
-      course_named second (second_events script) p.two p.is_two.declared (second_all (Named second.names) script)
+      course_named second (second_events script) p.two p.is_two.declared
+      (own_named Second second.names script (second_names second.names script))
 
   module _ (img other : Image) {place far : Place} {es fs : List Event} {found seen : List (List ℕ)}
       (is : IsCourse place img other.names es found p.history) (beyond : IsCourse far other img.names fs seen p.history)
-      (apart : place.there ≢ place.here)
-      (both : (test : Call → Bool) → count_by test (calls_in p.history)
+      (apart : place.there ≢ place.here) (both : (test : Call → Bool) → count_by test (calls_in p.history)
       ≡ count_by test (part p.history place.line) + count_by test (part p.history far.line)) where
     abbrev core : ℕ
     core = place.here
@@ -290,24 +231,23 @@ module _ (first second : Image) (script : List Line) (bytes : List ℕ) (p : IsP
           calls_asked core others,
           ap (sum core (asked_of core)) beyond.called,
           few_asks core (forward other img.names) far.here far.there other (reset other) (turns fs) seen,
-          own_steps fs,
+          ap steps (turn_events fs),
         )
 
     -- and all that comes is little, where the events of both cores are no more than the first core's
     weighs : weight es ≤ weight (first_events script) → steps fs ≤ steps (first_events script)
         → weight (course_events es found) ≤ 2000000
-    weighs own others =
-        omega (
-          arith,
-          woven_weight (turns es) found,
-          own_weight es (last_turns 0),
-          found_within,
-          own,
-          others,
-          steps_weigh (first_events script),
-          own_length First script,
-          scripted.few,
-        )
+    weighs own others = omega (
+      arith,
+      woven_weight (turns es) found,
+      ap weight (turn_events es),
+      found_within,
+      own,
+      others,
+      steps_weigh (first_events script),
+      own_length First script,
+      scripted.few,
+    )
 
   two : (test : Call → Bool) → count_by test (calls_in p.history)
       ≡ count_by test (part p.history 255) + count_by test (part p.history 254)

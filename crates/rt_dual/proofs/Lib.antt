@@ -1,3 +1,4 @@
+mod Vocabulary
 pub mod Routing
 pub mod Cutting
 pub mod Beforehand

@@ -1,42 +1,22 @@
 -- Where neither core of a pair posts to the other by its own events alone, no look of either finds anything.
-use Rattle.std.proofs.Common.{◌≡◌, ℕ, zero, suc, List, [], ◌∷◌, ◌++◌, map, length, replicate, set}
-use Rattle.std.proofs.Common.{Option, Some, None, refl, ap, sym, subst, ◌∙◌, append_assoc, arith}
-use Rattle.std.specs.List.{AllByRecursion}
-use native.Mathlib.Decide.{ℕ_discrete}
-use Rattle.rt_lemmas.proofs.Lists.{all_map, all_both}
-use Rattle.rt_lemmas.proofs.Membership.{all_append, all_weaker}
-use Rattle.rt_ids.specs.Event.{Event, Arrive, Tick, Step}
-use Rattle.rt_ids.specs.Names.{Names}
-use Rattle.rt_code.specs.Image.{Image}
-use Rattle.rt_core.specs.Core.{Core, reset}
-use Rattle.rt_core.specs.Stepping.{step}
-use Rattle.rt_core.specs.Trace.{core_after, happen, labels}
+use Rattle.rt_live.proofs.Vocabulary.{AllByRecursion, Arrive, Asks as Pends, Call, Core, Entry, Event, Happens, Image}
+use Rattle.rt_live.proofs.Vocabulary.{IsAnswered, IsEmptyLook, IsWholeLook, Latch, Latches, LeavesWords, Line, List}
+use Rattle.rt_live.proofs.Vocabulary.{Looks, Names, None, Option, Pend, Pended, Request, Some, Step, Turn, What, []}
+use Rattle.rt_live.proofs.Vocabulary.{after, all_append, all_map, all_weaker, ap, append_assoc, arith, arrivals_from}
+use Rattle.rt_live.proofs.Vocabulary.{core_after, interleaving, items_of, length, look_arrivals, look_calls_from}
+use Rattle.rt_live.proofs.Vocabulary.{look_requests, looks, map, part, part_all, refl, replicate, request_of, reset}
+use Rattle.rt_live.proofs.Vocabulary.{routed, set, step, subst, suc, sym, turn_requests, zero, zeros_at as zeros, ℕ}
+use Rattle.rt_live.proofs.Vocabulary.{ℕ_discrete, ◌++◌, ◌∙◌, ◌∷◌, ◌≡◌}
+use Rattle.rt_dual.proofs.Vocabulary.{IsCourse, IsPairText, Place, events_of, events_of-append, first_events, forward}
+use Rattle.rt_dual.proofs.Vocabulary.{second_events, turns}
+use Rattle.rt_lemmas.proofs.Lists.{all_both}
+use Rattle.rt_core.specs.Trace.{happen, labels}
 use Rattle.rt_core.proofs.Happening.{labels-append}
-use Rattle.rt_script.specs.declared.line.Line.{Line}
-use Rattle.rt_trace.specs.Label.{Label, Arrived, Ticked, Rang, Stepped, items_of}
-use Rattle.rt_trace.specs.declared.item.Item.{Item}
-use Rattle.rt_trace.specs.declared.item.What.{What}
+use Rattle.rt_trace.specs.{Label.Label, Label.Arrived, Label.Ticked, Label.Rang, Label.Stepped, declared.item.Item.Item}
+use Rattle.rt_dual.specs.{Laws.PostsNothing}
+use Rattle.rt_dual.proofs.{Cutting.zeros_arrive, Ordered.part_there, Ordered.precede, Posted.none_in, Posted.looks_in}
+use Rattle.rt_dual.proofs.{Posted.turn_events}
 use Rattle.rt_trace.specs.declared.item.What.TheVariants as what
-use Rattle.rt_words.specs.History.{LeavesWords, part}
-use Rattle.rt_words.specs.Object.{IsAnswered, after}
-use Rattle.rt_words.specs.declared.call.Call.{Call}
-use Rattle.rt_words.specs.declared.call.Call.TheVariants.{Pend, Latch}
-use Rattle.rt_words.specs.declared.call.Entry.{Entry}
-use Rattle.rt_words.specs.declared.call.Pended.{Pended}
-use Rattle.rt_words.proofs.Bits.{zeros}
-use Rattle.rt_words.proofs.Found.{part_all}
-use Rattle.rt_live.specs.Going.{IsWholeLook}
-use Rattle.rt_live.specs.History.{IsEmptyLook}
-use Rattle.rt_live.specs.Interleaving.{Turn, Happens, Looks, looks, arrivals_from, look_arrivals, look_calls_from}
-use Rattle.rt_live.specs.Interleaving.{interleaving}
-use Rattle.rt_live.specs.Requests.{Request, Pends, Latches, request_of, routed, look_requests, turn_requests}
-use Rattle.rt_dual.specs.Course.{Place, IsCourse, first_events, second_events, turns}
-use Rattle.rt_dual.specs.Forwarded.{forward}
-use Rattle.rt_dual.specs.Laws.{PostsNothing}
-use Rattle.rt_dual.specs.Output.{IsPairText}
-use Rattle.rt_dual.proofs.Cutting.{zeros_arrive}
-use Rattle.rt_dual.proofs.Ordered.{part_there, precede}
-use Rattle.rt_dual.proofs.Posted.{none_in, looks_in}
 
 -- a latch of a word of 0
 abbrev IsEmpty : Request → Type 0
@@ -47,30 +27,12 @@ IsEmpty (Latches word found) = found ≡ 0
 empty_words : (k : ℕ) (words : List ℕ) → AllByRecursion IsEmpty (map request_of (look_calls_from k words))
     → words ≡ replicate (length words) 0
 empty_words k [] all = refl
-empty_words k (word ∷ words) all =
-    ap (λ w. w ∷ words) all.0 ∙ ap (λ ws. 0 ∷ ws) (empty_words (suc k) words all.1)
+empty_words k (word ∷ words) all = ap (λ w. w ∷ words) all.0 ∙ ap (λ ws. 0 ∷ ws) (empty_words (suc k) words all.1)
 
 nothing_arrives : (here : ℕ) (words : List ℕ) → AllByRecursion IsEmpty (look_requests here words)
     → look_arrivals words ≡ []
 nothing_arrives here words all =
     ap (map Arrive) (ap (arrivals_from 0) (empty_words _ words all) ∙ zeros_arrive 0 (length words))
-
--- the events among turns
-abbrev events_of : List Turn → List Event
-events_of [] = []
-events_of (Looks ∷ ts) = events_of ts
-events_of (Happens e ∷ ts) = e ∷ events_of ts
-
-events_on : (ts us : List Turn) → events_of (ts ++ us) ≡ events_of ts ++ events_of us
-events_on [] us = refl
-events_on (Looks ∷ ts) us = events_on ts us
-events_on (Happens e ∷ ts) us = ap (λ es. e ∷ es) (events_on ts us)
-
-own_events_of : (es : List Event) → events_of (turns es) ≡ es
-own_events_of [] = refl
-own_events_of (Step ∷ es) = ap (λ us. Step ∷ us) (own_events_of es)
-own_events_of (Tick ∷ es) = ap (λ us. Tick ∷ us) (own_events_of es)
-own_events_of (Arrive irq ∷ es) = ap (λ us. Arrive irq ∷ us) (own_events_of es)
 
 -- with such looks turns come to their events alone
 alone : (here : ℕ) (ts : List Turn) (found : List (List ℕ)) → length found ≡ looks ts
@@ -135,7 +97,7 @@ module _ {place : Place} {img : Image} {other : Names} {events : List Event} {fo
       alone place.here p.earlier p.seen p.many
       (looks_in route place.here place.there img IsEmpty (reset img) p.earlier p.seen p.many made) in
       let parts : events ≡ events_of p.earlier ++ Step ∷ events_of p.later =
-      sym (own_events_of events) ∙ ap events_of p.parts ∙ events_on p.earlier (Happens Step ∷ p.later) in
+      sym (turn_events events) ∙ ap events_of p.parts ∙ events_of-append p.earlier (Happens Step ∷ p.later) in
       let nowhere : routed route (Some (what.Post p.post)) ≡ None =
       shown_after (λ w. routed route (Some w) ≡ None) img (reset img) 0 (events_of p.earlier) (events_of p.later)
       (what.Post p.post) (subst (λ es. PostsNothing img other es) parts silent)

@@ -1,40 +1,18 @@
 -- In the history of a pair a post comes before the look that finds it, and a look before the posts that it leads to.
-use Rattle.std.proofs.Common.{◌≡◌, ◌≢◌, ℕ, ◌+◌, ◌*◌, ◌/◌, ◌%◌, ◌<◌, ◌==◌, ◌&&◌, inl, inr, Bool, List, [], Some}
-use Rattle.std.proofs.Common.{◌∷◌, ◌++◌, map, Contains, refl, ap, sym, subst, ◌∙◌, append_assoc, arith, replicate}
-use Rattle.std.proofs.Common.{eq-eqb, ne_eqb}
-use Rattle.std.specs.Int.{bit_at}
-use Rattle.std.specs.List.{AllByRecursion, count_by}
-use Rattle.std.proofs.lemmas.Bool.{cases_lt}
-use Rattle.std.proofs.lemmas.List.{map-append}
-use Rattle.std.proofs.lemmas.List.Sums.{sum_by-cons, sum_by_push}
-use native.Mathlib.Decide.{ℕ_discrete}
-use Rattle.rt_lemmas.proofs.Lists.{all_unmap, all_front, all_behind, append_none_left}
-use Rattle.rt_lemmas.proofs.Membership.{all_has, contains_here, contains_there, contains_cases, contains_none}
-use Rattle.rt_ids.specs.Event.{Event}
-use Rattle.rt_ids.specs.Names.{Names}
-use Rattle.rt_code.specs.Image.{Image}
-use Rattle.rt_core.specs.Core.{reset}
-use Rattle.rt_script.specs.declared.line.Line.{Line}
-use Rattle.rt_words.specs.Account.{raises, latches, raised_count, latched_count}
-use Rattle.rt_words.specs.Ending.{calls_in}
-use Rattle.rt_words.specs.History.{IsLegal, part}
-use Rattle.rt_words.specs.declared.call.Call.{Call}
-use Rattle.rt_words.specs.declared.call.Call.TheVariants.{Pend, Latch}
-use Rattle.rt_words.specs.declared.call.Entry.{Entry}
-use Rattle.rt_words.specs.declared.call.Pended.TheVariants.{Raised, Merged}
-use Rattle.rt_words.specs.declared.view.Part.{Part}
-use Rattle.rt_words.proofs.Accounting.{accounts, count_first}
-use Rattle.rt_words.proofs.Counting.{one_if}
-use Rattle.rt_words.proofs.Parting.{part_first, by_parts}
-use Rattle.rt_live.specs.Account.{declared_irqs}
-use Rattle.rt_live.specs.Requests.{Request, request_of, turn_requests}
+use Rattle.rt_live.proofs.Vocabulary.{AllByRecursion, Bool, Call, Contains, Entry, Event, Image, IsLegal, Latch, Line}
+use Rattle.rt_live.proofs.Vocabulary.{List, Merged, Names, Part, Pend, Raised, Request, Some, [], accounts, all_behind}
+use Rattle.rt_live.proofs.Vocabulary.{all_front, all_has, ap, append_assoc, arith, bit_at, by_parts, calls_in, cases_lt}
+use Rattle.rt_live.proofs.Vocabulary.{contains_cases, contains_here, contains_none, contains_there, count_by}
+use Rattle.rt_live.proofs.Vocabulary.{count_first, declared_irqs, eq-eqb, inl, inr, latched_count, latches, map}
+use Rattle.rt_live.proofs.Vocabulary.{map-append, ne_eqb, one_if, part, part_first, raised_count, raises, refl}
+use Rattle.rt_live.proofs.Vocabulary.{replicate, request_of, reset, subst, sum_by-cons, sym, turn_requests, ℕ}
+use Rattle.rt_live.proofs.Vocabulary.{ℕ_discrete, ◌%◌, ◌*◌, ◌++◌, ◌+◌, ◌/◌, ◌<◌, ◌==◌, ◌∙◌, ◌∷◌, ◌≡◌, ◌≢◌}
+use Rattle.rt_dual.proofs.Vocabulary.{IsCourse, IsPairText, Place, forward, turns}
+use Rattle.std.proofs.{Common.◌&&◌, lemmas.List.Sums.sum_by_push}
+use Rattle.rt_lemmas.proofs.Lists.{all_unmap, append_none_left}
 use Rattle.rt_live.proofs.Onward.{part_on, led_apart}
-use Rattle.rt_dual.specs.Course.{Place, IsCourse, turns}
-use Rattle.rt_dual.specs.Forwarded.{forward}
-use Rattle.rt_dual.specs.Laws.{IsOrdered, LooksPrecedePosts, PairsAreOrdered}
-use Rattle.rt_dual.specs.Output.{IsPairText}
-use Rattle.rt_dual.proofs.Posted.{Within, asks_within, posted}
-use Rattle.rt_dual.proofs.Routing.{forwards_declared}
+use Rattle.rt_dual.specs.{Laws.IsOrdered, Laws.LooksPrecedePosts, Laws.PairsAreOrdered}
+use Rattle.rt_dual.proofs.{Posted.Within, Posted.asks_within, Posted.posted, Routing.forwards_declared}
 
 -- a call of a line in a history
 pub part_there : (before behind : List Entry) (line : ℕ) (call : Call)
@@ -76,8 +54,7 @@ raised_in bit (Pend n Raised ∷ calls) some = elim (ℕ_discrete n bit) [
   | yes e ↦
       subst (λ k. Contains (Pend k Raised ∷ calls) (Pend bit Raised)) (sym e) (contains_here (Pend bit Raised) calls)
   | no ne ↦
-      contains_there (Pend n Raised) calls (Pend bit Raised)
-      (raised_in bit calls
+      contains_there (Pend n Raised) calls (Pend bit Raised) (raised_in bit calls
       (omega (arith, some, count_first (raises bit) (Pend n Raised) calls, ap one_if (ne_eqb n bit ne))))
 ]
 raised_in bit (Pend n Merged ∷ calls) some =
@@ -112,11 +89,10 @@ module _ {place : Place} {img : Image} {other : Names} {events : List Event} {fo
     Own = Within place.here place.there
 
     forwards_low : (post irq : ℕ) → forward img other post ≡ Some irq → irq < 512
-    forwards_low post irq leads =
-        omega (
-          arith,
-          all_has (λ (n : ℕ). n < 496) (declared_irqs other) irq bits (forwards_declared img other post irq leads),
-        )
+    forwards_low post irq leads = omega (
+      arith,
+      all_has (λ (n : ℕ). n < 496) (declared_irqs other) irq bits (forwards_declared img other post irq leads),
+    )
 
     -- each of its requests is of its own words, or of the other core's bits
     asks_own : AllByRecursion Own (turn_requests (forward img other) place.here place.there img (reset img)

@@ -1,43 +1,34 @@
 -- What a core asks of the words: on which words and bits, and where a pend stands among its calls.
-use Rattle.std.proofs.Common.{◌≡◌, ℕ, suc, ◌+◌, ◌*◌, ◌<◌, ◌≤◌, ◌⊎◌, inl, inr, List, [], ◌∷◌, ◌++◌, map, length, drop}
-use Rattle.std.proofs.Common.{Option, Some, None, option_to_list, refl, ap, sym, subst, ◌∙◌, append_assoc, arith}
-use Rattle.std.proofs.Common.{length-append}
-use Rattle.std.specs.List.{AllByRecursion}
-use Rattle.rt_lemmas.proofs.Lists.{all_front, all_behind}
-use Rattle.rt_lemmas.proofs.Membership.{all_append}
-use Rattle.rt_ids.specs.Event.{Event, Arrive, Tick, Step}
-use Rattle.rt_code.specs.Image.{Image}
-use Rattle.rt_core.specs.Core.{Core}
-use Rattle.rt_core.specs.Stepping.{step}
+use Rattle.rt_live.proofs.Vocabulary.{AllByRecursion, Arrive, Asks as Pends, Core, Event, Happens, Image, IsWholeLook}
+use Rattle.rt_live.proofs.Vocabulary.{Latches, List, Looks, None, Option, Request, Some, Step, Tick, Turn, What, []}
+use Rattle.rt_live.proofs.Vocabulary.{all_append, all_behind, all_front, ap, append-nil, append_assoc, arith}
+use Rattle.rt_live.proofs.Vocabulary.{bit_in_row, drop, inl, inr, interleaving, last_turns, length, length-append}
+use Rattle.rt_live.proofs.Vocabulary.{look_arrivals, look_calls_from, look_requests, looks, map, option_to_list}
+use Rattle.rt_live.proofs.Vocabulary.{post_requests, refl, request_of, routed, step, step_item, subst, suc, sym}
+use Rattle.rt_live.proofs.Vocabulary.{turn_requests, with_looks, word_in_row, ℕ, ◌*◌, ◌++◌, ◌+◌, ◌<◌, ◌∙◌, ◌∷◌, ◌≡◌}
+use Rattle.rt_live.proofs.Vocabulary.{◌≤◌, ◌⊎◌}
+use Rattle.rt_dual.proofs.Vocabulary.{events_of, events_of-append, turns}
 use Rattle.rt_core.specs.Trace.{core_after}
 use Rattle.rt_core.proofs.Happening.{core_after-append}
-use Rattle.rt_trace.specs.declared.item.What.{What}
+use Rattle.rt_live.proofs.Woven.{events_own}
+use Rattle.rt_dual.specs.{Laws.IsPosted}
 use Rattle.rt_trace.specs.declared.item.What.TheVariants as what
-use Rattle.rt_words.specs.Row.{bit_in_row, word_in_row}
-use Rattle.rt_live.specs.Going.{IsWholeLook}
-use Rattle.rt_live.specs.Interleaving.{Turn, Happens, Looks, looks, look_arrivals, look_calls_from, interleaving}
-use Rattle.rt_live.specs.Requests.{Request, Pends, Latches, request_of, routed, look_requests, post_requests}
-use Rattle.rt_live.specs.Requests.{step_item, turn_requests}
-use Rattle.rt_dual.specs.Laws.{IsPosted}
+
+-- the events of a core's turns are its own
+pub turn_events : (es : List Event) → events_of (turns es) ≡ es
+turn_events es =
+    events_of-append (with_looks es) (last_turns 0) ∙ append-nil (events_of (with_looks es)) ∙ events_own es
 
 -- an element of two lists stands in the first or in the second
 pub split_at : {X : Type 0} (front rest xs ys : List X) (x : X) → front ++ x ∷ rest ≡ xs ++ ys
-    → ((more : List X) × (xs ≡ front ++ x ∷ more))
-    ⊎ ((more : List X) × (front ≡ xs ++ more) × (more ++ x ∷ rest ≡ ys))
+    → ((more : List X) × (xs ≡ front ++ x ∷ more)) ⊎ ((more : List X) × (front ≡ xs ++ more) × (more ++ x ∷ rest ≡ ys))
 split_at front rest [] ys x same = inr (front, refl, same)
 split_at [] rest (y ∷ xs) ys x same = let head : y ≡ x = cc in inl (xs, ap (λ z. z ∷ xs) head)
 split_at (z ∷ front) rest (y ∷ xs) ys x same =
     let head : z ≡ y = cc in
     elim (split_at front rest xs ys x (ap (drop 1) same)) [
-      | inl in_first ↦ inl (
-        in_first.0,
-        ap (λ w. w ∷ xs) (sym head) ∙ ap (λ zs. z ∷ zs) in_first.1,
-      )
-      | inr in_second ↦ inr (
-        in_second.0,
-        ap (λ w. w ∷ front) head ∙ ap (λ zs. y ∷ zs) in_second.1,
-        in_second.2,
-      )
+      | inl in_first ↦ inl (in_first.0, ap (λ w. w ∷ xs) (sym head) ∙ ap (λ zs. z ∷ zs) in_first.1)
+      | inr in_second ↦ inr (in_second.0, ap (λ w. w ∷ front) head ∙ ap (λ zs. y ∷ zs) in_second.1, in_second.2)
     ]
 
 pub none_in : {X : Type 0} (front rest : List X) (x : X) → front ++ x ∷ rest ≡ [] → ⊥

@@ -1,21 +1,15 @@
 -- Where posts go on the other core.
-use Rattle.std.proofs.Common.{◌≡◌, ℕ, ◌+◌, ◌<◌, ◌≤◌, ◌==◌, Bool, true, false, cond, if◌then◌else◌, List, [], ◌∷◌, ◌++◌}
-use Rattle.std.proofs.Common.{length, map, find, slice_index_or, option_map, option_and_then, Option, Some, None}
-use Rattle.std.proofs.Common.{Contains, bytes_eq, inl, inr, refl, ap, sym, subst, ◌∙◌, arith}
-use Rattle.std.specs.List.{AllByRecursion}
-use Rattle.std.proofs.lemmas.Bool.{cases_lt, ne_eqb}
-use Rattle.std.proofs.lemmas.List.{get_or_push, get_or_append_left}
-use Rattle.std.proofs.lemmas.Option.{none-some, same_Some}
-use native.Mathlib.Decide.{ℕ_discrete}
-use Rattle.rt_lemmas.proofs.Lists.{find_has}
-use Rattle.rt_lemmas.proofs.Membership.{all_from_members}
-use Rattle.rt_code.specs.Image.{Image}
-use Rattle.rt_ids.specs.Names.{Names, irq_of}
-use Rattle.rt_ids.specs.Naming.{irq_named}
-use Rattle.rt_ids.specs.declared.limits.TheConstants.{IRQ_NUMBERS}
+use Rattle.rt_live.proofs.Vocabulary.{AllByRecursion, Bool, Contains, IRQ_NUMBERS, Image, List, Names, None, Option}
+use Rattle.rt_live.proofs.Vocabulary.{Some, [], ap, arith, cases_lt, cond, declared_irqs, false, find, if◌then◌else◌}
+use Rattle.rt_live.proofs.Vocabulary.{inl, inr, irq_named, length, map, ne_eqb, none-some, option_map, refl, same_Some}
+use Rattle.rt_live.proofs.Vocabulary.{slice_index_or, subst, sym, true, ℕ, ℕ_discrete, ◌++◌, ◌+◌, ◌<◌, ◌==◌, ◌∙◌, ◌∷◌}
+use Rattle.rt_live.proofs.Vocabulary.{◌≡◌, ◌≤◌}
+use Rattle.rt_dual.proofs.Vocabulary.{forward}
+use Rattle.std.proofs.{Common.bytes_eq, Common.option_and_then, lemmas.List.get_or_append_left, lemmas.List.get_or_push}
+use Rattle.rt_lemmas.proofs.{Lists.find_has, Membership.all_from_members}
+use Rattle.rt_ids.specs.Names.{irq_of}
 use Rattle.rt_words.proofs.Lists.{in_map}
-use Rattle.rt_live.specs.Account.{declared_irqs}
-use Rattle.rt_dual.specs.Forwarded.{enables, forward, namesake}
+use Rattle.rt_dual.specs.Forwarded.{enables, namesake}
 
 -- an interrupt that the image does not enable goes by its name, if it has one
 pub by_name : (img : Image) (other : Names) (irq : ℕ) → enables img irq ≡ false → (name : Option (List ℕ))
@@ -94,6 +88,5 @@ pub places_more : (f : ℕ → Option ℕ) (xs : List (Option ℕ)) (x : Option 
     → (irq : ℕ) → irq < n + 1 → slice_index_or (xs ++ x ∷ []) irq None ≡ f irq
 places_more f xs x n long so_far is irq low = elim (ℕ_discrete irq n) [
   | yes e ↦ get_or_push xs x None irq (long ∙ sym e) ∙ is ∙ ap f (sym e)
-  | no ne ↦
-      get_or_append_left xs (x ∷ []) None irq (omega (arith, low, ne, long)) ∙ so_far irq (omega (arith, low, ne))
+  | no ne ↦ get_or_append_left xs (x ∷ []) None irq (omega (arith, low, ne, long)) ∙ so_far irq (omega (arith, low, ne))
 ]

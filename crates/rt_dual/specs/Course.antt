@@ -3,24 +3,18 @@
 -- one order. A look is one latch of each of the core's sixteen words, from word 0 up, and what it found is the list of
 -- the words that the latches answered, whose bits arrive at the core. This is this project's own; looks, their weaving
 -- into events and what they ask of the words are those of any core of a row.
-use Rattle.std.specs.Prelude.{◌≡◌, ℕ, ◌<◌, List, ◌++◌, length, map}
 use Rattle.std.specs.List.{AllByRecursion}
-use Rattle.rt_ids.specs.Event.{Event}
-use Rattle.rt_ids.specs.Names.{Names}
-use Rattle.rt_ids.specs.declared.limits.TheConstants.{IRQ_NUMBERS}
+use Rattle.std.specs.Prelude.{List, length, map, ℕ, ◌++◌, ◌<◌, ◌≡◌}
 use Rattle.rt_code.specs.Image.{Image}
-use Rattle.rt_core.specs.Core.{reset}
-use Rattle.rt_core.specs.Trace.{trace}
+use Rattle.rt_core.specs.{Core.reset, Trace.trace}
+use Rattle.rt_ids.specs.{Event.Event, Names.Names, declared.limits.TheConstants.IRQ_NUMBERS}
 use Rattle.rt_script.specs.declared.line.Line.{Line}
+use Rattle.rt_words.specs.{History.part, declared.call.Entry.Entry}
 use Rattle.rt_trace.specs.declared.item.Item.{Item}
-use Rattle.rt_words.specs.History.{part}
-use Rattle.rt_words.specs.declared.call.Entry.{Entry}
-use Rattle.rt_live.specs.Account.{declared_irqs}
-use Rattle.rt_live.specs.Going.{IsWholeLook, FindsDeclared}
-use Rattle.rt_live.specs.Interleaving.{Turn, looks, last_turns, interleaving, with_looks}
-use Rattle.rt_live.specs.Requests.{request_of, turn_requests}
-use Rattle.rt_live.specs.Shares.{own_events}
-use Rattle.rt_live.specs.declared.share.Share.TheVariants.{First, Second}
+use Rattle.rt_live.specs.{Account.declared_irqs, Going.IsWholeLook, Going.FindsDeclared, Interleaving.Turn}
+use Rattle.rt_live.specs.{Interleaving.looks, Interleaving.last_turns, Interleaving.interleaving}
+use Rattle.rt_live.specs.{Interleaving.with_looks, Requests.request_of, Requests.turn_requests, Shares.own_events}
+use Rattle.rt_live.specs.{declared.share.Share.TheVariants.First, declared.share.Share.TheVariants.Second}
 use Rattle.rt_dual.specs.Forwarded.{forward}
 
 -- the events of the first core under a script: all that the script has, devices' requests at the places of their lines

@@ -1,5 +1,5 @@
 -- What both cores have done when a run under `pair` has answered: the events of the traces that were taken.
-use Rattle.std.specs.Prelude.{ℕ, List}
+use Rattle.std.specs.Prelude.{List, ℕ}
 use Rattle.rt_core.specs.Machine.{Machine}
 use Rattle.rt_outside.specs.Bytes.{Took}
 use Rattle.rt_run.specs.Done.{Leads}

@@ -2,11 +2,10 @@
 -- microcontroller, a core may ring the other's doorbell: it posts an interrupt that it does not take itself, and where
 -- the other application declares an interrupt of that name, it is pended there. That names tie the two is this
 -- project's own. The definitions go by names; the code looks each post up in a table of numbers.
-use Rattle.std.specs.Prelude.{ℕ, ◌==◌, ◌&&◌, Bool, if◌then◌else◌, is_some, option_and_then, Option, None}
 use Rattle.std.specs.List.{list_any}
-use Rattle.rt_ids.specs.Names.{Names, irq_of}
-use Rattle.rt_ids.specs.Naming.{irq_named}
+use Rattle.std.specs.Prelude.{Bool, None, Option, if◌then◌else◌, is_some, option_and_then, ℕ, ◌&&◌, ◌==◌}
 use Rattle.rt_code.specs.Image.{Image}
+use Rattle.rt_ids.specs.{Names.Names, Names.irq_of, Naming.irq_named}
 
 -- the image enables the interrupt of this number, so that its core takes it
 abbrev pub enables : Image → ℕ → Bool

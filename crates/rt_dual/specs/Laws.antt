@@ -1,28 +1,20 @@
 -- What the one history of both cores orders: a post comes before the look that finds it, and a look before the posts
 -- that it leads to. So no two posts are each other's only cause.
-use Rattle.std.specs.Prelude.{◌≡◌, ℕ, ◌+◌, ◌*◌, ◌<◌, List, ◌∷◌, ◌++◌, map, length, Option, Some, None, Contains}
-use Rattle.std.specs.Int.{bit_at}
-use Rattle.std.specs.List.{AllByRecursion}
-use Rattle.rt_ids.specs.Event.{Event, Step}
-use Rattle.rt_ids.specs.Names.{Names}
+use Rattle.std.specs.Prelude.{Contains, List, None, Option, Some, length, map, ℕ, ◌*◌, ◌++◌, ◌+◌, ◌<◌, ◌∷◌, ◌≡◌}
+use Rattle.std.specs.{Int.bit_at, List.AllByRecursion}
 use Rattle.rt_code.specs.Image.{Image}
-use Rattle.rt_core.specs.Core.{Core, reset}
-use Rattle.rt_core.specs.Stepping.{step}
-use Rattle.rt_core.specs.Trace.{core_after, trace}
+use Rattle.rt_core.specs.{Core.Core, Core.reset, Stepping.step, Trace.core_after, Trace.trace}
+use Rattle.rt_ids.specs.{Event.Event, Event.Step, Names.Names}
 use Rattle.rt_script.specs.declared.line.Line.{Line}
-use Rattle.rt_trace.specs.declared.item.What.TheVariants as what
-use Rattle.rt_words.specs.History.{part}
-use Rattle.rt_words.specs.Row.{bit_in_row}
-use Rattle.rt_words.specs.declared.call.Pended.{Pended}
+use Rattle.rt_words.specs.declared.call.Call.TheVariants.{Latch, Pend}
 use Rattle.rt_words.specs.declared.call.Pended.TheVariants.{Raised}
-use Rattle.rt_words.specs.declared.call.Call.TheVariants.{Pend, Latch}
-use Rattle.rt_words.specs.declared.call.Entry.{Entry}
+use Rattle.rt_words.specs.{History.part, Row.bit_in_row, declared.call.Entry.Entry, declared.call.Pended.Pended}
 use Rattle.rt_live.specs.History.{IsEmptyLook}
 use Rattle.rt_live.specs.Interleaving.{Turn, Happens, looks, interleaving}
 use Rattle.rt_live.specs.Requests.{Request, request_of, turn_requests, routed}
-use Rattle.rt_dual.specs.Course.{Place, first_place, second_place, first_events, second_events, turns}
-use Rattle.rt_dual.specs.Forwarded.{forward}
-use Rattle.rt_dual.specs.Output.{IsPairText}
+use Rattle.rt_dual.specs.{Course.Place, Course.first_place, Course.second_place, Course.first_events}
+use Rattle.rt_dual.specs.{Course.second_events, Course.turns, Forwarded.forward, Output.IsPairText}
+use Rattle.rt_trace.specs.declared.item.What.TheVariants as what
 
 -- each bit that a look of the core in the one place found was raised before in the history, by the core in the other
 abbrev pub LooksFindPosts : Place → Place → List Entry → Type 0

@@ -1,21 +1,17 @@
 -- What `pair` may write of two images under a script. The form of the text is this project's own.
-use Rattle.std.specs.Prelude.{◌≡◌, ◌≢◌, ℕ, ◌≤◌, ◌⊎◌, List, [], ◌++◌, length, Some, codes}
 use Rattle.std.specs.List.{AllByRecursion}
-use Rattle.rt_ids.specs.Event.{Event, steps}
+use Rattle.std.specs.Prelude.{List, Some, [], codes, length, ℕ, ◌++◌, ◌≡◌, ◌≢◌, ◌≤◌, ◌⊎◌}
 use Rattle.rt_code.specs.Image.{Image}
 use Rattle.rt_core.specs.Machine.{Machine}
-use Rattle.rt_listing.specs.Listing.{listing}
+use Rattle.rt_ids.specs.Event.{Event, steps}
 use Rattle.rt_outside.specs.Bytes.{TookPrefix}
-use Rattle.rt_run.specs.Done.{HasDone}
-use Rattle.rt_run.specs.Sending.{EndsInItem}
 use Rattle.rt_script.specs.declared.line.Line.{Line}
 use Rattle.rt_trace.specs.Text.{trace_text}
-use Rattle.rt_words.specs.Ending.{calls_in}
-use Rattle.rt_words.specs.History.{IsLegal, part}
-use Rattle.rt_words.specs.declared.call.Entry.{Entry}
-use Rattle.rt_live.specs.Account.{account_of, account_text, declared_irqs}
-use Rattle.rt_live.specs.Going.{IsWholeLook, FindsDeclared}
-use Rattle.rt_live.specs.Interleaving.{Turn, looks, interleaving}
+use Rattle.rt_words.specs.{Ending.calls_in, History.IsLegal, History.part, declared.call.Entry.Entry}
+use Rattle.rt_listing.specs.Listing.{listing}
+use Rattle.rt_run.specs.{Done.HasDone, Sending.EndsInItem}
+use Rattle.rt_live.specs.{Account.account_of, Account.account_text, Account.declared_irqs, Going.IsWholeLook}
+use Rattle.rt_live.specs.{Going.FindsDeclared, Interleaving.Turn, Interleaving.looks, Interleaving.interleaving}
 use Rattle.rt_dual.specs.Course.{IsCourse, first_place, second_place, first_events, second_events, course_events}
 use Rattle.rt_dual.specs.Course.{course_items}
 

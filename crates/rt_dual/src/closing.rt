@@ -1,13 +1,10 @@
 // The words are closed when both cores have ended, and what they tell is the accounts of both.
-ghost use Rattle.std.specs.Prelude.{◌≡◌, ◌<◌, map};
-ghost use Rattle.std.specs.List.{AllByRecursion};
-ghost use Rattle.rt_live.specs.Account.{HasRoom, settled_row, with_counts};
-ghost use Rattle.rt_live.specs.Ready.{irqs_of};
+ghost use Rattle.std.specs.{List.AllByRecursion, Prelude.map, Prelude.◌<◌, Prelude.◌≡◌};
+ghost use Rattle.rt_live.specs.{Account.HasRoom, Account.settled_row, Account.with_counts, Ready.irqs_of};
 ghost use Rattle.rt_dual.specs.Inside.Both.{CanClose, AreAccounts};
 
 use rt_live::account::{Account, AccountRow};
-use rt_live::gathering::add_counts;
-use rt_live::left::enter_left;
+use rt_live::gathering::{add_counts, enter_left};
 use rt_words::{Left, Line, Tally, Words};
 
 /// The account of a core, of which these are the rows: what the second core's line did, and what the first core's line

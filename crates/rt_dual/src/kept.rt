@@ -1,9 +1,7 @@
 // The text of a core, which is kept until both have ended.
 
-ghost use Rattle.std.specs.Prelude.{◌≡◌, ◌<◌, ◌≤◌, length, take, IfOk, OnOk, OnErr};
-ghost use Rattle.rt_outside.specs.Bytes.{Took};
-ghost use Rattle.rt_outside.specs.Faults.{HasCause};
-ghost use Rattle.rt_outside.specs.Memory.{next_fault};
+ghost use Rattle.std.specs.Prelude.{IfOk, OnErr, OnOk, length, take, ◌<◌, ◌≡◌, ◌≤◌};
+ghost use Rattle.rt_outside.specs.{Bytes.Took, Faults.HasCause, Memory.next_fault};
 
 use rt_outside::{Failed, Sink};
 

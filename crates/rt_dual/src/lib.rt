@@ -1,7 +1,7 @@
 // Two cores that run beside each other and pend each other's interrupts through shared atomic words.
 // Promises: one history of the words of both cores explains both traces.
-// Stands on: rt_lemmas, rt_ids, rt_lines, rt_outside, rt_code, rt_core, rt_trace, rt_listing, rt_script, rt_run,
-// rt_words, rt_devices, rt_live.
+// Stands on: rt_lemmas, rt_ids, rt_outside, rt_code, rt_core, rt_trace, rt_listing, rt_script, rt_run, rt_words,
+// rt_devices, rt_live.
 // Read next: specs/Output.antt and specs/Laws.antt, then src/pairing.rt.
 #![tactic(auto)]
 

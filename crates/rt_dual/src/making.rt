@@ -1,14 +1,11 @@
 // What is made for two cores before they run.
-ghost use Rattle.std.specs.Prelude.{◌≡◌, ℕ, ◌<◌, ◌∷◌, [], IfOk, OnOk};
 ghost use Rattle.std.specs.List.{AllByRecursion};
+ghost use Rattle.std.specs.Prelude.{IfOk, OnOk, [], ℕ, ◌<◌, ◌∷◌, ◌≡◌};
 ghost use Rattle.rt_ids.specs.declared.limits.TheConstants.{IRQ_NUMBERS};
+ghost use Rattle.rt_words.specs.{Lines.count, Lines.new_line, declared.row.TheConstants.ROW_WORDS};
 ghost use Rattle.rt_listing.specs.Numbers.{HasTypedNumbers};
-ghost use Rattle.rt_words.specs.Lines.{count, new_line};
-ghost use Rattle.rt_words.specs.declared.row.TheConstants.{ROW_WORDS};
-ghost use Rattle.rt_live.specs.Account.{declared_irqs};
-ghost use Rattle.rt_live.specs.Ready.{HasBits, irqs_of};
-ghost use Rattle.rt_dual.specs.Forwarded.{forward};
-ghost use Rattle.rt_dual.specs.Inside.Both.{AreBefore, front, leads_by};
+ghost use Rattle.rt_live.specs.{Account.declared_irqs, Ready.HasBits, Ready.irqs_of};
+ghost use Rattle.rt_dual.specs.{Forwarded.forward, Inside.Both.AreBefore, Inside.Both.front, Inside.Both.leads_by};
 
 use crate::kept::Kept;
 use crate::routes::{Table, table_of};

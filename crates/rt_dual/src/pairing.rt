@@ -1,16 +1,14 @@
 // Runs two cores beside each other.
 
-ghost use Rattle.std.specs.Prelude.{◌≡◌, ◌⊎◌, [], ℕ, List, OnOk, OnErr, IsErrOf};
+ghost use Rattle.std.specs.Prelude.{IsErrOf, List, OnErr, OnOk, [], ℕ, ◌≡◌, ◌⊎◌};
 ghost use Rattle.rt_code.specs.Lines.{HasLines};
 ghost use Rattle.rt_core.specs.Machine.{IsFresh};
-ghost use Rattle.rt_listing.specs.Numbers.{HasTypedNumbers};
-ghost use Rattle.rt_outside.specs.Bytes.{Took, TookPrefix};
-ghost use Rattle.rt_outside.specs.Faults.{Rose, HasCause};
+ghost use Rattle.rt_outside.specs.{Bytes.Took, Bytes.TookPrefix, Faults.HasCause, Faults.Rose};
 ghost use Rattle.rt_script.specs.Script.{HasNames};
+ghost use Rattle.rt_listing.specs.Numbers.{HasTypedNumbers};
 ghost use Rattle.rt_dual.specs.Course.{first_events, second_events, turns};
-ghost use Rattle.rt_dual.specs.Doing.{HasPaired, HasPairedPart};
-ghost use Rattle.rt_dual.specs.Output.{IsPairText, TookPart, HasBegun};
-ghost use Rattle.rt_dual.specs.Inside.Both.{CanWrite, IsWritten};
+ghost use Rattle.rt_dual.specs.Output.{HasBegun, IsPairText, TookPart};
+ghost use Rattle.rt_dual.specs.{Doing.HasPaired, Doing.HasPairedPart, Inside.Both.CanWrite, Inside.Both.IsWritten};
 
 use crate::closing::accounts_of;
 use crate::making::{Both, Side, both_of};

@@ -1,5 +1,5 @@
 // Where the posts of a core lead on the other core of a pair.
-ghost use Rattle.std.specs.Prelude.{◌≡◌, ℕ, ◌<◌, ◌≤◌, None, slice_index_or, IfOk};
+ghost use Rattle.std.specs.Prelude.{IfOk, None, slice_index_or, ℕ, ◌<◌, ◌≡◌, ◌≤◌};
 ghost use Rattle.rt_ids.specs.declared.limits.TheConstants.{IRQ_NUMBERS};
 ghost use Rattle.rt_dual.specs.Forwarded.{enables, forward};
 

@@ -1,13 +1,11 @@
 // Both cores run beside each other.
-ghost use Rattle.std.specs.Prelude.{OnOk};
-ghost use Rattle.std.specs.Thread.{IsSync};
+ghost use Rattle.std.specs.{Prelude.OnOk, Thread.IsSync};
 ghost use Rattle.rt_code.specs.Lines.{HasLines};
 ghost use Rattle.rt_core.specs.Machine.{IsFresh};
-ghost use Rattle.rt_script.specs.Script.{IsScript, HasNames};
+ghost use Rattle.rt_script.specs.Script.{HasNames, IsScript};
 ghost use Rattle.rt_live.specs.Shares.{own_events};
-ghost use Rattle.rt_dual.specs.Course.{first_events, second_events, turns};
-ghost use Rattle.rt_dual.specs.Output.{HasBegun};
 ghost use Rattle.rt_dual.specs.Inside.Both.{AreBefore, CanRun, HasEnded, HaveRun};
+ghost use Rattle.rt_dual.specs.{Course.first_events, Course.second_events, Course.turns, Output.HasBegun};
 
 use crate::making::{Both, Side};
 use rt_core::Core;

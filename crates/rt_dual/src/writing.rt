@@ -1,7 +1,6 @@
 // The text of a core, which is written when both cores have ended.
-ghost use Rattle.std.specs.Prelude.{◌≡◌, ◌++◌, OnOk, OnErr};
-ghost use Rattle.rt_outside.specs.Bytes.{Took, TookPrefix};
-ghost use Rattle.rt_outside.specs.Faults.{HasCause};
+ghost use Rattle.std.specs.Prelude.{OnErr, OnOk, ◌++◌, ◌≡◌};
+ghost use Rattle.rt_outside.specs.{Bytes.Took, Bytes.TookPrefix, Faults.HasCause};
 ghost use Rattle.rt_live.specs.Account.{account_text};
 
 use crate::kept::Kept;

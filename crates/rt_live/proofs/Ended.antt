@@ -1,50 +1,62 @@
 -- The end of a run: the total behind the last turns, the whole text, and the turns behind the gathering of the lines.
-use Rattle.std.proofs.Common.{◌≡◌, ℕ, inl, inr, List, [], ◌++◌, flat_map, Option, Some, length, refl, ap, sym}
-use Rattle.std.proofs.Common.{subst, ◌∙◌, ◌+◌, arith, ◌*◌, ◌≤◌, ◌∷◌, suc}
-use Rattle.std.specs.List.{AllByRecursion}
-use Rattle.std.proofs.lemmas.List.{append-nil, length-append}
-use Rattle.std.proofs.lemmas.List.Concat.{flat_map-append}
-use Rattle.rt_ids.specs.Event.{Event, Arrive, Tick, Step, steps}
-use Rattle.rt_core.specs.Core.{Core, reset}
-use Rattle.rt_core.specs.Machine.{Machine, IsFresh}
-use Rattle.rt_core.specs.Trace.{labels, trace}
-use Rattle.rt_run.specs.Done.{Leads}
-use Rattle.rt_run.specs.Sending.{lines_of}
-use Rattle.rt_script.specs.Script.{core_events, core_line_events}
-use Rattle.rt_script.specs.declared.line.Line.{Line as Asked}
-use Rattle.rt_script.specs.declared.line.Line.TheVariants.{Steps, Ticks, Pends, Device}
-use Rattle.rt_trace.specs.Label.{items_of}
-use Rattle.rt_trace.specs.Text.{text, total_text, trace_text}
-use Rattle.rt_words.specs.Lines.{Line, Row}
-use Rattle.rt_words.specs.declared.call.Call.{Call}
-use Rattle.rt_live.specs.Going.{IsWholeLook, Goes, Stops}
-use Rattle.rt_live.specs.Interleaving.{Turn, looks, last_turns, turns, with_looks, arrivals_from, interleaving}
-use Rattle.rt_live.specs.Interleaving.{look_calls}
-use Rattle.rt_live.specs.Ready.{core_line}
-use Rattle.rt_live.specs.Requests.{no_route}
-use Rattle.rt_live.specs.Shares.{own_line_events, own_events, own_turns}
-use Rattle.rt_live.specs.Written.{Ends, EndsWhole, EndsEarly}
-use Rattle.rt_live.specs.declared.share.Share.TheVariants.{BesideDevices}
-use Rattle.rt_live.proofs.Turning.{goes_on, goes_as, stops_as, stops_behind, stops_before}
-use Rattle.rt_live.proofs.Weaving.{IsWoven, IsCut, weave, cut_of, nowhere}
-use Rattle.rt_live.proofs.Woven.{all_latches, cut_before, length-latches, looks_own, steps_behind}
-
--- a line of the total behind what is empty
-pub total_behind : (taken : List ℕ → List ℕ → List ℕ → Type 0) {y z : List ℕ} (held : List ℕ) (total n : ℕ) → held ≡ []
-    → total ≡ n → taken y z (held ++ total_text total) → taken y z (total_text n)
-total_behind taken {y = y} {z = z} held total n empty counted took =
-    subst (taken y z) (ap (λ h. h ++ total_text total) empty ∙ ap total_text counted) took
+use Rattle.rt_live.proofs.Vocabulary.{AllByRecursion, Arrive, Asked, Bool, Call, Caller as Line, Core, Device, Done}
+use Rattle.rt_live.proofs.Vocabulary.{Ended, Ends, Err, Event, Goes, IsFresh, IsWholeLook, Leads, List, Machine, Ok}
+use Rattle.rt_live.proofs.Vocabulary.{OnErr, OnOk, Option, Part, Pends, Result, Row, Some, Step, Steps, Tick, Ticks}
+use Rattle.rt_live.proofs.Vocabulary.{Took, TookPrefix, Turn, [], ap, append-nil, arith, arrivals_from, core_events}
+use Rattle.rt_live.proofs.Vocabulary.{core_line_events, false, flat_map, flat_map-append, inl, inr, interleaving, is_ok}
+use Rattle.rt_live.proofs.Vocabulary.{items_of, labels, last_turns, length, length-append, lines_of, look_calls, looks}
+use Rattle.rt_live.proofs.Vocabulary.{maker_line, no_route, own_events, own_line_events, own_turns, refl, reset, steps}
+use Rattle.rt_live.proofs.Vocabulary.{subst, suc, sym, text, total_text, trace, true, turns, with_looks, ℕ, ◌*◌, ◌++◌}
+use Rattle.rt_live.proofs.Vocabulary.{◌+◌, ◌∙◌, ◌∷◌, ◌≡◌, ◌≤◌}
+use Rattle.rt_trace.specs.Text.{trace_text}
+use Rattle.rt_live.specs.{Written.Totals, declared.share.Share.TheVariants.BesideDevices}
+use Rattle.rt_live.proofs.Turning.{done_before, done_on}
+use Rattle.rt_live.proofs.Weaving.{Reaches, nowhere, sends_of, weave}
+use Rattle.rt_live.proofs.Woven.{all_latches, length-latches, line_on, line_with, looks_own, steps_behind}
 
 -- turns, and those behind them to the end
-module _ {route : ℕ → Option ℕ} {ts : List Turn} {k l : Line} {a b : Machine} {x y : List ℕ}
-    (first : Goes route ts k l a b x y) {us : List Turn} {m : Line} {c : Machine} {z : List ℕ} where
-  pub ends_on : {taken : List ℕ → List ℕ → List ℕ → Type 0} → Ends taken route us l m b c y z
-      → Ends taken route (ts ++ us) k m a c x z
-  ends_on last = record { shown = last.shown; goes = goes_on first last.goes; total = last.total }
+module _ {route : ℕ → Option ℕ} {here there : ℕ} {ts : List Turn} {calls : List Call} {a b : Machine} {x y : List ℕ}
+    (first : Done route here there true ts calls a b x y) (us : List Turn) (more : List Call) (c : Machine) (z : List ℕ)
+  where
+    totals_on : {taken : List ℕ → List ℕ → List ℕ → Type 0} → Totals taken route here there us more b c y z
+        → Totals taken route here there (ts ++ us) (calls ++ more) a c x z
+    totals_on last = record { shown = last.shown; done = done_on first last.done; total = last.total }
 
-  pub early_on : EndsEarly route us l m b c y z → EndsEarly route (ts ++ us) k m a c x z
-  early_on (inl cut) = inl (stops_behind first cut)
-  early_on (inr last) = inr (ends_on last)
+    pub ended_on : (all : Bool) → Ended route here there us all more b c y z
+        → Ended route here there (ts ++ us) all (calls ++ more) a c x z
+    ended_on true last = totals_on last
+    ended_on false (inl stopped) = inl (done_on first stopped)
+    ended_on false (inr last) = inr (totals_on last)
+
+module _ {route : ℕ → Option ℕ} {ts : List Turn} {k : Line} {a : Machine} {x : List ℕ} where
+  pub ends_on : {all : Bool} {us : List Turn} {l m : Line} {b c : Machine} {y z : List ℕ}
+      → Goes route ts true k l a b x y → Ends route us all l m b c y z → Ends route (ts ++ us) all k m a c x z
+  ends_on {all} {us} {l} {m} {b} {c} {y} {z} first last = record {
+    calls = first.calls ++ last.calls;
+    same = line_on k l m first.calls last.calls first.same last.same;
+    ended =
+        ended_on first.done us last.calls c z all
+        (subst (λ (n : Line). Ended route n.here n.there us all last.calls b c y z) first.same last.ended);
+  }
+
+  pub ends_cut : {l : Line} {b : Machine} {y : List ℕ} → Goes route ts false k l a b x y
+      → Ends route ts false k l a b x y
+  ends_cut stopped = record { calls = stopped.calls; same = stopped.same; ended = inl stopped.done }
+
+  -- the line of the total behind them
+  pub total_ends : {T E : Type 0} {l : Line} {b : Machine} {y z bytes : List ℕ} (r : Result T E)
+      → bytes ≡ total_text b.steps → Goes route ts true k l a b x y → OnOk r (Took y z bytes)
+      → OnErr r (TookPrefix y z bytes) → Ends route ts (is_ok r) k l a b x z
+  total_ends {y = y} {z = z} (Ok value) told run took part = record {
+    calls = run.calls;
+    same = run.same;
+    ended = record { shown = y; done = run.done; total = subst (Took y z) told took };
+  }
+  total_ends {y = y} {z = z} (Err error) told run took part = record {
+    calls = run.calls;
+    same = run.same;
+    ended = inr record { shown = y; done = run.done; total = subst (TookPrefix y z) told part };
+  }
 
 -- the lines of a fresh core, with the total, are the text of the trace of its image
 pub fresh_text : (m n : Machine) (es : List Event) → IsFresh m → Leads es m n → lines_of m es ++ total_text n.steps
@@ -84,116 +96,101 @@ abbrev own : List Asked → List Turn
 own script = own_turns BesideDevices script
 
 -- the turns of a script, where its own events were done by a fresh core
-pub all_turns : (script : List Asked) {route : ℕ → Option ℕ} {k l : Line} {a b : Machine} {x y : List ℕ} → IsFresh a
-    → Goes route (own script) k l a b x y → own script ++ last_turns b.steps ≡ turns script
+all_turns : (script : List Asked) {route : ℕ → Option ℕ} {here there : ℕ} {calls : List Call} {a b : Machine}
+    {x y : List ℕ} → IsFresh a → Done route here there true (own script) calls a b x y
+    → own script ++ last_turns b.steps ≡ turns script
 all_turns script {b = b} fresh run =
     let w = weave run in
     let counted : b.steps ≡ steps (own_events BesideDevices script) =
-    omega (arith, w.sends.leads.steps, fresh.steps, own_steps (own_events BesideDevices script) w.found w.many) in
+    omega (
+      arith,
+      (sends_of w).leads.steps,
+      fresh.steps,
+      own_steps (own_events BesideDevices script) w.found w.reach.0,
+    ) in
     ap (λ n. own script ++ last_turns n) counted
     ∙ ap (λ es. with_looks es ++ last_turns (steps es)) (events_beside script)
-
--- calls of a core alone
-module _ {words : Row} {ts : List Turn} {calls : List Call} {a b : Machine} {x y : List ℕ} where
-  pub woven_calls : (w : IsWoven no_route ts (core_line words []) (core_line words calls) a b x y)
-      → calls ≡ flat_map look_calls (w.found ++ [] ∷ [])
-  woven_calls w = ap (λ (l : Line). l.calls) w.same ∙ w.alone nowhere refl ∙ sym (cut_before w.found)
-
-  pub cut_calls : (cut : IsCut no_route ts (core_line words []) (core_line words calls) a b x y)
-      → calls ≡ flat_map look_calls (cut.found ++ cut.last ∷ [])
-  cut_calls cut = ap (λ (l : Line). l.calls) cut.same ∙ cut.alone nowhere refl
-
-own_looks : (script : List Asked) → looks (own script) ≡ steps (core_events script)
-own_looks script = looks_own (own_events BesideDevices script) ∙ ap steps (events_beside script)
 
 -- so many calls are looks of which the last may be cut
 looks_length : (found : List (List ℕ)) (last : List ℕ) → AllByRecursion IsWholeLook found
     → length (flat_map look_calls (found ++ last ∷ [])) ≡ 16 * length found + length last
-looks_length found last whole =
-    omega (
-      arith,
-      ap length (flat_map-append look_calls found (last ∷ [])),
-      length-append (flat_map look_calls found) (look_calls last ++ []),
-      length-append (look_calls last) [],
-      all_latches found whole,
-      length-latches 0 last,
-    )
+looks_length found last whole = omega (
+  arith,
+  ap length (flat_map-append look_calls found (last ∷ [])),
+  length-append (flat_map look_calls found) (look_calls last ++ []),
+  length-append (look_calls last) [],
+  all_latches found whole,
+  length-latches 0 last,
+)
 
--- a core's line that has called nothing, and what it calls while the core's own turns are done
-module _ (words : Row) (script : List Asked) {k l : Line} {a b : Machine} {x y : List ℕ} (here : k.here ≡ 0)
-    (there : k.there ≡ 0) (unused : k.calls ≡ []) where
-  own_as : Goes no_route (own script) k l a b x y
-      → Goes no_route (own script) (core_line words []) (core_line words l.calls) a b x y
-  own_as run =
-      subst (λ (cs : List Call). Goes no_route (own script) (core_line words cs)
-      (core_line words l.calls) a b x y) unused
-      (goes_as (core_line words []) (sym here) (sym there) run)
+reaches_few : (all : Bool) (n most : ℕ) (last : List ℕ) → Reaches all n most last → length last ≤ 16
+    → 16 * n + length last ≤ 16 * most
+reaches_few true n most last is short = omega (arith, is.0, ap length is.1)
+reaches_few false n most last (inl less) short = omega (arith, less, short)
+reaches_few false n most last (inr done) short = omega (arith, ap length done.0, done.1)
 
-  cut_as : Stops no_route (own script) k l a b x y
-      → Stops no_route (own script) (core_line words []) (core_line words l.calls) a b x y
-  cut_as cut =
-      subst (λ (cs : List Call). Stops no_route (own script) (core_line words cs) (core_line words l.calls) a b x y)
-      unused (stops_as (core_line words []) (sym here) (sym there) cut)
+-- the core's own turns, which its line did first
+module _ (script : List Asked) {all : Bool} {row : Row} {made : List ℕ} {k l : Line} {a b : Machine} {x y : List ℕ}
+    (first : k ≡ maker_line row made) (goes : Goes no_route (own script) all k l a b x y) where
+  done_here : Done no_route 0 0 all (own script) goes.calls a b x y
+  done_here = subst (λ (o : Line). Done no_route o.here o.there all (own script) goes.calls a b x y) first goes.done
+
+  own_calls : l.calls ≡ goes.calls
+  own_calls = ap (λ (o : Line). o.calls) (goes.same ∙ ap (λ (o : Line). line_with o goes.calls) first)
 
   -- so many calls
-  pub own_few : Goes no_route (own script) k l a b x y → length l.calls ≤ 16 * steps (core_events script)
-  own_few run =
-      let w = weave (own_as run) in
-      omega (arith, ap length (woven_calls w), looks_length w.found [] w.whole, w.many, own_looks script)
+  pub own_few : length l.calls ≤ 16 * steps (core_events script)
+  own_few =
+      let w = weave done_here in
+      omega (
+        arith,
+        ap length own_calls,
+        ap length (w.alone nowhere refl),
+        looks_length w.found w.last w.whole,
+        reaches_few all (length w.found) (looks (own script)) w.last w.reach w.short,
+        looks_own (own_events BesideDevices script),
+        ap steps (events_beside script),
+      )
 
-  pub cut_few : Stops no_route (own script) k l a b x y → length l.calls ≤ 16 * steps (core_events script)
-  cut_few cut =
-      let c = cut_of (cut_as cut) in
-      let made = looks_length c.found c.last c.whole in
-      elim c.few [
-        | inl less ↦ omega (arith, ap length (cut_calls c), made, less, c.short, own_looks script)
-        | inr most ↦ omega (arith, ap length (cut_calls c), made, ap length most.0, most.1, own_looks script)
-      ]
+-- Behind them the lines of the devices were gathered.
+module _ (script : List Asked) {row : Row} {made : List ℕ} {k l m : Line} {parts : List Part} {a b : Machine}
+    {x y : List ℕ} (first : k ≡ maker_line row made) (gathered : m ≡ record l { gathered = parts; since = m.since })
+  where
+    -- a fault at the core's own turns
+    pub own_cut : Goes no_route (own script) false k l a b x y → Ended no_route 0 0 (turns script) false m.calls a b x y
+    own_cut stopped =
+        inl (subst (λ cs. Done no_route 0 0 false (turns script) cs a b x y)
+        (sym (ap (λ (o : Line). o.calls) gathered ∙ own_calls script first stopped))
+        (subst (λ es. Done no_route 0 0 false (with_looks es ++ last_turns (steps es)) stopped.calls a b x y)
+        (events_beside script)
+        (done_before (last_turns (steps (own_events BesideDevices script))) (done_here script first stopped))))
 
-  -- a fault at them
-  pub early_own : (m : Line) → m.calls ≡ l.calls → Stops no_route (own script) k l a b x y
-      → EndsEarly no_route (turns script) (core_line words []) (core_line words m.calls) a b x y
-  early_own m calls cut =
-      subst (λ (cs : List Call). EndsEarly no_route (turns script) (core_line words []) (core_line words cs) a b x y)
-      (sym calls)
-      (inl (subst (λ es. Stops no_route (with_looks es ++ last_turns (steps es)) (core_line words [])
-      (core_line words l.calls) a b x y) (events_beside script)
-      (stops_before (last_turns (steps (own_events BesideDevices script))) (cut_as cut))))
+    -- or all of them, and then the end
+    pub own_ends : {all : Bool} {n : Line} {c : Machine} {z : List ℕ} {added : ℕ} → IsFresh a
+        → Goes no_route (own script) true k l a b x y → added ≡ b.steps
+        → Ends no_route (last_turns added) all m n b c y z → Ended no_route 0 0 (turns script) all n.calls a c x z
+    own_ends {all} {n} {c} {z} {added} fresh run same last =
+        let before = done_here script first run in
+        let us : List Turn = last_turns added in
+        let placed = gathered
+        ∙ ap (λ (o : Line). record o { gathered = parts; since = m.since })
+        (run.same ∙ ap (λ (o : Line). line_with o run.calls) first) in
+        subst (λ cs. Ended no_route 0 0 (turns script) all cs a c x z)
+        (sym (ap (λ (o : Line). o.calls) (last.same ∙ ap (λ (o : Line). line_with o last.calls) placed)))
+        (subst (λ ts. Ended no_route 0 0 ts all (run.calls ++ last.calls) a c x z)
+        (ap (λ s. own script ++ last_turns s) same ∙ all_turns script fresh before)
+        (ended_on before us last.calls c z all
+        (subst (λ (o : Line). Ended no_route o.here o.there us all last.calls b c y z) placed last.ended)))
 
-  -- Behind them the lines of the devices were gathered. The line has the same calls and cores.
-  module _ (fresh : IsFresh a) (run : Goes no_route (own script) k l a b x y) (m n : Line) (same_here : m.here ≡ l.here)
-      (same_there : m.there ≡ l.there) (calls : m.calls ≡ l.calls) (c : Machine) (z : List ℕ) where
-    then_here : 0 ≡ m.here
-    then_here = sym (same_here ∙ ap (λ (o : Line). o.here) (weave run).same ∙ here)
+-- by an answer
+module _ {T E P : Type 0} {route : ℕ → Option ℕ} {here there : ℕ} {ts : List Turn} {calls : List Call} {a b : Machine}
+    {x y : List ℕ} where
+  pub if_all : (r : Result T E) → Ended route here there ts (is_ok r) calls a b x y
+      → (Ended route here there ts true calls a b x y → P) → OnOk r P
+  if_all (Ok value) ended from = from ended
+  if_all (Err error) ended from = tt
 
-    then_there : 0 ≡ m.there
-    then_there = sym (same_there ∙ ap (λ (o : Line). o.there) (weave run).same ∙ there)
-
-    then_as : {taken : List ℕ → List ℕ → List ℕ → Type 0} → Ends taken no_route (last_turns b.steps) m n b c y z
-        → Ends taken no_route (last_turns b.steps) (core_line words l.calls) (core_line words n.calls) b c y z
-    then_as last = record {
-      shown = last.shown;
-      goes =
-          subst (λ (cs : List Call). Goes no_route (last_turns b.steps) (core_line words cs)
-          (core_line words n.calls) b c
-          y last.shown) calls (goes_as (core_line words []) then_here then_there last.goes);
-      total = last.total;
-    }
-
-    pub run_whole : EndsWhole no_route (last_turns b.steps) m n b c y z
-        → EndsWhole no_route (turns script) (core_line words []) (core_line words n.calls) a c x z
-    run_whole last =
-        subst (λ ts. EndsWhole no_route ts (core_line words []) (core_line words n.calls) a c x z)
-        (all_turns script fresh run) (ends_on (own_as run) (then_as last))
-
-    pub run_early : EndsEarly no_route (last_turns b.steps) m n b c y z
-        → EndsEarly no_route (turns script) (core_line words []) (core_line words n.calls) a c x z
-    run_early early =
-        subst (λ ts. EndsEarly no_route ts (core_line words []) (core_line words n.calls) a c x z)
-        (all_turns script fresh run)
-        (early_on (own_as run) (elim early [
-          | inl cut ↦ inl (subst (λ (cs : List Call). Stops no_route (last_turns b.steps) (core_line words cs)
-              (core_line words n.calls) b c y z) calls
-              (stops_as (core_line words []) then_here then_there cut))
-          | inr last ↦ inr (then_as last)
-        ]))
+  pub if_cut : (r : Result T E) → Ended route here there ts (is_ok r) calls a b x y
+      → (Ended route here there ts false calls a b x y → P) → OnErr r P
+  if_cut (Ok value) ended from = tt
+  if_cut (Err error) ended from = from ended

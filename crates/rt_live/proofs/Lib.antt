@@ -1,3 +1,4 @@
+pub mod Vocabulary
 pub mod Woven
 pub mod Weaving
 pub mod Turning

@@ -1,31 +1,18 @@
 -- What is made for a run: bits of interrupts, rows, and devices with their lines.
-use Rattle.std.proofs.Common.{◌≡◌, ℕ, zero, suc, ◌+◌, ◌*◌, ◌/◌, ◌%◌, ◌^◌, ◌<◌, ◌≤◌, ◌==◌, inl, inr, Bool, true, false}
-use Rattle.std.proofs.Common.{if◌then◌else◌, List, [], ◌∷◌, ◌++◌, map, flat_map, replicate, length, take, ◌≢◌}
-use Rattle.std.proofs.Common.{get_or, set, bit_or, Contains, Some, refl, ap, sym, subst, ◌∙◌, arith, add-one}
-use Rattle.std.specs.Prelude.{slice_get, ◌↔◌}
-use Rattle.std.specs.List.{AllByRecursion}
-use Rattle.std.proofs.lemmas.List.{append-nil, take_more, map-append, length-append}
-use Rattle.std.proofs.lemmas.Option.{same_Some, slice_get-get_or}
-use Rattle.std.proofs.lemmas.Grind.{flat_map-append}
-use Rattle.std.proofs.lemmas.List.Elements.{Contains-append_left, Contains-append_right, Contains-append_cases}
+use Rattle.rt_live.proofs.Vocabulary.{Bool, Contains, DeviceLine, DeviceThread as Device, HasBits, IsPending, Line}
+use Rattle.rt_live.proofs.Vocabulary.{List, Pends, Some, Steps, Ticks, [], ap, append-nil, arith, bit_in_row}
+use Rattle.rt_live.proofs.Vocabulary.{contains_cases, contains_here, contains_none, device_script, empty_row}
+use Rattle.rt_live.proofs.Vocabulary.{entries_of, false, flat_map, flat_map-append, get_or, if◌then◌else◌, inl, inr}
+use Rattle.rt_live.proofs.Vocabulary.{length, length-append, line_pends, map, map-append, none_pending, pending_bit}
+use Rattle.rt_live.proofs.Vocabulary.{pends, refl, replicate, requests, same_Some, set, slice_get-get_or, subst, suc}
+use Rattle.rt_live.proofs.Vocabulary.{sym, take, true, zero, ℕ, ℕ_discrete, ◌%◌, ◌*◌, ◌++◌, ◌+◌, ◌/◌, ◌<◌, ◌==◌, ◌^◌}
+use Rattle.rt_live.proofs.Vocabulary.{◌∙◌, ◌∷◌, ◌≡◌, ◌≢◌, ◌≤◌}
+use Rattle.std.proofs.lemmas.List.Elements.{Contains-append_cases, Contains-append_left, Contains-append_right}
 use Rattle.std.proofs.lemmas.List.Elements.{Contains-push, Contains-push_cases}
-use Rattle.std.proofs.lemmas.Nat.{one_shl}
-use native.Mathlib.Decide.{ℕ_discrete}
-use Rattle.rt_lemmas.proofs.Membership.{all_has, contains_here, contains_cases, contains_none}
+use Rattle.std.proofs.{Common.add-one, Common.bit_or, lemmas.List.take_more, lemmas.Nat.one_shl}
+use Rattle.std.specs.Prelude.{slice_get, ◌↔◌}
 use Rattle.rt_ids.specs.Lists.{those_below}
-use Rattle.rt_ids.specs.declared.limits.TheConstants.{IRQ_NUMBERS}
-use Rattle.rt_script.specs.Script.{pends, line_pends}
-use Rattle.rt_script.specs.declared.line.Line.{Line}
-use Rattle.rt_script.specs.declared.line.Line.TheVariants.{Steps, Ticks, Pends, Device as DeviceLine}
-use Rattle.rt_devices.specs.Work.{requests}
-use Rattle.rt_devices.specs.declared.device.Device.{Device}
-use Rattle.rt_words.specs.Row.{bit_in_row}
-use Rattle.rt_words.specs.Object.{IsPending, pending_bit}
 use Rattle.rt_words.proofs.Bits.{with_bit, pend_same, pend_other}
-use Rattle.rt_words.proofs.Found.{none_pending}
-use Rattle.rt_live.specs.Account.{empty_row}
-use Rattle.rt_live.specs.Devices.{entries_of, device_script}
-use Rattle.rt_live.specs.Ready.{HasBits}
 
 -- the words with one bit more, as the code sets it
 abbrev pub bit_in : List ℕ → ℕ → List ℕ
@@ -36,8 +23,7 @@ module _ (words : List ℕ) (n : ℕ) (fits : n / 32 < length words) where
   as_power = ap (λ b. set words (n / 32) (bit_or (get_or words (n / 32) 0) b)) (one_shl (n % 32) 32 (omega arith))
 
   pub other_stays : (bit : ℕ) → bit ≢ n → pending_bit (bit_in words n) bit ≡ pending_bit words bit
-  other_stays bit other =
-      ap (λ (ws : List ℕ). pending_bit ws bit) as_power ∙ pend_other words n bit (λ _. fits) other
+  other_stays bit other = ap (λ (ws : List ℕ). pending_bit ws bit) as_power ∙ pend_other words n bit (λ _. fits) other
 
   pub bits_more : (core irq : ℕ) (irqs : List ℕ) → n ≡ bit_in_row core irq → HasBits core words irqs
       → HasBits core (bit_in words n) (irqs ++ irq ∷ [])
@@ -65,15 +51,6 @@ no_bits core irq low = (
   λ is. none_pending (λ _. Contains [] irq) (bit_in_row core irq) is,
   λ is. absurd (contains_none irq is),
 )
-
--- a bit of a core that is set is of one of its interrupts
-pub bits_low : (core bit : ℕ) (may irqs : List ℕ) → HasBits core may irqs
-    → AllByRecursion (λ irq. irq < IRQ_NUMBERS) irqs
-    → bit / 512 ≡ core → IsPending may bit → bit % 512 < IRQ_NUMBERS
-bits_low core bit may irqs has low here is =
-    all_has (λ irq. irq < IRQ_NUMBERS) irqs (bit % 512) low
-    ((has (bit % 512) (omega arith)).0
-    (ap (pending_bit may) (let e : bit_in_row core (bit % 512) ≡ bit = omega (arith, here) in e) ∙ is))
 
 -- the row of one interrupt more
 pub rows_step : (irqs : List (List ℕ × ℕ)) (i : ℕ) (name : List ℕ) (irq : ℕ) → i < length irqs
@@ -157,6 +134,12 @@ among_those test (suc n) m less is = by (λ below. among_those test n m below is
         → Contains (those_below test n ++ (if test n then n ∷ [] else [])) m
     by rest (yes same) = Contains-append_right (those_below test n) _ m (rw (same, is) (contains_here m []))
     by rest (no ne) = Contains-append_left (those_below test n) _ m (rest (omega (arith, less, ne)))
+
+-- those that passed are still among them
+pub still_among : (test : ℕ → Bool) (n : ℕ) (passes : Bool) → test n ≡ passes → (m : ℕ)
+    → Contains (those_below test n) m → Contains (those_below test (n + 1)) m
+still_among test n passes is m there =
+    subst (λ (ns : List ℕ). Contains ns m) (sym (those_next test n passes is)) (Contains-append_left _ _ m there)
 
 -- the numbers of devices, with one device more
 pub numbers_more : (test : ℕ → Bool) (n : ℕ) (made next : List Device) (d : Device) → next ≡ made ++ d ∷ []

@@ -1,32 +1,19 @@
 -- Histories that go on: looks in them, the last looks of a run, and how a run that was cut goes on.
-use Rattle.std.proofs.Common.{◌≡◌, ◌≢◌, ◌⊎◌, ℕ, zero, suc, ◌+◌, ◌<◌, ◌≤◌, List, [], ◌∷◌, ◌++◌, length, map, filter}
-use Rattle.std.proofs.Common.{get_or, set, replicate, cond, eqb, inl, inr, refl, sym, ap, subst, ◌∙◌, arith, eq-eqb}
-use Rattle.std.proofs.Common.{ne_eqb, length-set, ◌*◌, flat_map, take, drop, append_assoc, length-append, ◌-◌, Some}
-use Rattle.std.proofs.Common.{append-nil, length-drop, ⊎_elim}
-use Rattle.std.proofs.lemmas.List.Elements.{filter-append}
-use mathlib.Core.List.{map-append}
-use mathlib.Core.Logic.{dite}
-use native.Mathlib.Decide.{ℕ_discrete, dec_lt}
-use Rattle.rt_words.specs.declared.call.Call.{Call}
-use Rattle.rt_words.specs.declared.call.Call.TheVariants.{Pend, Latch}
-use Rattle.rt_words.specs.Object.{after}
-use Rattle.rt_words.specs.History.{LeavesWords, part, entries, IsLegal, CallsLast}
-use Rattle.rt_words.specs.declared.call.Entry.{Entry}
-use Rattle.rt_words.proofs.Bits.{zero_here, zero_below, zeros as zeros_at}
-use Rattle.rt_live.specs.Interleaving.{look_calls_from, last_turns, looks, turns, look_calls, last_looks, with_looks}
-use Rattle.rt_live.specs.Interleaving.{look_arrivals, interleaving}
-use Rattle.std.specs.List.{AllByRecursion}
-use Rattle.std.proofs.lemmas.List.{take-append-drop, drop-append-le, ext_get_or, nil_from_length}
-use Rattle.std.proofs.lemmas.List.Concat.{flat_map-append}
-use Rattle.rt_ids.specs.Event.{Event, Step, steps}
-use Rattle.rt_script.specs.Script.{core_events, pends}
-use Rattle.rt_script.specs.declared.line.Line.{Line}
-use Rattle.rt_live.specs.Going.{IsWholeLook}
-use Rattle.rt_live.specs.History.{IsEmptyLook, IsHistory}
+use Rattle.rt_live.proofs.Vocabulary.{AllByRecursion, Call, CallsLast, Entry, Event, IsEmptyLook, IsHistory, IsLegal}
+use Rattle.rt_live.proofs.Vocabulary.{IsWholeLook, Latch, LeavesWords, Line, List, Pend, Some, Step, [], after}
+use Rattle.rt_live.proofs.Vocabulary.{all_append, ap, append-nil, append_assoc, arith, core_events, dec_lt, dite, drop}
+use Rattle.rt_live.proofs.Vocabulary.{filter, filter-append, flat_map, flat_map-append, get_or, inl, inr, interleaving}
+use Rattle.rt_live.proofs.Vocabulary.{interrupt_asked, last_turns, length, length-append, length-set, look_arrivals}
+use Rattle.rt_live.proofs.Vocabulary.{look_calls, look_calls_from, looks, map, map-append, nil_from_length, part}
+use Rattle.rt_live.proofs.Vocabulary.{part_first, pends, refl, replicate, set, steps, subst, suc, sym, take}
+use Rattle.rt_live.proofs.Vocabulary.{take-append-drop, turns, with_looks, zero, zeros_at, ℕ, ℕ_discrete, ⊎_elim, ◌*◌}
+use Rattle.rt_live.proofs.Vocabulary.{◌++◌, ◌+◌, ◌-◌, ◌<◌, ◌∙◌, ◌∷◌, ◌≡◌, ◌≢◌, ◌≤◌, ◌⊎◌}
 use Rattle.rt_live.proofs.Woven.{looks-append, looks_own, repeated_steps, length-latches, cut_before}
-use Rattle.rt_live.proofs.Woven.{interleaving_finished}
-use Rattle.rt_lemmas.proofs.Membership.{all_append}
-use Rattle.rt_devices.specs.Work.{interrupt_asked}
+use Rattle.rt_live.proofs.Woven.{interleaving_finished, latches_on}
+use Rattle.std.proofs.{Common.eqb, Common.length-drop, lemmas.List.drop-append-le, lemmas.List.ext_get_or}
+use Rattle.rt_words.specs.History.{entries}
+use Rattle.rt_words.proofs.{Bits.zero_here, Bits.zero_below, Parting.part_rest}
+use Rattle.rt_live.specs.Interleaving.{last_looks}
 
 -- a history, and one that goes on
 pub leads_on : (a b c : List ℕ) (front behind : List Entry) → LeavesWords a front b → LeavesWords b behind c
@@ -59,17 +46,11 @@ part_on front behind n =
 pub part_own : (n : ℕ) (calls : List Call) → part (entries n calls) n ≡ calls
 part_own n [] = refl
 part_own n (c ∷ cs) =
-    let e : Entry = record { line = n; call = c } in
-    let rest : List Entry = filter (λ (x : Entry). eqb x.line n) (entries n cs) in
-    ap (λ b. map (λ (x : Entry). x.call) (cond b (e ∷ rest) rest)) (eq-eqb n n refl)
-    ∙ ap (λ (t : List Call). c ∷ t) (part_own n cs)
+    part_first (record { line = n; call = c }) (entries n cs) n refl ∙ ap (λ (t : List Call). c ∷ t) (part_own n cs)
 
 pub part_other : (n m : ℕ) (calls : List Call) → n ≢ m → part (entries n calls) m ≡ []
 part_other n m [] ne = refl
-part_other n m (c ∷ cs) ne =
-    let e : Entry = record { line = n; call = c } in
-    let rest : List Entry = filter (λ (x : Entry). eqb x.line m) (entries n cs) in
-    ap (λ b. map (λ (x : Entry). x.call) (cond b (e ∷ rest) rest)) (ne_eqb n m ne) ∙ part_other n m cs ne
+part_other n m (c ∷ cs) ne = part_rest (record { line = n; call = c }) (entries n cs) m ne ∙ part_other n m cs ne
 
 -- words of 0
 abbrev pub zeros : ℕ → List ℕ
@@ -107,8 +88,7 @@ look_leaves k [] words left leads j (inr none) = ap (λ (vs : List ℕ). get_or 
 look_leaves k (w ∷ ws) words left leads j (inr none) =
     look_leaves (suc k) ws (set words k 0) left leads.1 j (inr (still_zero words k j none))
 look_leaves k (w ∷ ws) words left leads j (inl within) =
-    dite (ℕ_discrete k j)
-    (λ e. look_leaves (suc k) ws (set words k 0) left leads.1 j
+    dite (ℕ_discrete k j) (λ e. look_leaves (suc k) ws (set words k 0) left leads.1 j
     (inr (subst (λ i. get_or (set words k 0) i 0 ≡ 0) e (zero_here words k))))
     (λ ne. look_leaves (suc k) ws (set words k 0) left leads.1 j
     (inl (omega (arith, within.0, ne), omega (arith, within.1))))
@@ -119,18 +99,8 @@ pub look_empty : (k : ℕ) (ws words left : List ℕ) → LeavesWords words (ent
 look_empty k [] words left leads none = refl
 look_empty k (w ∷ ws) words left leads none =
     ap (λ (v : ℕ). v ∷ ws) (leads.0 ∙ none k (omega arith) (omega arith))
-    ∙ ap (λ (vs : List ℕ). 0 ∷ vs)
-    (look_empty (suc k) ws (set words k 0) left leads.1
+    ∙ ap (λ (vs : List ℕ). 0 ∷ vs) (look_empty (suc k) ws (set words k 0) left leads.1
     (λ j from below. still_zero words k j (none j (omega (arith, from)) (omega (arith, below)))))
-
-pub latches_on : (k : ℕ) (xs ys : List ℕ) → look_calls_from k (xs ++ ys) ≡ look_calls_from k xs
-    ++ look_calls_from (k + length xs) ys
-latches_on k [] ys = ap (λ n. look_calls_from n ys) (let e : k ≡ k + 0 = omega arith in e)
-latches_on k (x ∷ xs) ys =
-    ap (λ (t : List Call). Latch k x ∷ t)
-    (latches_on (suc k) xs ys
-    ∙ ap (λ n. look_calls_from (suc k) xs ++ look_calls_from n ys)
-    (let e : suc k + length xs ≡ k + length (x ∷ xs) = omega arith in e))
 
 abbrev entry_of_core : Call → Entry
 entry_of_core call = record { line = 255; call = call }
@@ -273,8 +243,7 @@ closes_whole {script = script} {found = found} {left = left} {history = history}
     let empty = later_empty history (last_looks script found) left cut.legal ended (whole_behind n found whole)
     (omega (arith, many, all_looks script, length-drop n found)) in
     let none : left ≡ zeros 32 =
-    ext_get_or 0 left (zeros 32)
-    (led_as_many (zeros 32) left history cut.legal)
+    ext_get_or 0 left (zeros 32) (led_as_many (zeros 32) left history cut.legal)
     (λ k below. dite (dec_lt k 16) (λ own. empty.1 k own) (λ far. cut.behind k (omega (arith, far)))
     ∙ sym (zeros_at 32 k)) in (
       record {
@@ -295,12 +264,10 @@ module _ {script : List Line} {found : List (List ℕ)} {last left : List ℕ} {
       ≡ flat_map look_calls ((found ++ (last ++ rest) ∷ []) ++ [] ∷ [])
   latched_on rest =
       let front : List Call = flat_map look_calls found in
-      ap (λ (t : List Call). t ++ look_calls_from (length last) rest)
-      (flat_map-append look_calls found (last ∷ [])
+      ap (λ (t : List Call). t ++ look_calls_from (length last) rest) (flat_map-append look_calls found (last ∷ [])
       ∙ ap (λ (t : List Call). front ++ t) (append-nil (look_calls last)))
       ∙ append_assoc front (look_calls last) (look_calls_from (length last) rest)
-      ∙ ap (λ (t : List Call). front ++ t)
-      (ap (λ k. look_calls last ++ look_calls_from k rest)
+      ∙ ap (λ (t : List Call). front ++ t) (ap (λ k. look_calls last ++ look_calls_from k rest)
       (let e : length last ≡ 0 + length last = omega arith in e)
       ∙ sym (latches_on 0 last rest) ∙ sym (append-nil (look_calls (last ++ rest))))
       ∙ sym (flat_map-append look_calls found ((last ++ rest) ∷ []))
@@ -320,8 +287,7 @@ module _ {script : List Line} {found : List (List ℕ)} {last left : List ℕ} {
             ∙ ap (λ (t : List Call). t ++ calls) cut.core
             ∙ latched_on look.found;
         devices = λ number ne.
-            ap (map interrupt_asked)
-            (part_on history (entries 255 calls) number
+            ap (map interrupt_asked) (part_on history (entries 255 calls) number
             ∙ ap (λ (t : List Call). part history number ++ t) (part_other 255 number calls (λ e. ne (sym e)))
             ∙ append-nil (part history number))
             ∙ cut.devices number ne;
@@ -371,8 +337,7 @@ looks_on {script = script} (suc n) {found = found} {last = last} cut whole short
     let look : List ℕ = last ++ one.rest in
     let more : GoesOn script (found ++ look ∷ one.others) [] n = looks_on n one.cut one.whole (omega arith) in
     let joined : (found ++ look ∷ one.others) ++ more.rest ∷ more.others ≡ found ++ look ∷ more.rest ∷ more.others =
-    ap (λ (os : List (List ℕ)). (found ++ look ∷ os) ++ more.rest ∷ more.others)
-    (nil_from_length one.others one.many)
+    ap (λ (os : List (List ℕ)). (found ++ look ∷ os) ++ more.rest ∷ more.others) (nil_from_length one.others one.many)
     ∙ append_assoc found (look ∷ []) (more.rest ∷ more.others) in
     record {
       rest = one.rest;
@@ -411,8 +376,7 @@ module _ {script : List Line} {found : List (List ℕ)} {last left : List ℕ} {
     many = many;
     whole = whole;
     history = history;
-    is =
-        (closes_whole (subst (λ (l : List ℕ). IsCutHistory script found l left history) none cut) whole many).0;
+    is = (closes_whole (subst (λ (l : List ℕ). IsCutHistory script found l left history) none cut) whole many).0;
     behind = [];
     interleavings =
         sym (append-nil (interleaving (turns script) found))
@@ -424,6 +388,5 @@ module _ {script : List Line} {found : List (List ℕ)} {last left : List ℕ} {
       → (length found < looks (turns script)) ⊎ ((last ≡ []) × (length found ≤ looks (turns script)))
       → Extends script found last
   extend short few =
-      dite (dec_lt (length found) (looks (turns script)))
-      (λ more. extend_look short more)
+      dite (dec_lt (length found) (looks (turns script))) (λ more. extend_look short more)
       (λ all. ⊎_elim (λ more. absurd (all more)) (λ done. extend_none done.0 (omega (arith, all, done.1))) few)

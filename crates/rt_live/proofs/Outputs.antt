@@ -1,83 +1,44 @@
 -- What was written of a run is a text that `live` allows, or a beginning of one, by what the closed words tell.
-use Rattle.std.proofs.Common.{◌≡◌, ◌⊎◌, ℕ, ◌+◌, ◌<◌, ◌≤◌, List, [], ◌∷◌, ◌++◌, length, flat_map, replicate, inl, refl}
-use Rattle.std.proofs.Common.{sym, ap, subst, ◌∙◌, arith, append_assoc, ◌≢◌, inr, map, drop, Contains}
-use Rattle.std.proofs.Common.{Some, get_or}
-use Rattle.std.specs.List.{AllByRecursion}
-use Rattle.std.proofs.lemmas.List.{length-map}
-use Rattle.rt_ids.specs.Event.{Event, steps}
-use Rattle.rt_code.specs.Image.{Image}
-use Rattle.rt_core.specs.Core.{Core}
-use Rattle.rt_core.specs.Machine.{Machine, IsFresh}
-use Rattle.rt_core.specs.Trace.{core_after, labels, trace}
-use Rattle.rt_outside.specs.Bytes.{TookPrefix, Took}
-use Rattle.rt_run.specs.Sending.{Breaks, lines_of}
+use Rattle.rt_live.proofs.Vocabulary.{AllByRecursion, AllGathered, AreGathered, AreReady, Breaks, Call, Caller}
+use Rattle.rt_live.proofs.Vocabulary.{CallsLast, Contains, DeviceLine, DeviceThread as Device, Done, Ended, Entry}
+use Rattle.rt_live.proofs.Vocabulary.{Event, HasDeviceInRange, HasLived, HasMade, HasName, HasRoom, HasWrittenPart}
+use Rattle.rt_live.proofs.Vocabulary.{IRQ_NUMBERS, Image, IsBalanced, IsFresh, IsHistory, IsLiveText, IsScript, IsTally}
+use Rattle.rt_live.proofs.Vocabulary.{IsWholeLook, Line, List, Machine, Names, OneHistory, Part, Pends, Row, Sends}
+use Rattle.rt_live.proofs.Vocabulary.{Some, Steps, Tally, Ticks, Took, TookPrefix, [], account_of, account_text}
+use Rattle.rt_live.proofs.Vocabulary.{all_has, all_weaker, ap, append_assoc, arith, bit_in_row, breaks_before, calls_in}
+use Rattle.rt_live.proofs.Vocabulary.{core_after, declared_irqs, device_pends, drop, false, flat_map, get_or, inl, inr}
+use Rattle.rt_live.proofs.Vocabulary.{interleaving, interrupt_asked, is_device, length, length-map, lines_of}
+use Rattle.rt_live.proofs.Vocabulary.{look_arrivals, look_calls, looks, map, merged_count, no_route, numbers, part}
+use Rattle.rt_live.proofs.Vocabulary.{part_more, part_on, pends, raised_count, refl, replicate, settled_row, steps}
+use Rattle.rt_live.proofs.Vocabulary.{subst, sym, took_on, total_text, true, turns, with_counts, ℕ, ◌++◌, ◌+◌, ◌<◌, ◌∙◌}
+use Rattle.rt_live.proofs.Vocabulary.{◌∷◌, ◌≡◌, ◌≢◌, ◌≤◌, ◌⊎◌}
 use Rattle.rt_run.proofs.Advancing.{lines_split}
-use Rattle.rt_run.proofs.Sent.{breaks_before}
-use Rattle.rt_run.proofs.Taking.{part_more, part_on, took_on}
-use Rattle.rt_script.specs.Script.{HasDeviceInRange, HasName, IsScript, pends}
-use Rattle.rt_script.specs.declared.line.Line.{Line}
-use Rattle.rt_script.specs.declared.line.Line.TheVariants.{Steps, Ticks, Pends, Device as DeviceLine}
-use Rattle.rt_trace.specs.Label.{items_of}
-use Rattle.rt_trace.specs.Text.{text, total_text}
-use Rattle.rt_words.specs.Account.{IsTally, raised_count, merged_count}
-use Rattle.rt_words.specs.Ending.{AllGathered, OneHistory, calls_in}
-use Rattle.rt_words.specs.History.{CallsLast, part}
-use Rattle.rt_words.specs.Lines.{Row, Line as Caller, numbers}
-use Rattle.rt_words.specs.Row.{bit_in_row}
-use Rattle.rt_words.specs.declared.call.Call.{Call}
-use Rattle.rt_words.specs.declared.call.Entry.{Entry}
-use Rattle.rt_words.specs.declared.tally.Tally.{Tally}
-use Rattle.rt_words.specs.declared.view.Part.{Part}
 use Rattle.rt_words.proofs.Lists.{dec_in, of_map}
-use Rattle.rt_lemmas.proofs.Membership.{all_has, all_weaker}
-use Rattle.rt_ids.specs.Names.{Names}
-use Rattle.rt_ids.specs.declared.limits.TheConstants.{IRQ_NUMBERS}
-use Rattle.rt_devices.specs.Work.{interrupt_asked}
-use Rattle.rt_devices.specs.declared.device.Device.{Device}
-use Rattle.rt_live.specs.Account.{HasRoom, account_of, account_text, declared_irqs, settled_row, with_counts}
-use Rattle.rt_live.specs.Devices.{is_device}
-use Rattle.rt_live.specs.Doing.{HasWrittenPart, HasLived, HasWritten}
-use Rattle.rt_live.specs.Going.{IsWholeLook, Goes}
-use Rattle.rt_live.specs.History.{IsHistory, device_pends}
-use Rattle.rt_live.specs.Interleaving.{looks, turns, look_arrivals, interleaving, look_calls}
-use Rattle.rt_live.specs.Output.{IsLiveText, IsBalanced}
-use Rattle.rt_live.specs.Ready.{AreGathered, AreReady, HasMade, core_line}
-use Rattle.rt_live.specs.Requests.{no_route}
-use Rattle.rt_live.specs.Written.{live_text, EndsWhole, EndsEarly}
-use Rattle.rt_live.specs.declared.account.AccountRow.{AccountRow}
-use Rattle.rt_live.proofs.Ended.{cut_calls, fresh_text, woven_calls}
-use Rattle.rt_live.proofs.Made.{few_below}
-use Rattle.rt_live.proofs.Onward.{IsCutHistory, Extends, extend, all_looks, closes_whole, zeros}
-use Rattle.rt_live.proofs.Readied.{bit_here, declared_low, made_short}
-use Rattle.rt_live.proofs.Requested.{all_counted, all_latched, nothing_pending}
-use Rattle.rt_live.proofs.Requesting.{IsNumbered, devices_first, not_asked}
-use Rattle.rt_live.proofs.Tallied.{IsShort, counts_fit, rows_settled}
-use Rattle.rt_live.proofs.Weaving.{IsWoven, cut_of, weave}
-
--- from reset, the lines of the first events begin those of all
-lines_begin : (m : Machine) (done behind : List Event) → IsFresh m
-    → (more : List ℕ) × (flat_map (text m.image.names) (trace m.image (done ++ behind)) ≡ lines_of m done ++ more)
-lines_begin m done behind fresh =
-    let next : Machine =
-    record { image = m.image; core = core_after m.image m.core done; steps = m.steps + steps done } in
-    let names = m.image.names in
-    let all : List Event = done ++ behind in
-    let same : flat_map (text names) (trace m.image all) ≡ lines_of m all =
-    ap (λ (c : Core). flat_map (text names) (items_of 0 (labels m.image c all))) (sym fresh.core)
-    ∙ ap (λ n. flat_map (text names) (items_of n (labels m.image m.core all))) (sym fresh.steps) in
-    (lines_of next behind, same ∙ lines_split done behind m next record { image = refl; core = refl; steps = refl })
+use Rattle.rt_live.specs.{Doing.HasWritten, Written.live_text, declared.account.AccountRow.AccountRow}
+use Rattle.rt_live.proofs.{Ended.fresh_text, Made.few_below, Onward.IsCutHistory, Onward.Extends, Onward.extend}
+use Rattle.rt_live.proofs.{Onward.all_looks, Onward.closes_whole, Onward.zeros, Readied.bit_here, Readied.declared_low}
+use Rattle.rt_live.proofs.{Readied.made_short, Requested.all_counted, Requested.all_latched, Requested.nothing_pending}
+use Rattle.rt_live.proofs.{Requesting.IsNumbered, Requesting.devices_first, Requesting.not_asked, Tallied.IsShort}
+use Rattle.rt_live.proofs.{Tallied.counts_fit, Tallied.rows_settled, Weaving.IsWoven, Weaving.nowhere, Weaving.sends_of}
+use Rattle.rt_live.proofs.{Weaving.weave}
 
 -- the text of looks that go on begins with the lines of the events so far
 text_begins : (m : Machine) (script : List Line) (found : List (List ℕ)) (done behind : List Event) → IsFresh m
     → interleaving (turns script) found ≡ done ++ behind
     → (more : List ℕ) × (live_text m.image script found ≡ lines_of m done ++ more)
 text_begins m script found done behind fresh parts =
-    let begin = lines_begin m done behind fresh in
-    let last : List ℕ = flat_map total_text (steps (interleaving (turns script) found) ∷ []) in (
-      begin.0 ++ last,
-      ap (λ es. flat_map (text m.image.names) (trace m.image es) ++ last) parts
-          ∙ ap (λ (t : List ℕ). t ++ last) begin.1
-          ∙ append_assoc (lines_of m done) begin.0 last,
+    let after : List Event → Machine = λ es. record {
+      image = m.image;
+      core = core_after m.image m.core es;
+      steps = m.steps + steps es;
+    } in
+    let all : List Event = interleaving (turns script) found in
+    let total : List ℕ = total_text (after all).steps in (
+      lines_of (after done) behind ++ total,
+      sym (fresh_text m (after all) all fresh record { image = refl; core = refl; steps = refl })
+          ∙ ap (λ (t : List ℕ). t ++ total) (ap (lines_of m) parts
+          ∙ lines_split done behind m (after done) record { image = refl; core = refl; steps = refl })
+          ∙ append_assoc (lines_of m done) (lines_of (after done) behind) total,
     )
 
 -- the account of a history
@@ -114,8 +75,7 @@ part_cut m next {script = script} {found = found} {last = last} x y fresh cut wh
         bytes = live_text m.image script e.all ++ account;
         is = live_whole m.image script e.all e.history e.many e.whole e.is;
         took =
-            subst (TookPrefix x y)
-            (sym (append_assoc (lines_of m came) begins.0 account)
+            subst (TookPrefix x y) (sym (append_assoc (lines_of m came) begins.0 account)
             ∙ ap (λ (t : List ℕ). t ++ account) (sym begins.1))
             (part_more x y (lines_of m came) (begins.0 ++ account) of_all.cut);
       };
@@ -142,21 +102,18 @@ balanced script found history is ranges (irq ∷ irqs) within = (
 module _ {names : Names} {script : List Line} {row : Row} {line : Caller} {rows : List AccountRow}
     (scripted : IsScript script) (gathered : AreGathered names script row line rows) where
   pub all_gathered : AllGathered line.made line.gathered
-  all_gathered number made =
-      subst (λ (ns : List ℕ). Contains ns number) (sym gathered.each) (gathered.made number made)
+  all_gathered number made = subst (λ (ns : List ℕ). Contains ns number) (sym gathered.each) (gathered.made number made)
 
   -- there is room for the counts of the core's own line
   pub rows_fit : AllByRecursion HasRoom rows
   rows_fit =
-      subst (AllByRecursion HasRoom) (sym gathered.counted)
-      (counts_fit 0 line.gathered
+      subst (AllByRecursion HasRoom) (sym gathered.counted) (counts_fit 0 line.gathered
       (all_weaker (HasMade script) IsShort (made_short script scripted) line.gathered gathered.asked)
       (omega (
         arith,
         sym (length-map line.gathered (λ (p : Part). p.line)) ∙ ap length gathered.each,
         few_below (is_device script) 16,
-      ))
-      (declared_irqs names))
+      )) (declared_irqs names))
 
   -- the words were closed, and left these bits
   module _ {bits : List ℕ} (h : OneHistory line bits) (behind : (k : ℕ) → 16 ≤ k → get_or bits k 0 ≡ 0) where
@@ -170,35 +127,33 @@ module _ {names : Names} {script : List Line} {row : Row} {line : Caller} {rows 
           (ap (map interrupt_asked) (h.gathered p.0 p.1.0) ∙ all_has _ line.gathered p.0 gathered.asked p.1.0)
       | no out ↦
           ap (map interrupt_asked) (h.unmade number ne (λ made. out (all_gathered number made)))
-          ∙ ap (map (λ (irq : ℕ). Some irq))
-          (sym (not_asked number script scripted.devices
+          ∙ ap (map (λ (irq : ℕ). Some irq)) (sym (not_asked number script scripted.devices
           (λ there. out (subst (λ (ns : List ℕ). Contains ns number) (sym gathered.each) there))))
     ]
 
     cut_history : (found : List (List ℕ)) (last : List ℕ) → line.calls ≡ flat_map look_calls (found ++ last ∷ [])
         → IsCutHistory script found last bits h.history
-    cut_history found last latched =
-        record {
-          legal = h.legal;
-          core = h.own ∙ latched;
-          devices = asked;
-          since = line.since;
-          within = omega (arith, gathered.behind, ap length latched);
-          early = gathered.early;
-          ended =
-              subst (λ (cs : List Call). CallsLast h.history 255 (drop line.since cs)) latched h.last;
-          behind = behind;
-        }
+    cut_history found last latched = record {
+      legal = h.legal;
+      core = h.own ∙ latched;
+      devices = asked;
+      since = line.since;
+      within = omega (arith, gathered.behind, ap length latched);
+      early = gathered.early;
+      ended = subst (λ (cs : List Call). CallsLast h.history 255 (drop line.since cs)) latched h.last;
+      behind = behind;
+    }
 
     module _ {old next : Machine} (fresh : IsFresh old) where
       -- all turns were done
-      module _ {x shown : List ℕ}
-          (run : Goes no_route (turns script) (core_line row []) (core_line row line.calls) old next x shown) where
-        abbrev all : IsWoven no_route (turns script) (core_line row []) (core_line row line.calls) old next x shown
+      module _ {x shown : List ℕ} (run : Done no_route 0 0 true (turns script) line.calls old next x shown) where
+        abbrev all : IsWoven no_route 0 0 true (turns script) line.calls old next x shown
         all = weave run
 
         allowed : IsHistory script all.found h.history × (bits ≡ zeros 32)
-        allowed = closes_whole (cut_history all.found [] (woven_calls all)) all.whole all.many
+        allowed =
+            closes_whole (subst (λ ws. IsCutHistory script all.found ws bits h.history) all.reach.1
+            (cut_history all.found all.last (all.alone nowhere refl))) all.whole all.reach.0
 
         -- the text of the run, its lines, and the line of the total
         abbrev told : List ℕ
@@ -207,8 +162,11 @@ module _ {names : Names} {script : List Line} {row : Row} {line : Caller} {rows 
         abbrev lines : List ℕ
         lines = lines_of old (interleaving (turns script) all.found)
 
+        abbrev sends : Sends (interleaving (turns script) all.found) old next x shown
+        sends = sends_of all
+
         all_text : lines ++ total_text next.steps ≡ told
-        all_text = fresh_text old next (interleaving (turns script) all.found) fresh all.sends.leads
+        all_text = fresh_text old next (interleaving (turns script) all.found) fresh sends.leads
 
         -- a fault came in the line of the total
         total_part : (y : List ℕ) → TookPrefix shown y (total_text next.steps) → HasWrittenPart script old next x y
@@ -217,28 +175,26 @@ module _ {names : Names} {script : List Line} {row : Row} {line : Caller} {rows 
             record {
               part = record {
                 bytes = told ++ account;
-                is = live_whole old.image script all.found h.history all.many all.whole allowed.0;
+                is = live_whole old.image script all.found h.history all.reach.0 all.whole allowed.0;
                 took =
-                    part_more x y told account
-                    (subst (TookPrefix x y) all_text
-                    (part_on x shown y lines (total_text next.steps) all.sends.took part));
+                    part_more x y told account (subst (TookPrefix x y) all_text
+                    (part_on x shown y lines (total_text next.steps) sends.took part));
               };
-              done = inr (all.sends.leads, (part.0, took_on x shown y lines part.0 all.sends.took part.2));
+              done = inr (sends.leads, (part.0, took_on x shown y lines part.0 sends.took part.2));
             }
 
-      pub failed_part : (x y : List ℕ)
-          → EndsEarly no_route (turns script) (core_line row []) (core_line row line.calls) old next x y
+      pub failed_part : (x y : List ℕ) → Ended no_route 0 0 (turns script) false line.calls old next x y
           → HasWrittenPart script old next x y
       failed_part x y (inl stops) =
-          let cut = cut_of stops in
-          part_cut old next x y fresh (cut_history cut.found cut.last (cut_calls cut)) cut.whole cut.short cut.few
-          cut.breaks
-      failed_part x y (inr ends) = total_part ends.goes y ends.total
+          let cut = weave stops in
+          part_cut old next x y fresh (cut_history cut.found cut.last (cut.alone nowhere refl)) cut.whole cut.short
+          cut.reach cut.comes
+      failed_part x y (inr ends) = total_part ends.done y ends.total
 
       -- the rows with what the core's own line counted, and with what is left, are the account
       module _ (own : Tally) (told : IsTally line.here line.there line.calls own)
           (low : AllByRecursion (λ irq. irq < IRQ_NUMBERS) (declared_irqs names)) (x y : List ℕ)
-          (ends : EndsWhole no_route (turns script) (core_line row []) (core_line row line.calls) old next x y) where
+          (ends : Ended no_route 0 0 (turns script) true line.calls old next x y) where
         abbrev settled : List AccountRow
         settled = map (settled_row 0 bits) (map (with_counts 0 0 0 own) rows)
 
@@ -253,33 +209,31 @@ module _ {names : Names} {script : List Line} {row : Row} {line : Caller} {rows 
             ∙ rows_settled 0 0 0 line bits h own
             (subst (λ (l : Caller). IsTally l.here l.there line.calls own) gathered.first told)
             (declared_irqs names) small
-            ∙ ap (account_of 0 (declared_irqs names) (calls_in h.history)) (allowed ends.goes).1
+            ∙ ap (account_of 0 (declared_irqs names) (calls_in h.history)) (allowed ends.done).1
 
         -- each row counts all pends of its interrupt, and nothing is left
         pub rows_balanced : AllByRecursion (IsBalanced script) settled
         rows_balanced =
             subst (AllByRecursion (IsBalanced script)) (sym account_is)
-            (balanced script (all ends.goes).found h.history (allowed ends.goes).0 scripted.devices
-            (declared_irqs names)
-            small)
+            (balanced script (all ends.done).found h.history (allowed ends.done).0 scripted.devices
+            (declared_irqs names) small)
 
         pub has_lived : names ≡ old.image.names → HasLived script old next x y settled
         has_lived named = record {
           lives = record {
-            found = (all ends.goes).found;
-            many = (all ends.goes).many;
-            whole = (all ends.goes).whole;
+            found = (all ends.done).found;
+            many = (all ends.done).reach.0;
+            whole = (all ends.done).whole;
             history = h.history;
-            is = (allowed ends.goes).0;
+            is = (allowed ends.done).0;
             took =
-                subst (Took x y) (all_text ends.goes)
-                (took_on x ends.shown y (lines ends.goes) (total_text next.steps)
-                (all ends.goes).sends.took ends.total);
+                subst (Took x y) (all_text ends.done) (took_on x ends.shown y (lines ends.done) (total_text next.steps)
+                (sends ends.done).took ends.total);
             account =
                 account_is
                 ∙ ap (λ (n : Names). account_of 0 (declared_irqs n) (calls_in h.history) (replicate 32 0)) named;
           };
-          leads = (all ends.goes).sends.leads;
+          leads = (sends ends.done).leads;
         }
 
 -- a run that went whole, and the account behind its trace, or a beginning of it
@@ -295,8 +249,7 @@ module _ {script : List Line} {old next : Machine} {x y : List ℕ} {rows : List
   account_same = ap (λ (n : Names). account_text n rows) named ∙ ap (account_text old.image.names) run.lives.account
 
   abbrev whole_text : IsLiveText old.image script (traced ++ account)
-  whole_text =
-      live_whole old.image script run.lives.found run.lives.history run.lives.many run.lives.whole run.lives.is
+  whole_text = live_whole old.image script run.lives.found run.lives.history run.lives.many run.lives.whole run.lives.is
 
   pub has_written : Took y z (account_text names rows) → HasWritten script old next x z
   has_written took = record {

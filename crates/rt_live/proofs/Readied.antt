@@ -1,47 +1,25 @@
 -- A run that is made ready, and what it is when its devices have worked and their lines are gathered.
-use Rattle.std.proofs.Common.{◌≡◌, ℕ, suc, ◌+◌, ◌*◌, ◌<◌, ◌≤◌, ◌==◌, Bool, true, false, if◌then◌else◌}
-use Rattle.std.proofs.Common.{List, [], ◌∷◌, ◌++◌, map, replicate, length, Contains, IsSome, Some}
-use Rattle.std.proofs.Common.{find, take, drop, inl, inr, refl, ap, sym, subst, ◌∙◌, arith, eq-eqb}
-use Rattle.std.specs.Prelude.{All}
-use Rattle.std.specs.List.{AllByRecursion}
-use Rattle.std.proofs.lemmas.Bool.{eqb-true, false≢true}
-use Rattle.std.proofs.lemmas.List.{length-append, length-map, length-replicate, take_at}
-use Rattle.std.proofs.lemmas.List.Elements.{All-from_recursion}
-use Rattle.std.proofs.lemmas.List.Sums.{sum_by-cons}
+use Rattle.rt_live.proofs.Vocabulary.{All, AllByRecursion, AreGathered, AreReady, Bool, CORE_WORDS, Call, Caller, CanGo}
+use Rattle.rt_live.proofs.Vocabulary.{CanWork, Contains, DeviceLine, HasBits, HasLines, HasMade, HasName, IRQ_NUMBERS}
+use Rattle.rt_live.proofs.Vocabulary.{IsAble, IsBeside, IsDeclared, IsFresh, IsPending, IsScript, IsWaiting, Line, List}
+use Rattle.rt_live.proofs.Vocabulary.{Machine, Names, Part, Pends, Row, Some, Steps, Ticks, [], all_flat_map, all_has}
+use Rattle.rt_live.proofs.Vocabulary.{all_map, all_weaker, ap, arith, bit_in_row, contains_cases, contains_here}
+use Rattle.rt_live.proofs.Vocabulary.{contains_none, contains_there, core_events, count, count_of, counted_row}
+use Rattle.rt_live.proofs.Vocabulary.{declared_irqs, drop, empty_row, entries_of, eq-eqb, false, false≢true, find}
+use Rattle.rt_live.proofs.Vocabulary.{if◌then◌else◌, inl, inr, interrupt_asked, irqs_of, is_device, length}
+use Rattle.rt_live.proofs.Vocabulary.{length-append, length-map, length-replicate, line_pends, maker_line, map}
+use Rattle.rt_live.proofs.Vocabulary.{no_route, none-some, numbers, part_of, pends, refl, replicate, requests}
+use Rattle.rt_live.proofs.Vocabulary.{row_count, steps, subst, suc, sum_by-cons, sym, take, take_at, true, word_in_row}
+use Rattle.rt_live.proofs.Vocabulary.{ℕ, ◌*◌, ◌++◌, ◌+◌, ◌<◌, ◌==◌, ◌∙◌, ◌∷◌, ◌≡◌, ◌≤◌}
+use Rattle.std.proofs.{Common.IsSome, lemmas.Bool.eqb-true, lemmas.List.Elements.All-from_recursion}
 use Rattle.rt_lemmas.proofs.Bools.{true_and_false}
-use Rattle.rt_lemmas.proofs.Lists.{all_map}
-use Rattle.rt_lemmas.proofs.Membership.{all_flat_map, all_has, all_weaker}
-use Rattle.rt_lemmas.proofs.Membership.{contains_here, contains_there, contains_cases, contains_none}
-use Rattle.rt_ids.specs.Event.{steps}
-use Rattle.rt_ids.specs.Names.{Names}
-use Rattle.rt_ids.specs.declared.limits.TheConstants.{IRQ_NUMBERS, DEVICES}
-use Rattle.rt_code.specs.Lines.{HasLines}
+use Rattle.rt_ids.specs.declared.limits.TheConstants.{DEVICES}
 use Rattle.rt_core.specs.Core.{Core as CoreState}
-use Rattle.rt_core.specs.Machine.{Machine, IsFresh}
 use Rattle.rt_run.proofs.Known.{fresh_known}
-use Rattle.std.proofs.lemmas.Option.{none-some}
-use Rattle.rt_script.specs.Script.{IsScript, HasName, core_events, count, pends, line_pends, count_of}
-use Rattle.rt_script.specs.declared.line.Line.{Line}
-use Rattle.rt_script.specs.declared.line.Line.TheVariants.{Steps, Ticks, Pends, Device as DeviceLine}
-use Rattle.rt_devices.specs.Work.{requests, interrupt_asked, Works}
-use Rattle.rt_devices.specs.declared.device.Device.{Device}
-use Rattle.rt_lines.specs.Operand.{IsDeclared}
-use Rattle.rt_words.specs.Lines.{Row, Line as Caller, numbers, new_line, count as row_count}
-use Rattle.rt_words.specs.Row.{bit_in_row, word_in_row}
-use Rattle.rt_words.specs.declared.row.TheConstants.{CORE_WORDS}
-use Rattle.rt_words.specs.Object.{IsPending}
-use Rattle.rt_words.specs.declared.view.Part.{Part}
-use Rattle.rt_live.specs.Account.{declared_irqs, counted_row, empty_row}
-use Rattle.rt_live.specs.Devices.{is_device, entries_of}
-use Rattle.rt_live.specs.Going.{IsSameLine}
-use Rattle.rt_live.specs.Ready.{AreReady, AreGathered, HasBits, HasMade, IsBeside, IsWaiting, irqs_of, maker_line}
-use Rattle.rt_live.specs.Ready.{part_of}
-use Rattle.rt_live.specs.declared.account.AccountRow.{AccountRow}
-use Rattle.rt_live.specs.Able.{IsAble, CanGo}
-use Rattle.rt_live.specs.Requests.{no_route}
-use Rattle.rt_live.specs.Inside.Working.{CanWork, AllWork}
-use Rattle.rt_live.proofs.Made.{entries_request, few_below}
-use Rattle.rt_live.proofs.Tallied.{IsShort, irqs_counted}
+use Rattle.rt_devices.specs.{Work.Works, declared.device.Device.Device}
+use Rattle.rt_words.specs.Lines.{new_line}
+use Rattle.rt_live.specs.{declared.account.AccountRow.AccountRow, Inside.Working.AllWork}
+use Rattle.rt_live.proofs.{Made.entries_request, Made.few_below, Tallied.IsShort, Tallied.irqs_counted, Woven.line_with}
 
 abbrev device_numbers : List Device → List ℕ
 device_numbers ds = map (λ d. d.number) ds
@@ -70,24 +48,22 @@ line_pends_few number (DeviceLine d irq n) = by (d == number)
 
 pends_few : (number : ℕ) (script : List Line) → length (pends script number) ≤ count script
 pends_few number [] = omega arith
-pends_few number (line ∷ script) =
-    omega (
-      arith,
-      length-append (line_pends number line) (pends script number),
-      line_pends_few number line,
-      pends_few number script,
-      sum_by-cons count_of line script,
-    )
+pends_few number (line ∷ script) = omega (
+  arith,
+  length-append (line_pends number line) (pends script number),
+  line_pends_few number line,
+  pends_few number script,
+  sum_by-cons count_of line script,
+)
 
 -- a line that made its device's pends made few calls
 pub made_short : (script : List Line) → IsScript script → (p : Part) → HasMade script p → IsShort p
-made_short script scripted p made =
-    omega (
-      arith,
-      sym (length-map p.calls interrupt_asked) ∙ ap length made ∙ length-map (pends script p.line) (λ irq. Some irq),
-      pends_few p.line script,
-      scripted.few,
-    )
+made_short script scripted p made = omega (
+  arith,
+  sym (length-map p.calls interrupt_asked) ∙ ap length made ∙ length-map (pends script p.line) (λ irq. Some irq),
+  pends_few p.line script,
+  scripted.few,
+)
 
 -- an interrupt of the table is declared
 declared_by : (irqs : List (List ℕ × ℕ)) (irq : ℕ) → Contains (map (λ i. i.1) irqs) irq
@@ -102,9 +78,6 @@ declared_by (i ∷ irqs) irq is = by (declared_by irqs irq) (i.1 == irq) refl
       | inl here ↦ absurd (true_and_false (i.1 == irq) (eq-eqb i.1 irq here) other)
       | inr behind ↦ rest behind
     ]
-
-pub declared_at : (names : Names) (irq : ℕ) → Contains (declared_irqs names) irq → IsDeclared names irq
-declared_at names irq is = declared_by names.irqs irq is
 
 -- and a declared one stands in the table
 table_has : (irqs : List (List ℕ × ℕ)) (irq : ℕ) → IsSome (find (λ (i : List ℕ × ℕ). i.1 == irq) irqs)
@@ -189,20 +162,18 @@ module _ {names : Names} {script : List Line} {row : Row} {line : Caller} {waiti
     words = ap (λ (l : Caller). l.words) waits.line;
     may =
         subst (λ (l : Caller). AllByRecursion (λ (e : ℕ × ℕ). IsPending row.may (bit_in_row l.there e.0))
-        d.script.items) (sym waits.line)
-        (subst (AllByRecursion EntryMay) (sym waits.asks)
+        d.script.items) (sym waits.line) (subst (AllByRecursion EntryMay) (sym waits.asks)
         (all_flat_map EntryMay (entries_of d.number) script
         (all_weaker (HasName names) (λ l. AllByRecursion EntryMay (entries_of d.number l)) (line_may d.number) script
         ready.named)));
-    room =
-        omega (
-          arith,
-          ap (λ (l : Caller). length l.calls) waits.line,
-          ap (λ es. length (requests es)) waits.asks,
-          ap length (entries_request d.number script),
-          pends_few d.number script,
-          ready.scripted.few,
-        );
+    room = omega (
+      arith,
+      ap (λ (l : Caller). length l.calls) waits.line,
+      ap (λ es. length (requests es)) waits.asks,
+      ap length (entries_request d.number script),
+      pends_few d.number script,
+      ready.scripted.few,
+    );
   }
 
   pub can_work : All (CanWork row) waiting
@@ -222,25 +193,23 @@ module _ {names : Names} {script : List Line} {row : Row} {line : Caller} {waiti
     have_ended = all_ended row script ready.scripted waiting ended worked.1 worked.0 ready.waits
 
     pub beside_ended : AllByRecursion (IsBeside row) ended
-    beside_ended =
-        all_weaker (HasEnded row script) (IsBeside row) (λ d is. is.beside) ended have_ended.0
+    beside_ended = all_weaker (HasEnded row script) (IsBeside row) (λ d is. is.beside) ended have_ended.0
 
     pub few_ended : length ended ≤ DEVICES
-    few_ended =
-        omega (
-          arith,
-          worked.1,
-          ap length ready.each,
-          length-map waiting (λ (d : Device). d.number),
-          few_below (is_device script) DEVICES,
-        )
+    few_ended = omega (
+      arith,
+      worked.1,
+      ap length ready.each,
+      length-map waiting (λ (d : Device). d.number),
+      few_below (is_device script) DEVICES,
+    )
 
-    module _ {next : Caller} (same : IsSameLine line next) where
+    module _ {next : Caller} (calls : List Call) (same : next ≡ line_with line calls) where
       next_line : next ≡ record (maker_line row line.made) { calls = next.calls }
       next_line =
-          same.1
-          ∙ ap (λ (l : Caller). record l { calls = line.calls ++ same.0 }) ready.first
-          ∙ ap (λ cs. record (maker_line row line.made) { calls = cs }) (sym (ap (λ (l : Caller). l.calls) same.1))
+          same
+          ∙ ap (λ (l : Caller). record l { calls = line.calls ++ calls }) ready.first
+          ∙ ap (λ cs. record (maker_line row line.made) { calls = cs }) (sym (ap (λ (l : Caller). l.calls) same))
 
       pub are_gathered : {later : Caller} {counted : List AccountRow}
           → length next.calls ≤ 16 * steps (core_events script)
@@ -257,8 +226,7 @@ module _ {names : Names} {script : List Line} {row : Row} {line : Caller} {waiti
             first = refl;
             made = ready.made;
             each = part_numbers ended ∙ have_ended.1 ∙ ready.each;
-            asked =
-                all_map part_of (HasEnded row script) (HasMade script) (λ d is. is.made) ended have_ended.0;
+            asked = all_map part_of (HasEnded row script) (HasMade script) (λ d is. is.made) ended have_ended.0;
             behind = within;
             early = omega (arith, within, early);
             counted = told ∙ ap (map (counted_row 0 (map part_of ended))) rows_irqs;
@@ -276,14 +244,15 @@ written_back n {waiting} ended is long many worked =
 
 -- what is gathered stays so while the line makes calls
 pub still_gathered : {names : Names} {script : List Line} {row : Row} {line next : Caller} {rows : List AccountRow}
-    → AreGathered names script row line rows → IsSameLine line next → AreGathered names script row next rows
-still_gathered {names} {script} {row} {line} {next} {rows} gathered same =
-    subst (λ (l : Caller). AreGathered names script row l rows) (sym same.1) (record {
-      first = ap (λ (l : Caller). record l { calls = line.calls ++ same.0 }) gathered.first;
+    → AreGathered names script row line rows → (calls : List Call) → next ≡ line_with line calls
+    → AreGathered names script row next rows
+still_gathered {names} {script} {row} {line} {next} {rows} gathered calls same =
+    subst (λ (l : Caller). AreGathered names script row l rows) (sym same) (record {
+      first = ap (λ (l : Caller). record l { calls = line.calls ++ calls }) gathered.first;
       made = gathered.made;
       each = gathered.each;
       asked = gathered.asked;
-      behind = omega (arith, gathered.behind, length-append line.calls same.0);
+      behind = omega (arith, gathered.behind, length-append line.calls calls);
       early = gathered.early;
       counted = gathered.counted;
     })
@@ -299,13 +268,12 @@ able_placed {m} fresh lines words many may in_range = record {
   may = λ irq low pending.
       let names = m.image.names in
       let there : Contains (declared_irqs names) irq = (may irq (omega (arith, low))).0 pending in
-      (declared_at names irq there, all_has (λ i. i < IRQ_NUMBERS) (declared_irqs names) irq in_range there);
+      (declared_by names.irqs irq there, all_has (λ i. i < IRQ_NUMBERS) (declared_irqs names) irq in_range there);
 }
 
 -- and the whole run, where all is ready
 module _ {m : Machine} {script : List Line} {row : Row} {line : Caller} {waiting : List Device} {rows : List AccountRow}
-    (fresh : IsFresh m) (lines : HasLines m.image)
-    (ready : AreReady m.image.names script row line waiting rows) where
+    (fresh : IsFresh m) (lines : HasLines m.image) (ready : AreReady m.image.names script row line waiting rows) where
   pub can_ready : CanGo (2 * count script + 1) no_route m line row
   can_ready = record {
     able =
@@ -325,12 +293,7 @@ pub can_gathered : {n : ℕ} {m : Machine} {line next : Caller} {row : Row} (par
     → CanGo n no_route m next row
 can_gathered {n} {m} {row = row} parts is can =
     subst (λ (l : Caller). CanGo n no_route m l row) (sym is) (record {
-      able = record {
-        writable = can.able.writable;
-        words = can.able.words;
-        many = can.able.many;
-        may = can.able.may;
-      };
+      able = record { writable = can.able.writable; words = can.able.words; many = can.able.many; may = can.able.may };
       routed = can.routed;
       few = can.few;
       early = can.early;

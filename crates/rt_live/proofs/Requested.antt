@@ -1,41 +1,19 @@
 -- How often a history that `live` allows raises, merges and latches an interrupt: as often as the script has its
 -- devices pend it.
-use Rattle.std.proofs.Common.{◌≡◌, ℕ, zero, suc, ◌+◌, ◌*◌, ◌/◌, ◌%◌, ◌<◌, ◌≤◌, ◌==◌, Bool, true, false, cond, List, []}
-use Rattle.std.proofs.Common.{◌∷◌, ◌++◌, map, flat_map, replicate, count_by, sum_by, Contains, Some, None, refl, sym}
-use Rattle.std.proofs.Common.{ap, subst, ◌∙◌, arith, eq-eqb, ne_eqb, ⊎_elim}
-use Rattle.std.specs.List.{AllByRecursion}
-use Rattle.std.specs.Int.{bit_at}
-use Rattle.std.proofs.lemmas.List.Sums.{sum_by-cons, sum_by-append}
-use Rattle.std.proofs.lemmas.List.Folds.{sum_by-replicate}
-use Rattle.std.proofs.lemmas.Nat.Bits.{bit_at-zero}
-use Rattle.std.proofs.lemmas.Option.{same_Some, none-some}
-use mathlib.Core.Logic.{dite}
-use native.Mathlib.Decide.{ℕ_discrete}
-use Rattle.rt_devices.specs.Work.{interrupt_asked}
-use Rattle.rt_script.specs.Script.{HasDeviceInRange, pends, line_pends}
-use Rattle.rt_script.specs.declared.line.Line.{Line}
-use Rattle.rt_script.specs.declared.line.Line.TheVariants.{Steps, Ticks, Pends, Device}
-use Rattle.rt_words.specs.Account.{raises, merges, raised_count, merged_count, latched_count}
-use Rattle.rt_words.specs.declared.call.Pended.TheVariants.{Raised, Merged}
-use Rattle.rt_words.specs.declared.call.Call.{Call}
-use Rattle.rt_words.specs.declared.call.Call.TheVariants.{Pend, Latch}
-use Rattle.rt_words.specs.declared.view.Part.{Part}
-use Rattle.rt_words.specs.Ending.{calls_in}
-use Rattle.rt_words.specs.History.{part}
-use Rattle.rt_words.specs.declared.call.Entry.{Entry}
+use Rattle.rt_live.proofs.Vocabulary.{AllByRecursion, Bool, Call, Contains, Device, Entry, HasDeviceInRange, IsHistory}
+use Rattle.rt_live.proofs.Vocabulary.{Latch, Line, List, Merged, None, Part, Pend, Pends, Raised, Some, Steps, Ticks}
+use Rattle.rt_live.proofs.Vocabulary.{[], accounts, ap, arith, bit_at, bit_at-zero, by_parts, calls_in, cond, count_by}
+use Rattle.rt_live.proofs.Vocabulary.{count_first, device_pends, dite, eq-eqb, false, flat_map, interrupt_asked}
+use Rattle.rt_live.proofs.Vocabulary.{latched_count, line_asks, line_pends, look_calls, look_calls_from, map}
+use Rattle.rt_live.proofs.Vocabulary.{merged_count, merges, ne_eqb, none-some, numbers, one_if, part, pending_bit}
+use Rattle.rt_live.proofs.Vocabulary.{pends, raised_count, raises, refl, replicate, same_Some, subst, suc, sum_by}
+use Rattle.rt_live.proofs.Vocabulary.{sum_by-cons, sym, true, zero, ℕ, ℕ_discrete, ⊎_elim, ◌%◌, ◌*◌, ◌++◌, ◌+◌, ◌/◌}
+use Rattle.rt_live.proofs.Vocabulary.{◌<◌, ◌==◌, ◌∙◌, ◌∷◌, ◌≡◌, ◌≤◌}
+use Rattle.std.proofs.{lemmas.List.Sums.sum_by-append, lemmas.List.Folds.sum_by-replicate}
 use Rattle.rt_words.specs.Inside.Seats.{Distinct}
-use Rattle.rt_words.specs.Lines.{numbers}
-use Rattle.rt_words.specs.Object.{pending_bit}
-use Rattle.rt_words.proofs.Accounting.{accounts, count_first}
-use Rattle.rt_words.proofs.Bits as bits
 use Rattle.rt_words.proofs.Lists.{in_head, in_tail, in_cases, in_none}
-use Rattle.rt_words.proofs.Parting.{by_parts}
-use Rattle.rt_live.specs.History.{IsHistory, line_asks, device_pends}
-use Rattle.rt_live.specs.Interleaving.{look_calls, look_calls_from}
 use Rattle.rt_live.proofs.Requesting.{none_asked, none_called}
-
-abbrev one_if : Bool → ℕ
-one_if b = cond b 1 0
+use Rattle.rt_words.proofs.Bits as bits
 
 -- whether a call pends an interrupt of which this is so
 abbrev pub asks_that : (ℕ → Bool) → Call → Bool
@@ -46,15 +24,14 @@ asks_that test (Latch k word) = false
 each_pend : (irq : ℕ) (calls : List Call)
     → raised_count irq calls + merged_count irq calls ≡ count_by (asks_that (λ i. i == irq)) calls
 each_pend irq [] = refl
-each_pend irq (c ∷ cs) =
-    omega (
-      arith,
-      one c,
-      each_pend irq cs,
-      count_first (raises irq) c cs,
-      count_first (merges irq) c cs,
-      count_first (asks_that (λ i. i == irq)) c cs,
-    )
+each_pend irq (c ∷ cs) = omega (
+  arith,
+  one c,
+  each_pend irq cs,
+  count_first (raises irq) c cs,
+  count_first (merges irq) c cs,
+  count_first (asks_that (λ i. i == irq)) c cs,
+)
   where
     one : (c : Call) → one_if (raises irq c) + one_if (merges irq c) ≡ one_if (asks_that (λ i. i == irq) c)
     one (Pend n Raised) = omega arith
@@ -83,12 +60,11 @@ module _ (test : ℕ → Bool) where
   look_counts_none : (k : ℕ) (words : List ℕ) (calls : List Call) → count_by (asks_that test) calls ≡ 0
       → count_by (asks_that test) (look_calls_from k words ++ calls) ≡ 0
   look_counts_none k [] calls none = none
-  look_counts_none k (w ∷ ws) calls none =
-      omega (
-        arith,
-        look_counts_none (suc k) ws calls none,
-        count_first (asks_that test) (Latch k w) (look_calls_from (suc k) ws ++ calls),
-      )
+  look_counts_none k (w ∷ ws) calls none = omega (
+    arith,
+    look_counts_none (suc k) ws calls none,
+    count_first (asks_that test) (Latch k w) (look_calls_from (suc k) ws ++ calls),
+  )
 
   looks_count_none : (found : List (List ℕ)) → count_by (asks_that test) (flat_map look_calls found) ≡ 0
   looks_count_none [] = refl
@@ -112,8 +88,7 @@ below_has history zero number out = omega arith
 below_has history (suc n) number out =
     dite (ℕ_discrete n number)
     (λ e. absurd (out (subst (λ k. Contains (k ∷ numbers (parts_below history n)) number) (sym e)
-    (in_head number (numbers (parts_below history n))))))
-    (λ ne.
+    (in_head number (numbers (parts_below history n)))))) (λ ne.
     let l = below_has history n number
     (λ is. out (in_tail n number (numbers (parts_below history n)) is)) in
     omega (arith, l, ne))
@@ -121,8 +96,7 @@ below_has history (suc n) number out =
 below_apart : (history : List Entry) (n : ℕ) → Distinct (numbers (parts_below history n))
 unfolding parts_below
 below_apart history zero = tt
-below_apart history (suc n) =
-    ((λ is. let l = below_all history n n is in omega (arith, l)), below_apart history n)
+below_apart history (suc n) = ((λ is. let l = below_all history n n is in omega (arith, l)), below_apart history n)
 
 below_is : (history : List Entry) (n : ℕ) (q : Part) → Contains (parts_below history n) q → part history q.line
     ≡ q.calls
@@ -174,13 +148,11 @@ module _ (test : ℕ → Bool) where
   unfolding sum_below
   asked_once d i n zero within = absurd (omega (arith, within))
   asked_once d i n (suc m) within =
-      dite (ℕ_discrete d m)
-      (λ e.
+      dite (ℕ_discrete d m) (λ e.
       let own : asked_of d i n m ≡ cond (test i) n 0 =
       ap (λ b. count_by test (cond b (replicate n i) [])) (eq-eqb d m e)
       ∙ sum_by-replicate (λ x. one_if (test x)) n i ∙ counted_once (test i) n in
-      omega (arith, own, asked_none d i n m (omega (arith, e))))
-      (λ ne.
+      omega (arith, own, asked_none d i n m (omega (arith, e)))) (λ ne.
       let none : asked_of d i n m ≡ 0 = ap (λ b. count_by test (cond b (replicate n i) [])) (ne_eqb d m ne) in
       omega (arith, none, asked_once d i n m (omega (arith, within, ne))))
 
@@ -223,26 +195,24 @@ module _ (script : List Line) (found : List (List ℕ)) (history : List Entry) (
       ≡ sum_below (λ d. count_by test (pends script d)) n
   unfolding parts_below sum_below
   below_counted test zero few = refl
-  below_counted test (suc n) few =
-      omega (
-        arith,
-        below_counted test n (omega (arith, few)),
-        pends_count test (part history n) (pends script n) (is.devices n (omega (arith, few))),
-        sum_by-cons (λ (x : Part). count_by (asks_that test) x.calls) (record { line = n; calls = part history n })
-            (parts_below history n),
-      )
+  below_counted test (suc n) few = omega (
+    arith,
+    below_counted test n (omega (arith, few)),
+    pends_count test (part history n) (pends script n) (is.devices n (omega (arith, few))),
+    sum_by-cons (λ (x : Part). count_by (asks_that test) x.calls) (record { line = n; calls = part history n })
+        (parts_below history n),
+  )
 
   -- the calls pend what the script has devices pend
   pub all_pended : (test : ℕ → Bool)
       → count_by (asks_that test) (calls_in history) ≡ sum_by (line_asks test) script
-  all_pended test =
-      omega (
-        arith,
-        counted (asks_that test),
-        looks_count_none test found,
-        below_counted test 16 (omega arith),
-        all_asked test script ranges,
-      )
+  all_pended test = omega (
+    arith,
+    counted (asks_that test),
+    looks_count_none test found,
+    below_counted test 16 (omega arith),
+    all_asked test script ranges,
+  )
 
   -- raised and merged together are the pends of all devices
   pub all_counted : (irq : ℕ) → raised_count irq (calls_in history) + merged_count irq (calls_in history)
@@ -251,8 +221,7 @@ module _ (script : List Line) (found : List (List ℕ)) (history : List Entry) (
 
   -- nothing is left, and what was raised was latched
   pub nothing_pending : (irq : ℕ) → pending_bit (replicate 32 0) irq ≡ 0
-  nothing_pending irq =
-      ap (λ (w : ℕ). bit_at w (irq % 32)) (bits.zeros 32 (irq / 32)) ∙ bit_at-zero (irq % 32)
+  nothing_pending irq = ap (λ (w : ℕ). bit_at w (irq % 32)) (bits.zeros 32 (irq / 32)) ∙ bit_at-zero (irq % 32)
 
   pub all_latched : (irq : ℕ) → irq < 512 → latched_count irq (calls_in history) ≡ raised_count irq (calls_in history)
   all_latched irq few =

@@ -1,30 +1,15 @@
 -- The history in which the devices pend one after another, and the core does not look; what a script asks of no device.
-use Rattle.std.proofs.Common.{◌≡◌, ℕ, zero, suc, ◌<◌, ◌≤◌, ◌==◌, Bool, true, false, cond, List, [], ◌∷◌, ◌++◌, map}
-use Rattle.std.proofs.Common.{filter, flat_map, replicate, Some, refl, sym, ap, ◌∙◌, arith, append-nil, ne_eqb, get_or}
-use Rattle.std.proofs.Common.{◌/◌, ◌%◌, ◌||◌, Contains}
-use Rattle.std.proofs.lemmas.List.{get_or-set_other, map-append}
-use Rattle.std.proofs.lemmas.List.Elements.{filter-append}
-use Rattle.std.proofs.lemmas.Nat.Bits.{bit_at-lt}
-use Rattle.std.specs.List.{AllByRecursion, list_any}
-use native.Mathlib.Decide.{ℕ_discrete, dec_lt}
-use Rattle.rt_devices.specs.Work.{interrupt_asked}
-use Rattle.rt_lemmas.proofs.Membership.{all_flat_map, all_weaker}
-use Rattle.rt_ids.specs.declared.limits.TheConstants.{IRQ_NUMBERS}
-use Rattle.rt_script.specs.Script.{HasDeviceInRange, pends, line_pends}
-use Rattle.rt_script.specs.declared.line.Line.{Line}
-use Rattle.rt_script.specs.declared.line.Line.TheVariants.{Steps, Ticks, Pends, Device}
-use Rattle.rt_words.specs.declared.call.Pended.{Pended}
-use Rattle.rt_words.specs.declared.call.Pended.TheVariants.{Raised, Merged}
-use Rattle.rt_words.specs.declared.call.Call.{Call}
-use Rattle.rt_words.specs.declared.call.Call.TheVariants.{Pend}
-use Rattle.rt_words.specs.Object.{IsAnswered, after, pending_bit}
-use Rattle.rt_words.specs.History.{LeavesWords, part}
-use Rattle.rt_words.specs.declared.call.Entry.{Entry}
-use Rattle.rt_words.proofs.Bits.{zeros as zeros_at}
-use Rattle.rt_live.proofs.Onward.{zeros, IsCutHistory}
-use mathlib.Core.Logic.{dite}
-use Rattle.rt_live.specs.Devices.{devices, is_device, is_of_device}
-use Rattle.rt_live.proofs.Made.{among_those}
+use Rattle.rt_live.proofs.Vocabulary.{AllByRecursion, Bool, Call, Contains, Device, Entry, HasDeviceInRange}
+use Rattle.rt_live.proofs.Vocabulary.{IRQ_NUMBERS, IsAnswered, LeavesWords, Line, List, Merged, Pend, Pended, Pends}
+use Rattle.rt_live.proofs.Vocabulary.{Raised, Some, Steps, Ticks, [], after, all_flat_map, all_weaker, ap, append-nil}
+use Rattle.rt_live.proofs.Vocabulary.{arith, cond, dec_lt, dite, false, filter, filter-append, flat_map, get_or}
+use Rattle.rt_live.proofs.Vocabulary.{interrupt_asked, is_device, line_pends, map, map-append, ne_eqb, part}
+use Rattle.rt_live.proofs.Vocabulary.{pending_bit, pends, refl, replicate, suc, sym, true, zero, zeros_at, ℕ}
+use Rattle.rt_live.proofs.Vocabulary.{ℕ_discrete, ◌%◌, ◌++◌, ◌/◌, ◌<◌, ◌==◌, ◌∙◌, ◌∷◌, ◌≡◌, ◌≤◌}
+use Rattle.std.proofs.{Common.◌||◌, lemmas.List.get_or-set_other, lemmas.Nat.Bits.bit_at-lt}
+use Rattle.std.specs.List.{list_any}
+use Rattle.rt_live.proofs.{Onward.zeros, Onward.IsCutHistory, Made.among_those}
+use Rattle.rt_live.specs.Devices.{devices, is_of_device}
 
 pub all_replicate : {X : Type 0} (P : X → Type 0) (n : ℕ) (x : X) → P x → AllByRecursion P (replicate n x)
 all_replicate P zero x is = tt
@@ -49,9 +34,7 @@ none_asked (Device d irq n ∷ ls) number out all =
 -- what a line has devices pend, each pend with the device's number
 abbrev asks : Line → List (ℕ × ℕ)
 asks (Device d irq n) = replicate n (d, irq)
-asks (Steps n) = []
-asks (Ticks n) = []
-asks (Pends irq n) = []
+asks line = []
 
 -- the interrupts of those with this number
 abbrev of_number : ℕ → List (ℕ × ℕ) → List ℕ
@@ -61,14 +44,8 @@ asked_again : (n d irq number : ℕ) (b : Bool) → (d == number) ≡ b
     → of_number number (replicate n (d, irq)) ≡ cond b (replicate n irq) []
 asked_again zero d irq number true is = refl
 asked_again zero d irq number false is = refl
-asked_again (suc n) d irq number true is =
-    ap (λ b. map (λ (a : ℕ × ℕ). a.1) (cond b ((d, irq) ∷ filter (λ (a : ℕ × ℕ). a.0 == number) (replicate n (d, irq)))
-    (filter (λ (a : ℕ × ℕ). a.0 == number) (replicate n (d, irq))))) is
-    ∙ ap (λ (is : List ℕ). irq ∷ is) (asked_again n d irq number true is)
-asked_again (suc n) d irq number false is =
-    ap (λ b. map (λ (a : ℕ × ℕ). a.1) (cond b ((d, irq) ∷ filter (λ (a : ℕ × ℕ). a.0 == number) (replicate n (d, irq)))
-    (filter (λ (a : ℕ × ℕ). a.0 == number) (replicate n (d, irq))))) is
-    ∙ asked_again n d irq number false is
+asked_again (suc n) d irq number true is = rw is (ap (λ (is : List ℕ). irq ∷ is) (asked_again n d irq number true is))
+asked_again (suc n) d irq number false is = rw is (asked_again n d irq number false is)
 
 line_asked : (number : ℕ) (line : Line) → of_number number (asks line) ≡ line_pends number line
 line_asked number (Device d irq n) = asked_again n d irq number (d == number) refl
@@ -79,8 +56,7 @@ line_asked number (Pends irq n) = refl
 all_asked : (number : ℕ) (script : List Line) → of_number number (flat_map asks script) ≡ pends script number
 all_asked number [] = refl
 all_asked number (line ∷ script) =
-    ap (map (λ (a : ℕ × ℕ). a.1))
-    (filter-append (λ (a : ℕ × ℕ). a.0 == number) (asks line) (flat_map asks script))
+    ap (map (λ (a : ℕ × ℕ). a.1)) (filter-append (λ (a : ℕ × ℕ). a.0 == number) (asks line) (flat_map asks script))
     ∙ map-append (λ (a : ℕ × ℕ). a.1) (filter (λ (a : ℕ × ℕ). a.0 == number) (asks line))
     (filter (λ (a : ℕ × ℕ). a.0 == number) (flat_map asks script))
     ∙ ap (λ (is : List ℕ). is ++ of_number number (flat_map asks script)) (line_asked number line)
@@ -123,8 +99,7 @@ answer_all (a ∷ asked) words low =
           devices = λ number.
               one_part a answer rest.history asked number (rest.devices number) (a.0 == number);
           behind = λ k far none.
-              rest.behind k far
-              (get_or-set_other words (a.1 / 32) k _ 0 (omega (arith, low.0, far)) ∙ none);
+              rest.behind k far (get_or-set_other words (a.1 / 32) k _ 0 (omega (arith, low.0, far)) ∙ none);
         }
 
     by : ((ws : List ℕ) → Answers ws asked) → Dec (pending_bit words a.1 ≡ 1) → Answers words (a ∷ asked)
@@ -135,9 +110,7 @@ answer_all (a ∷ asked) words low =
 -- the interrupt that a line has a device pend, if it has, is one of those that there are
 abbrev pub IsNumbered : Line → Type 0
 IsNumbered (Device d irq n) = irq < IRQ_NUMBERS
-IsNumbered (Steps n) = Unit {0}
-IsNumbered (Ticks n) = Unit {0}
-IsNumbered (Pends irq n) = Unit {0}
+IsNumbered line = Unit {0}
 
 line_numbered : (line : Line) → IsNumbered line → AllByRecursion (λ (a : ℕ × ℕ). a.1 < IRQ_NUMBERS) (asks line)
 line_numbered (Device d irq n) low = all_replicate (λ (a : ℕ × ℕ). a.1 < IRQ_NUMBERS) n (d, irq) low
@@ -150,8 +123,7 @@ pub devices_first : (script : List Line) → AllByRecursion HasDeviceInRange scr
     → (left : List ℕ) × (history : List Entry) × IsCutHistory script [] [] left history
 devices_first script ranges low =
     let all : Answers (zeros 32) (flat_map asks script) =
-    answer_all (flat_map asks script) (zeros 32)
-    (all_flat_map (λ (a : ℕ × ℕ). a.1 < IRQ_NUMBERS) asks script
+    answer_all (flat_map asks script) (zeros 32) (all_flat_map (λ (a : ℕ × ℕ). a.1 < IRQ_NUMBERS) asks script
     (all_weaker IsNumbered (λ line. AllByRecursion (λ (a : ℕ × ℕ). a.1 < IRQ_NUMBERS) (asks line)) line_numbered script
     low)) in (
       all.left,
@@ -159,8 +131,7 @@ devices_first script ranges low =
       record {
         legal = all.leads;
         core =
-            none_called (part all.history 255)
-            (all.devices 255
+            none_called (part all.history 255) (all.devices 255
             ∙ ap (map (λ (irq : ℕ). Some irq)) (all_asked 255 script ∙ none_asked script 255 (omega arith) ranges));
         devices = λ number ne. all.devices number ∙ ap (map (λ (irq : ℕ). Some irq)) (all_asked number script);
         since = 0;
@@ -192,8 +163,7 @@ none_pends number (Device d irq n ∷ script) none = by (λ rest. none_pends num
 pub not_asked : (number : ℕ) (script : List Line) → AllByRecursion HasDeviceInRange script
     → ¬ Contains (devices script) number → pends script number ≡ []
 not_asked number script ranges out =
-    dite (dec_lt number 16)
-    (λ within. by (is_device script number) refl within)
+    dite (dec_lt number 16) (λ within. by (is_device script number) refl within)
     (λ far. none_asked script number (omega (arith, far)) ranges)
   where
     by : (b : Bool) → is_device script number ≡ b → number < 16 → pends script number ≡ []

@@ -1,26 +1,13 @@
 -- Rows that count what lines did, as these are gathered.
-use Rattle.std.proofs.Common.{◌≡◌, ◌≢◌, ℕ, ◌+◌, ◌*◌, ◌/◌, ◌<◌, ◌≤◌, ◌^◌, ◌==◌, if◌then◌else◌, List, [], ◌∷◌, ◌++◌, map}
-use Rattle.std.proofs.Common.{length, sum_by, slice_index, refl, ap, sym, subst, ◌∙◌, append_assoc, arith}
-use Rattle.std.proofs.Common.{zero, suc, take, drop, get_or, eq-eqb, ne_eqb, Bool, count_by}
-use Rattle.std.specs.List.{AllByRecursion}
-use Rattle.std.proofs.lemmas.List.{length-append, length-map}
-use Rattle.std.proofs.lemmas.List.Sums.{sum_by-cons, count_by-le-length}
-use mathlib.Core.Logic.{dite}
-use native.Mathlib.Decide.{ℕ_discrete}
-use Rattle.rt_lemmas.proofs.Lists.{all_map, all_behind}
-use Rattle.rt_lemmas.proofs.Membership.{all_at}
-use Rattle.std.proofs.lemmas.Option.{slice_get-get_or}
-use Rattle.rt_devices.specs.declared.device.Device.{Device}
-use Rattle.rt_words.specs.Account.{IsTally, raised_count, merged_count, latched_count, raises, merges, latches}
-use Rattle.rt_words.specs.Ending.{OneHistory, calls_in}
-use Rattle.rt_words.specs.Lines.{Line, Row}
-use Rattle.rt_words.specs.Row.{bit_in_row}
-use Rattle.rt_words.specs.declared.call.Call.{Call}
-use Rattle.rt_words.specs.declared.tally.Tally.{Tally}
-use Rattle.rt_words.specs.Object.{pending_bit}
-use Rattle.rt_words.specs.declared.view.Part.{Part}
-use Rattle.rt_live.specs.Account.{HasRoom, counted_row, with_counts, settled_row, account_of}
-use Rattle.rt_live.specs.Ready.{IsBeside, irqs_of, part_of}
+use Rattle.rt_live.proofs.Vocabulary.{AllByRecursion, Bool, Call, Caller as Line, DeviceThread as Device, HasRoom}
+use Rattle.rt_live.proofs.Vocabulary.{IsBeside, IsTally, List, OneHistory, Part, Row, Tally, [], account_of, all_at}
+use Rattle.rt_live.proofs.Vocabulary.{all_behind, all_map, ap, append_assoc, arith, bit_in_row, calls_in, count_by}
+use Rattle.rt_live.proofs.Vocabulary.{counted_row, dite, drop, eq-eqb, get_or, if◌then◌else◌, irqs_of, latched_count}
+use Rattle.rt_live.proofs.Vocabulary.{latches, length, length-append, length-map, map, merged_count, merges, ne_eqb}
+use Rattle.rt_live.proofs.Vocabulary.{part_of, pending_bit, raised_count, raises, refl, settled_row, slice_get-get_or}
+use Rattle.rt_live.proofs.Vocabulary.{subst, suc, sum_by, sum_by-cons, sym, take, with_counts, zero, ℕ, ℕ_discrete, ◌*◌}
+use Rattle.rt_live.proofs.Vocabulary.{◌++◌, ◌+◌, ◌/◌, ◌<◌, ◌==◌, ◌^◌, ◌∙◌, ◌∷◌, ◌≡◌, ◌≢◌, ◌≤◌}
+use Rattle.std.proofs.lemmas.List.Sums.{count_by-le-length}
 use Rattle.rt_live.specs.declared.account.AccountRow.{AccountRow}
 
 pub irqs_counted : (core : ℕ) (parts : List Part) (irqs : List ℕ) → irqs_of (map (counted_row core parts) irqs) ≡ irqs
@@ -35,14 +22,13 @@ IsShort p = length p.calls < 2 ^ 32
 sum_few : (test : Call → Bool) (parts : List Part) → AllByRecursion IsShort parts
     → sum_by (λ p. count_by test p.calls) parts ≤ 2 ^ 32 * length parts
 sum_few test [] short = omega arith
-sum_few test (p ∷ parts) short =
-    omega (
-      arith,
-      sum_by-cons (λ (q : Part). count_by test q.calls) p parts,
-      count_by-le-length test p.calls,
-      short.0,
-      sum_few test parts short.1,
-    )
+sum_few test (p ∷ parts) short = omega (
+  arith,
+  sum_by-cons (λ (q : Part). count_by test q.calls) p parts,
+  count_by-le-length test p.calls,
+  short.0,
+  sum_few test parts short.1,
+)
 
 -- so there is room for the counts of one line more
 pub counts_fit : (core : ℕ) (parts : List Part) → AllByRecursion IsShort parts → length parts ≤ 16 → (irqs : List ℕ)
@@ -76,50 +62,35 @@ at_core : (core own irq count : ℕ) (times : ℕ → ℕ) → irq < 512 → cou
     → (if own == core then count else 0) ≡ times (bit_in_row core irq)
 at_core core own irq count times low is elsewhere =
     dite (ℕ_discrete own core)
-    (λ e. ap (λ b. if b then count else 0) (eq-eqb own core e) ∙ is ∙ ap (λ n. times (bit_in_row n irq)) e)
-    (λ ne.
+    (λ e. ap (λ b. if b then count else 0) (eq-eqb own core e) ∙ is ∙ ap (λ n. times (bit_in_row n irq)) e) (λ ne.
     let there : bit_in_row core irq / 512 ≡ core = omega (arith, low) in
     ap (λ b. if b then count else 0) (ne_eqb own core ne)
     ∙ sym (elsewhere (bit_in_row core irq) (λ e. ne (sym e ∙ there))))
 
--- what the counts of a line are of an interrupt of this core
-module _ (core here there irq : ℕ) (calls : List Call) (tally : Tally) (is : IsTally here there calls tally)
-    (low : irq < 512) where
-  raised_at : (if there == core then slice_index tally.raised irq else 0) ≡ raised_count (bit_in_row core irq) calls
-  raised_at =
-      at_core core there irq (slice_index tally.raised irq) (λ bit. raised_count bit calls) low (is.raised irq low)
-      is.raised_there
-
-  merged_at : (if there == core then slice_index tally.merged irq else 0) ≡ merged_count (bit_in_row core irq) calls
-  merged_at =
-      at_core core there irq (slice_index tally.merged irq) (λ bit. merged_count bit calls) low (is.merged irq low)
-      is.merged_there
-
-  latched_at : (if here == core then slice_index tally.latched irq else 0) ≡ latched_count (bit_in_row core irq) calls
-  latched_at =
-      at_core core here irq (slice_index tally.latched irq) (λ bit. latched_count bit calls) low (is.latched irq low)
-      is.latched_here
+-- so a count of one line more is added to those of others
+one_more : (core own irq count : ℕ) (test : ℕ → Call → Bool) (part : Part) (parts : List Part) → irq < 512
+    → count ≡ count_by (test (bit_in_row own irq)) part.calls
+    → ((bit : ℕ) → bit / 512 ≢ own → count_by (test bit) part.calls ≡ 0)
+    → sum_by (λ (q : Part). count_by (test (bit_in_row core irq)) q.calls) parts + (if own == core then count else 0)
+    ≡ sum_by (λ (q : Part). count_by (test (bit_in_row core irq)) q.calls) (part ∷ parts)
+one_more core own irq count test part parts low is elsewhere = omega (
+  arith,
+  at_core core own irq count (λ bit. count_by (test bit) part.calls) low is elsewhere,
+  sum_by-cons (λ (q : Part). count_by (test (bit_in_row core irq)) q.calls) part parts,
+)
 
 -- the rows count the gathered line too
 module _ (core here there : ℕ) (parts : List Part) (part : Part) (tally : Tally)
     (is : IsTally here there part.calls tally) where
   one_counted : (irq : ℕ) → irq < 512
       → with_counts core here there tally (counted_row core parts irq) ≡ counted_row core (part ∷ parts) irq
-  one_counted irq low =
-      let bit : ℕ = bit_in_row core irq in
-      let old : AccountRow = counted_row core parts irq in
-      let row : AccountRow = with_counts core here there tally old in
-      let new : AccountRow = counted_row core (part ∷ parts) irq in
-      let r : row.raised ≡ new.raised =
-      ap (λ n. old.raised + n) (raised_at core here there irq part.calls tally is low)
-      ∙ omega (arith, sum_by-cons (λ (q : Part). raised_count bit q.calls) part parts) in
-      let m : row.merged ≡ new.merged =
-      ap (λ n. old.merged + n) (merged_at core here there irq part.calls tally is low)
-      ∙ omega (arith, sum_by-cons (λ (q : Part). merged_count bit q.calls) part parts) in
-      let l : row.latched ≡ new.latched =
-      ap (λ n. old.latched + n) (latched_at core here there irq part.calls tally is low)
-      ∙ omega (arith, sum_by-cons (λ (q : Part). latched_count bit q.calls) part parts) in
-      λ i. record { irq = irq; raised = r i; merged = m i; latched = l i; left = 0 }
+  one_counted irq low = λ i. record {
+    irq = irq;
+    raised = one_more core there irq _ raises part parts low (is.raised irq low) is.raised_there i;
+    merged = one_more core there irq _ merges part parts low (is.merged irq low) is.merged_there i;
+    latched = one_more core here irq _ latches part parts low (is.latched irq low) is.latched_here i;
+    left = 0;
+  }
 
   pub all_counted : (irqs : List ℕ) → AllByRecursion (λ irq. irq < 512) irqs
       → map (with_counts core here there tally) (map (counted_row core parts) irqs)
@@ -149,8 +120,7 @@ module _ (core here there : ℕ) (line : Line) (bits : List ℕ) (h : OneHistory
       let l : row.latched ≡ latched_count bit (calls_in h.history) =
       sum_by-cons (λ (q : Part). latched_count bit q.calls) own_part line.gathered ∙ sym (h.latched bit) in
       λ i.
-      record { irq = irq; raised = r i; merged = m i; latched = l i; left = pending_bit bits bit }
-      ∷ all_settled irqs i
+      record { irq = irq; raised = r i; merged = m i; latched = l i; left = pending_bit bits bit } ∷ all_settled irqs i
 
   pub rows_settled : (irqs : List ℕ) → AllByRecursion (λ irq. irq < 512) irqs
       → map (settled_row core bits) (map (with_counts core here there own) (map (counted_row core line.gathered) irqs))
@@ -171,8 +141,7 @@ module _ (row : Row) (rest : List Device) (device : Device) {all left : List Dev
     {rows : List AccountRow} (gathers : GathersLast all left old new irqs rows) (popped : left ≡ rest ++ device ∷ [])
     (beside : AllByRecursion (IsBeside row) all) where
   whole : all ≡ rest ++ device ∷ gathers.done
-  whole =
-      gathers.parts ∙ ap (λ ds. ds ++ gathers.done) popped ∙ append_assoc rest (device ∷ []) gathers.done
+  whole = gathers.parts ∙ ap (λ ds. ds ++ gathers.done) popped ∙ append_assoc rest (device ∷ []) gathers.done
 
   abbrev from_here : AllByRecursion (IsBeside row) (device ∷ gathers.done)
   from_here = all_behind (IsBeside row) rest (device ∷ gathers.done) (subst (AllByRecursion
@@ -183,8 +152,7 @@ module _ (row : Row) (rest : List Device) (device : Device) {all left : List Dev
 
   pub next_room : length all ≤ 16 → AllByRecursion HasRoom rows
   next_room few =
-      subst (AllByRecursion HasRoom) (sym gathers.counted)
-      (counts_fit 0 (map part_of gathers.done)
+      subst (AllByRecursion HasRoom) (sym gathers.counted) (counts_fit 0 (map part_of gathers.done)
       (all_map part_of (IsBeside row) IsShort (λ d is. is.few) gathers.done from_here.1)
       (omega (
         arith,

@@ -1,24 +1,13 @@
 -- Lines that made more calls, interleavings of turns, and how many steps, ticks and calls turns are.
-use Rattle.std.proofs.Common.{◌≡◌, ℕ, zero, suc, ◌+◌, ◌*◌, ◌<◌, ◌≤◌, List, [], ◌∷◌, ◌++◌, map, flat_map, length, refl}
-use Rattle.std.proofs.Common.{ap, sym, ◌∙◌, append_assoc, append-nil, arith, replicate}
-use Rattle.std.specs.List.{AllByRecursion}
-use Rattle.std.proofs.lemmas.List.{length-append}
-use Rattle.std.proofs.lemmas.List.Concat.{flat_map-append}
-use Rattle.rt_ids.specs.Event.{Event, Arrive, Tick, Step, steps}
-use Rattle.rt_core.specs.Machine.{Machine}
+use Rattle.rt_live.proofs.Vocabulary.{AllByRecursion, Arrive, Breaks, Call, Caller as Line, Event, Happens, IsWholeLook}
+use Rattle.rt_live.proofs.Vocabulary.{Latch, Leads, List, Looks, Machine, Step, Tick, TookPrefix, Turn, [], ap}
+use Rattle.rt_live.proofs.Vocabulary.{append-nil, append_assoc, arith, arrivals, arrivals_from, flat_map}
+use Rattle.rt_live.proofs.Vocabulary.{flat_map-append, interleaving, length, length-append, lines_of, look_arrivals}
+use Rattle.rt_live.proofs.Vocabulary.{look_calls, look_calls_from, looks, map, map-append, refl, replicate, steps}
+use Rattle.rt_live.proofs.Vocabulary.{steps-append, steps_below, suc, sym, with_looks, zero, ℕ, ◌*◌, ◌++◌, ◌+◌, ◌<◌}
+use Rattle.rt_live.proofs.Vocabulary.{◌∙◌, ◌∷◌, ◌≡◌, ◌≤◌}
 use Rattle.rt_core.specs.Trace.{labels}
-use Rattle.rt_outside.specs.Bytes.{TookPrefix}
-use Rattle.rt_run.specs.Done.{Leads}
-use Rattle.rt_run.specs.Sending.{Breaks, lines_of}
-use Rattle.rt_run.proofs.Advancing.{steps-append}
-use Rattle.rt_run.proofs.Known.{steps_below, ticks}
-use Rattle.rt_words.specs.Lines.{Line}
-use Rattle.rt_words.specs.declared.call.Call.{Call}
-use Rattle.rt_live.specs.Interleaving.{Turn, Happens, Looks, looks, arrivals_from, look_arrivals, look_calls_from}
-use Rattle.rt_live.specs.Interleaving.{look_calls, interleaving, with_looks}
-use Rattle.rt_live.specs.Going.{IsWholeLook}
-use mathlib.Core.List.{map-append}
-use Rattle.rt_ids.specs.Arrivals.{arrivals}
+use Rattle.rt_run.proofs.Known.{ticks}
 
 -- calls, and more of them
 abbrev pub line_with : Line → List Call → Line
@@ -33,21 +22,24 @@ line_on a b c calls more first second =
     second ∙ ap (λ (l : Line). line_with l more) first
     ∙ ap (λ (cs : List Call). record a { calls = cs }) (append_assoc a.calls calls more)
 
--- how many events are among turns
+-- the events among turns, and how many they are
+abbrev pub events_of : List Turn → List Event
+events_of [] = []
+events_of (Looks ∷ ts) = events_of ts
+events_of (Happens event ∷ ts) = event ∷ events_of ts
+
 abbrev pub happenings : List Turn → ℕ
-happenings [] = zero
-happenings (Looks ∷ ts) = happenings ts
-happenings (Happens event ∷ ts) = suc (happenings ts)
+happenings ts = length (events_of ts)
 
 pub looks-append : (ts us : List Turn) → looks (ts ++ us) ≡ looks ts + looks us
 looks-append [] us = omega arith
 looks-append (Looks ∷ ts) us = omega (arith, looks-append ts us)
 looks-append (Happens event ∷ ts) us = looks-append ts us
 
-pub happenings-append : (ts us : List Turn) → happenings (ts ++ us) ≡ happenings ts + happenings us
-happenings-append [] us = omega arith
-happenings-append (Looks ∷ ts) us = happenings-append ts us
-happenings-append (Happens event ∷ ts) us = omega (arith, happenings-append ts us)
+pub events_of-append : (ts us : List Turn) → events_of (ts ++ us) ≡ events_of ts ++ events_of us
+events_of-append [] us = refl
+events_of-append (Looks ∷ ts) us = events_of-append ts us
+events_of-append (Happens event ∷ ts) us = ap (λ es. event ∷ es) (events_of-append ts us)
 
 -- a look comes before each core step
 pub looks_own : (es : List Event) → looks (with_looks es) ≡ steps es
@@ -56,11 +48,11 @@ looks_own (Step ∷ es) = ap suc (looks_own es)
 looks_own (Tick ∷ es) = looks_own es
 looks_own (Arrive irq ∷ es) = looks_own es
 
-pub happenings_own : (es : List Event) → happenings (with_looks es) ≡ length es
-happenings_own [] = refl
-happenings_own (Step ∷ es) = ap suc (happenings_own es)
-happenings_own (Tick ∷ es) = ap suc (happenings_own es)
-happenings_own (Arrive irq ∷ es) = ap suc (happenings_own es)
+pub events_own : (es : List Event) → events_of (with_looks es) ≡ es
+events_own [] = refl
+events_own (Step ∷ es) = ap (λ fs. Step ∷ fs) (events_own es)
+events_own (Tick ∷ es) = ap (λ fs. Tick ∷ fs) (events_own es)
+events_own (Arrive irq ∷ es) = ap (λ fs. Arrive irq ∷ fs) (events_own es)
 
 pub repeated_steps : (n : ℕ) → steps (replicate n Step) ≡ n
 repeated_steps zero = refl
@@ -99,6 +91,14 @@ pub length-latches : (k : ℕ) (words : List ℕ) → length (look_calls_from k 
 length-latches k [] = refl
 length-latches k (word ∷ words) = ap suc (length-latches (suc k) words)
 
+pub latches_on : (k : ℕ) (xs ys : List ℕ) → look_calls_from k (xs ++ ys) ≡ look_calls_from k xs
+    ++ look_calls_from (k + length xs) ys
+latches_on k [] ys = ap (λ n. look_calls_from n ys) (let e : k ≡ k + 0 = omega arith in e)
+latches_on k (x ∷ xs) ys =
+    ap (λ (t : List Call). Latch k x ∷ t) (latches_on (suc k) xs ys
+    ∙ ap (λ n. look_calls_from (suc k) xs ++ look_calls_from n ys)
+    (let e : suc k + length xs ≡ k + length (x ∷ xs) = omega arith in e))
+
 -- the calls of whole looks
 pub all_latches : (found : List (List ℕ)) → AllByRecursion IsWholeLook found
     → length (flat_map look_calls found) ≡ 16 * length found
@@ -115,8 +115,7 @@ all_latches (ws ∷ found) whole =
 
 -- looks of which the last latched no word
 pub cut_before : (found : List (List ℕ)) → flat_map look_calls (found ++ [] ∷ []) ≡ flat_map look_calls found
-cut_before found =
-    flat_map-append look_calls found ([] ∷ []) ∙ append-nil (flat_map look_calls found)
+cut_before found = flat_map-append look_calls found ([] ∷ []) ∙ append-nil (flat_map look_calls found)
 
 -- a fault in the lines of one event
 pub at_event : (e : Event) (a b : Machine) (x y : List ℕ) → Leads (e ∷ []) a b → TookPrefix x y (lines_of a (e ∷ []))
@@ -132,28 +131,11 @@ at_event e a b x y run part = record {
   cut = part;
 }
 
--- what one more look, and others behind it, add to a interleaving that wants it: first its arrivals
-pub interleaving_further : (ts : List Turn) (found : List (List ℕ)) (ws : List ℕ) (others : List (List ℕ))
-    → length found < looks ts
-    → (behind : List Event) × (interleaving ts (found ++ ws ∷ others) ≡ interleaving ts found
-    ++ (look_arrivals ws ++ behind))
-interleaving_further [] found ws others few = absurd (omega (arith, few))
-interleaving_further (Looks ∷ ts) [] ws others few = (interleaving ts others, refl)
-interleaving_further (Looks ∷ ts) (f ∷ found) ws others few =
-    let rest = interleaving_further ts found ws others (omega (arith, few)) in (
-      rest.0,
-      ap (λ (t : List Event). look_arrivals f ++ t) rest.1
-          ∙ sym (append_assoc (look_arrivals f) (interleaving ts found) (look_arrivals ws ++ rest.0)),
-    )
-interleaving_further (Happens e ∷ ts) found ws others few =
-    let rest = interleaving_further ts found ws others few in (rest.0, ap (λ (t : List Event). e ∷ t) rest.1)
-
 pub found_on : (k : ℕ) (xs ys : List ℕ) → arrivals_from k (xs ++ ys) ≡ arrivals_from k xs
     ++ arrivals_from (k + length xs) ys
 found_on k [] ys = ap (λ n. arrivals_from n ys) (let e : k ≡ k + 0 = omega arith in e)
 found_on k (x ∷ xs) ys =
-    ap (λ (t : List ℕ). arrivals k x ++ t)
-    (found_on (suc k) xs ys
+    ap (λ (t : List ℕ). arrivals k x ++ t) (found_on (suc k) xs ys
     ∙ ap (λ n. arrivals_from (suc k) xs ++ arrivals_from n ys)
     (let e : suc k + length xs ≡ k + length (x ∷ xs) = omega arith in e))
     ∙ sym (append_assoc (arrivals k x) (arrivals_from (suc k) xs) (arrivals_from (k + length (x ∷ xs)) ys))
@@ -166,17 +148,25 @@ arrived_on xs ys =
     (let e : 0 + length xs ≡ length xs = omega arith in e))
     ∙ map-append Arrive (arrivals_from 0 xs) (arrivals_from (length xs) ys)
 
--- A interleaving of which the last look was cut goes on where that look is finished.
+-- An interleaving of which the last look was cut goes on where that look is finished.
 pub interleaving_finished : (ts : List Turn) (found others : List (List ℕ)) (last rest : List ℕ)
     → length found < looks ts
     → (behind : List Event) × (interleaving ts (found ++ (last ++ rest) ∷ others)
     ≡ (interleaving ts found ++ look_arrivals last) ++ behind)
-interleaving_finished ts found others last rest few =
-    let further = interleaving_further ts found (last ++ rest) others few in
+interleaving_finished [] found others last rest few = absurd (omega (arith, few))
+interleaving_finished (Looks ∷ ts) [] others last rest few =
     let more : List Event = map Arrive (arrivals_from (length last) rest) in (
-      more ++ further.0,
-      further.1
-          ∙ ap (λ (t : List Event). interleaving ts found ++ (t ++ further.0)) (arrived_on last rest)
-          ∙ ap (λ (t : List Event). interleaving ts found ++ t) (append_assoc (look_arrivals last) more further.0)
-          ∙ sym (append_assoc (interleaving ts found) (look_arrivals last) (more ++ further.0)),
+      more ++ interleaving ts others,
+      ap (λ (t : List Event). t ++ interleaving ts others) (arrived_on last rest)
+          ∙ append_assoc (look_arrivals last) more (interleaving ts others),
     )
+interleaving_finished (Looks ∷ ts) (f ∷ found) others last rest few =
+    let on = interleaving_finished ts found others last rest (omega (arith, few)) in
+    let came : List Event = interleaving ts found in (
+      on.0,
+      ap (λ (t : List Event). look_arrivals f ++ t) on.1
+          ∙ sym (append_assoc (look_arrivals f) (came ++ look_arrivals last) on.0)
+          ∙ ap (λ (t : List Event). t ++ on.0) (sym (append_assoc (look_arrivals f) came (look_arrivals last))),
+    )
+interleaving_finished (Happens e ∷ ts) found others last rest few =
+    let on = interleaving_finished ts found others last rest few in (on.0, ap (λ (t : List Event). e ∷ t) on.1)

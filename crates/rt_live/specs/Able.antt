@@ -1,15 +1,12 @@
 -- What a turn asks of the core, of its line and of the words.
-use Rattle.std.specs.Prelude.{◌≡◌, ℕ, ◌+◌, ◌-◌, ◌*◌, ◌^◌, ◌<◌, ◌≤◌, length, Option, Some}
 use Rattle.std.specs.Int.{bit_at}
-use Rattle.rt_ids.specs.Names.{Names}
-use Rattle.rt_ids.specs.declared.limits.TheConstants.{IRQ_NUMBERS}
+use Rattle.std.specs.Prelude.{Option, Some, length, ℕ, ◌*◌, ◌+◌, ◌-◌, ◌<◌, ◌^◌, ◌≡◌, ◌≤◌}
 use Rattle.rt_core.specs.Machine.{Machine}
-use Rattle.rt_run.specs.Writable.{IsWritable}
+use Rattle.rt_ids.specs.{Names.Names, declared.limits.TheConstants.IRQ_NUMBERS}
 use Rattle.rt_lines.specs.Operand.{IsDeclared}
-use Rattle.rt_words.specs.Lines.{Row, Line, count}
-use Rattle.rt_words.specs.Object.{IsPending}
-use Rattle.rt_words.specs.Row.{bit_in_row, word_in_row}
-use Rattle.rt_words.specs.declared.row.TheConstants.{CORE_WORDS}
+use Rattle.rt_run.specs.Writable.{IsWritable}
+use Rattle.rt_words.specs.Lines.{Line, Row, count}
+use Rattle.rt_words.specs.{Object.IsPending, Row.bit_in_row, Row.word_in_row, declared.row.TheConstants.CORE_WORDS}
 
 -- an interrupt may arrive: it is declared, and there is such a number
 abbrev pub MayArrive : Names → ℕ → Type 0

@@ -2,17 +2,13 @@
 -- was raised, merged and latched, and whether it is left pending. The form of its lines is this project's own. The
 -- definitions count in a list of calls; the code adds up what each line counted by itself. Under `live` there is one
 -- core in the row, core 0.
-use Rattle.std.specs.Prelude.{ℕ, ◌+◌, ◌^◌, ◌≤◌, ◌==◌, if◌then◌else◌, List, [], ◌∷◌, ◌++◌, map, flat_map, codes}
-use Rattle.std.specs.Prelude.{decimal, slice_index, sum_by}
-use Rattle.rt_ids.specs.Names.{Names}
-use Rattle.rt_ids.specs.Naming.{irq_name}
-use Rattle.rt_lines.specs.Table.{spaced_text}
-use Rattle.rt_words.specs.Account.{raised_count, merged_count, latched_count}
+use Rattle.std.specs.Prelude.{List, [], codes, decimal, flat_map, if◌then◌else◌, map, slice_index, sum_by, ℕ, ◌++◌, ◌+◌}
+use Rattle.std.specs.Prelude.{◌==◌, ◌^◌, ◌∷◌, ◌≤◌}
+use Rattle.rt_ids.specs.{Names.Names, Naming.irq_name}
 use Rattle.rt_words.specs.Object.{pending_bit}
-use Rattle.rt_words.specs.declared.call.Call.{Call}
-use Rattle.rt_words.specs.Row.{bit_in_row}
-use Rattle.rt_words.specs.declared.tally.Tally.{Tally}
-use Rattle.rt_words.specs.declared.view.Part.{Part}
+use Rattle.rt_words.specs.Account.{latched_count, merged_count, raised_count}
+use Rattle.rt_words.specs.{Row.bit_in_row, declared.call.Call.Call, declared.view.Part.Part, declared.tally.Tally.Tally}
+use Rattle.rt_lines.specs.Table.{spaced_text}
 use Rattle.rt_live.specs.declared.account.AccountRow.{AccountRow}
 
 -- the row of an interrupt of a core of the row, over these calls and the words that they left

@@ -1,5 +1,5 @@
 -- How many pending words there are, in numbers, as docs/LIVE.md has it. Everything else names the constant.
-use Rattle.std.specs.Prelude.{◌≡◌, ◌≤◌, ◌*◌}
+use Rattle.std.specs.Prelude.{◌*◌, ◌≡◌, ◌≤◌}
 use Rattle.rt_ids.specs.declared.limits.TheConstants.{IRQ_NUMBERS}
 use Rattle.rt_words.specs.declared.row.TheConstants.{CORE_WORDS}
 

@@ -1,17 +1,13 @@
 -- The devices of a script.
-use Rattle.std.specs.Prelude.{ℕ, ◌==◌, Bool, false, if◌then◌else◌, List, [], ◌∷◌, flat_map}
 use Rattle.std.specs.List.{list_any}
-use Rattle.rt_ids.specs.Lists.{those_below}
-use Rattle.rt_ids.specs.declared.limits.TheConstants.{DEVICES}
-use Rattle.rt_script.specs.declared.line.Line.{Line}
-use Rattle.rt_script.specs.declared.line.Line.TheVariants.{Steps, Ticks, Pends, Device}
+use Rattle.std.specs.Prelude.{Bool, List, [], false, flat_map, if◌then◌else◌, ℕ, ◌==◌, ◌∷◌}
+use Rattle.rt_ids.specs.{declared.limits.TheConstants.DEVICES, Lists.those_below}
+use Rattle.rt_script.specs.{declared.line.Line.Line, declared.line.Line.TheVariants.Device}
 
 -- the line is one of the device of this number, whose pends may be none
 abbrev pub is_of_device : ℕ → Line → Bool
 is_of_device number (Device d irq n) = d == number
-is_of_device number (Steps n) = false
-is_of_device number (Ticks n) = false
-is_of_device number (Pends irq n) = false
+is_of_device number line = false
 
 -- a script has lines of the device of this number
 abbrev pub is_device : List Line → ℕ → Bool
@@ -24,9 +20,7 @@ devices script = those_below (is_device script) DEVICES
 -- what a line has the device of a number pend, with how often
 abbrev pub entries_of : ℕ → Line → List (ℕ × ℕ)
 entries_of number (Device d irq n) = if d == number then (irq, n) ∷ [] else []
-entries_of number (Steps n) = []
-entries_of number (Ticks n) = []
-entries_of number (Pends irq n) = []
+entries_of number line = []
 
 -- and all lines
 abbrev pub device_script : List Line → ℕ → List (ℕ × ℕ)

@@ -1,14 +1,12 @@
 -- What the core has done when a run under `live` has answered: the events of the trace that was taken.
-use Rattle.std.specs.Prelude.{ℕ, ◌⊎◌, List}
-use Rattle.rt_ids.specs.Event.{Event}
+use Rattle.std.specs.Prelude.{List, ℕ, ◌⊎◌}
 use Rattle.rt_core.specs.Machine.{Machine}
+use Rattle.rt_ids.specs.Event.{Event}
 use Rattle.rt_outside.specs.Bytes.{Took, TookAtLeast}
-use Rattle.rt_run.specs.Done.{Leads}
-use Rattle.rt_run.specs.Sending.{Breaks, lines_of}
+use Rattle.rt_run.specs.{Done.Leads, Sending.Breaks, Sending.lines_of}
 use Rattle.rt_script.specs.declared.line.Line.{Line}
-use Rattle.rt_live.specs.Interleaving.{turns, interleaving}
-use Rattle.rt_live.specs.Output.{IsLiveText, TookPart, Lives}
-use Rattle.rt_live.specs.declared.account.AccountRow.{AccountRow}
+use Rattle.rt_live.specs.{Interleaving.turns, Interleaving.interleaving, Output.IsLiveText, Output.TookPart}
+use Rattle.rt_live.specs.{Output.Lives, declared.account.AccountRow.AccountRow}
 
 -- the trace was taken, these rows are the account, and the core has done the events of this trace and no other
 pub record HasLived (script : List Line) (old new : Machine) (before after : List ℕ) (rows : List AccountRow)

@@ -1,12 +1,9 @@
 -- The histories of the pending words that `live` allows, and how often the devices of a script pend an interrupt.
-use Rattle.std.specs.Prelude.{◌≡◌, ◌≢◌, ℕ, ◌==◌, Bool, List, flat_map, map, drop, replicate, sum_by, cond, Some}
 use Rattle.std.specs.List.{AllByRecursion}
+use Rattle.std.specs.Prelude.{Bool, List, Some, cond, drop, flat_map, map, replicate, sum_by, ℕ, ◌==◌, ◌≡◌, ◌≢◌}
 use Rattle.rt_devices.specs.Work.{interrupt_asked}
-use Rattle.rt_script.specs.Script.{pends}
-use Rattle.rt_script.specs.declared.line.Line.{Line}
-use Rattle.rt_script.specs.declared.line.Line.TheVariants.{Steps, Ticks, Pends, Device}
-use Rattle.rt_words.specs.History.{IsLegal, CallsLast, part}
-use Rattle.rt_words.specs.declared.call.Entry.{Entry}
+use Rattle.rt_script.specs.{Script.pends, declared.line.Line.Line, declared.line.Line.TheVariants.Device}
+use Rattle.rt_words.specs.{History.CallsLast, History.IsLegal, History.part, declared.call.Entry.Entry}
 use Rattle.rt_live.specs.Interleaving.{look_calls, last_looks}
 
 -- a look found no bit
@@ -30,9 +27,7 @@ pub record IsHistory (script : List Line) (found : List (List ℕ)) (history : L
 -- how often a line has a device pend an interrupt of which this is so
 abbrev pub line_asks : (ℕ → Bool) → Line → ℕ
 line_asks test (Device d irq n) = cond (test irq) n 0
-line_asks test (Steps n) = 0
-line_asks test (Ticks n) = 0
-line_asks test (Pends irq n) = 0
+line_asks test line = 0
 
 -- how often all devices of a script pend this one
 abbrev pub device_pends : ℕ → List Line → ℕ

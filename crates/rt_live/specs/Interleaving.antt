@@ -5,13 +5,10 @@
 -- they pended last arrives by it. Then come as many core steps again, each behind a look, which finds nothing. The
 -- lists say what happened, wherever the program kept it: it latches word by word and writes each event's lines as it
 -- happens.
-use Rattle.std.specs.Prelude.{ℕ, zero, suc, List, [], ◌∷◌, ◌++◌, map, flat_map, drop, replicate}
-use Rattle.rt_ids.specs.Event.{Event, Arrive, Step, steps}
-use Rattle.rt_ids.specs.Arrivals.{arrivals}
-use Rattle.rt_script.specs.Script.{core_events}
-use Rattle.rt_script.specs.declared.line.Line.{Line}
-use Rattle.rt_words.specs.declared.call.Call.{Call}
-use Rattle.rt_words.specs.declared.call.Call.TheVariants.{Latch}
+use Rattle.std.specs.Prelude.{List, [], drop, flat_map, map, replicate, suc, zero, ℕ, ◌++◌, ◌∷◌}
+use Rattle.rt_ids.specs.{Arrivals.arrivals, Event.Arrive, Event.Event, Event.Step, Event.steps}
+use Rattle.rt_script.specs.{Script.core_events, declared.line.Line.Line}
+use Rattle.rt_words.specs.{declared.call.Call.Call, declared.call.Call.TheVariants.Latch}
 
 -- one thing that is done on the core's side
 pub data Turn : Type 0 where

@@ -1,17 +1,13 @@
 -- What `live` may write under a script, and what its account tells. It is this project's own.
-use Rattle.std.specs.Prelude.{◌≡◌, ℕ, ◌+◌, List, ◌++◌, length, replicate}
 use Rattle.std.specs.List.{AllByRecursion}
+use Rattle.std.specs.Prelude.{List, length, replicate, ℕ, ◌++◌, ◌+◌, ◌≡◌}
 use Rattle.rt_code.specs.Image.{Image}
 use Rattle.rt_outside.specs.Bytes.{Took, TookPrefix}
 use Rattle.rt_script.specs.declared.line.Line.{Line}
-use Rattle.rt_words.specs.Ending.{calls_in}
-use Rattle.rt_words.specs.declared.call.Entry.{Entry}
-use Rattle.rt_live.specs.Account.{account_of, account_text, declared_irqs}
-use Rattle.rt_live.specs.Going.{IsWholeLook}
-use Rattle.rt_live.specs.History.{IsHistory, device_pends}
-use Rattle.rt_live.specs.Interleaving.{looks, turns}
-use Rattle.rt_live.specs.Written.{live_text}
-use Rattle.rt_live.specs.declared.account.AccountRow.{AccountRow}
+use Rattle.rt_words.specs.{Ending.calls_in, declared.call.Entry.Entry}
+use Rattle.rt_live.specs.{Account.account_of, Account.account_text, Account.declared_irqs, Going.IsWholeLook}
+use Rattle.rt_live.specs.{History.IsHistory, History.device_pends, Interleaving.looks, Interleaving.turns}
+use Rattle.rt_live.specs.{Written.live_text, declared.account.AccountRow.AccountRow}
 
 -- The trace of the image under the script's own events with what the looks found, and the account of the calls, for
 -- looks and calls that one thread could have made, the devices with all their pends among them, and that left nothing

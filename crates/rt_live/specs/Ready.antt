@@ -1,32 +1,20 @@
 -- What is made ready for a run under `live`: the words, the core's line, and the devices with the lines that they call;
 -- and what is known when the lines of the devices are gathered.
-use Rattle.std.specs.Prelude.{◌≡◌, ◌↔◌, ℕ, ◌<◌, ◌≤◌, ◌*◌, ◌^◌, List, length, map, Some, Contains}
 use Rattle.std.specs.List.{AllByRecursion}
+use Rattle.std.specs.Prelude.{Contains, List, Some, length, map, ℕ, ◌*◌, ◌<◌, ◌^◌, ◌↔◌, ◌≡◌, ◌≤◌}
+use Rattle.rt_devices.specs.{Work.interrupt_asked, declared.device.Device.Device}
 use Rattle.rt_ids.specs.Event.{steps}
-use Rattle.rt_ids.specs.Names.{Names}
-use Rattle.rt_ids.specs.declared.limits.TheConstants.{IRQ_NUMBERS, DEVICES}
-use Rattle.rt_devices.specs.Work.{interrupt_asked}
-use Rattle.rt_devices.specs.declared.device.Device.{Device}
-use Rattle.rt_script.specs.Script.{IsScript, HasNames, core_events, pends}
-use Rattle.rt_script.specs.declared.line.Line.{Line}
-use Rattle.rt_words.specs.Lines.{Row, Line as Caller, count, numbers, new_line}
-use Rattle.rt_words.specs.declared.call.Call.{Call}
-use Rattle.rt_words.specs.Row.{bit_in_row}
-use Rattle.rt_words.specs.declared.row.TheConstants.{CORE_WORDS}
+use Rattle.rt_ids.specs.{Names.Names, declared.limits.TheConstants.DEVICES, declared.limits.TheConstants.IRQ_NUMBERS}
+use Rattle.rt_script.specs.{Script.HasNames, Script.IsScript, Script.core_events, Script.pends, declared.line.Line.Line}
+use Rattle.rt_words.specs.Lines.{Line as Caller, Row, count, new_line, numbers}
 use Rattle.rt_words.specs.Object.{IsPending}
-use Rattle.rt_words.specs.declared.view.Part.{Part}
-use Rattle.rt_live.specs.Account.{declared_irqs, counted_row, empty_row}
-use Rattle.rt_live.specs.Devices.{devices, device_script}
-use Rattle.rt_live.specs.declared.account.AccountRow.{AccountRow}
-use Rattle.rt_live.specs.declared.ready.Ready.{Ready}
+use Rattle.rt_words.specs.{Row.bit_in_row, declared.row.TheConstants.CORE_WORDS, declared.view.Part.Part}
+use Rattle.rt_live.specs.{Account.declared_irqs, Account.counted_row, Account.empty_row, Devices.devices}
+use Rattle.rt_live.specs.{Devices.device_script, declared.account.AccountRow.AccountRow, declared.ready.Ready.Ready}
 
 -- the core's line of these words that has made the lines of these numbers and nothing else
 abbrev pub maker_line : Row → List ℕ → Caller
 maker_line words made = record (new_line words 255 0 0) { made = made }
-
--- the core's line of these words that has made these calls, and has made and gathered no line
-abbrev pub core_line : Row → List Call → Caller
-core_line words calls = record (new_line words 255 0 0) { calls = calls }
 
 -- the interrupts of these rows, in order
 abbrev pub irqs_of : List AccountRow → List ℕ

@@ -2,19 +2,16 @@
 -- each word of the line's own core, from word 0 up. Behind a step that shows a post, the line pends the interrupt of
 -- another core that the post leads to, where it leads to one. So a post is pended behind the look that belongs to its
 -- step, and before the next look of its core. This is this project's own.
-use Rattle.std.specs.Prelude.{ℕ, zero, suc, ◌+◌, ◌-◌, ◌^◌, List, [], ◌∷◌, ◌++◌, map, min, option_to_list, Option, Some}
-use Rattle.std.specs.Prelude.{None}
-use Rattle.rt_ids.specs.Event.{Event, Step}
+use Rattle.std.specs.Prelude.{List, None, Option, Some, [], map, suc, zero, ℕ, ◌++◌, ◌+◌, ◌-◌, ◌^◌, ◌∷◌}
+use Rattle.std.specs.Prelude.{min, option_to_list}
 use Rattle.rt_code.specs.Image.{Image}
-use Rattle.rt_core.specs.Core.{Core}
-use Rattle.rt_core.specs.Stepping.{step}
-use Rattle.rt_core.specs.Trace.{core_after}
+use Rattle.rt_core.specs.{Core.Core, Stepping.step, Trace.core_after}
+use Rattle.rt_ids.specs.Event.{Event, Step}
 use Rattle.rt_trace.specs.declared.item.What.{What}
-use Rattle.rt_trace.specs.declared.item.What.TheVariants as what
-use Rattle.rt_words.specs.Row.{bit_in_row, word_in_row}
-use Rattle.rt_words.specs.declared.call.Call.{Call}
-use Rattle.rt_words.specs.declared.call.Call.TheVariants.{Pend, Latch}
+use Rattle.rt_words.specs.declared.call.Call.TheVariants.{Latch, Pend}
+use Rattle.rt_words.specs.{Row.bit_in_row, Row.word_in_row, declared.call.Call.Call}
 use Rattle.rt_live.specs.Interleaving.{Turn, Happens, Looks, look_arrivals, look_calls_from}
+use Rattle.rt_trace.specs.declared.item.What.TheVariants as what
 
 -- a call of a line without the answer of a pend
 pub data Request : Type 0 where

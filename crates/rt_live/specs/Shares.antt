@@ -1,14 +1,11 @@
 -- Which events of a script come to a core, by the share that the core has in it. It is this project's own.
-use Rattle.std.specs.Prelude.{◌≡◌, Bool, true, false, if◌then◌else◌, List, [], flat_map}
 use Rattle.std.specs.List.{AllByRecursion}
-use Rattle.rt_ids.specs.Event.{Event, Arrive, Tick, Step}
-use Rattle.rt_ids.specs.Names.{Names}
-use Rattle.rt_script.specs.Script.{HasName, line_events}
-use Rattle.rt_script.specs.declared.line.Line.{Line}
-use Rattle.rt_script.specs.declared.line.Line.TheVariants.{Steps, Ticks, Pends, Device}
-use Rattle.rt_live.specs.Interleaving.{Turn, with_looks}
-use Rattle.rt_live.specs.declared.share.Share.{Share}
-use Rattle.rt_live.specs.declared.share.Share.TheVariants.{BesideDevices, Second}
+use Rattle.std.specs.Prelude.{Bool, List, [], false, flat_map, if◌then◌else◌, true, ◌≡◌}
+use Rattle.rt_ids.specs.{Event.Arrive, Event.Event, Event.Step, Event.Tick, Names.Names}
+use Rattle.rt_script.specs.declared.line.Line.TheVariants.{Device, Pends, Steps, Ticks}
+use Rattle.rt_script.specs.{Script.HasName, Script.line_events, declared.line.Line.Line}
+use Rattle.rt_live.specs.{Interleaving.Turn, Interleaving.with_looks, declared.share.Share.Share}
+use Rattle.rt_live.specs.{declared.share.Share.TheVariants.BesideDevices, declared.share.Share.TheVariants.Second}
 
 -- Whether the events of a line come to a core: to one beside devices all but the devices' requests, to the first of a
 -- pair all, devices' requests at their lines, and to the second its ticks and steps.

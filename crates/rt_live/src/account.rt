@@ -1,11 +1,10 @@
 // The account of pends, and its lines.
 
-ghost use Rattle.std.specs.Prelude.{◌≡◌, ◌+◌, ◌≤◌, ◌∷◌, ◌++◌, decimal, length, OnOk, OnErr};
+ghost use Rattle.std.specs.Prelude.{OnErr, OnOk, decimal, length, ◌++◌, ◌+◌, ◌∷◌, ◌≡◌, ◌≤◌};
 ghost use Rattle.rt_ids.specs.Naming.{irq_name};
-ghost use Rattle.rt_outside.specs.Faults.{HasCause};
-ghost use Rattle.rt_outside.specs.Bytes.{Took, TookPrefix};
-ghost use Rattle.rt_live.specs.Account as spec;
+ghost use Rattle.rt_outside.specs.{Bytes.Took, Bytes.TookPrefix, Faults.HasCause};
 ghost use Rattle.rt_live.specs.declared.account.TheConstants.{ROW_BYTES};
+ghost use Rattle.rt_live.specs.Account as spec;
 
 use arrayvec::ArrayVec;
 use itoa::Buffer;

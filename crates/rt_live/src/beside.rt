@@ -1,19 +1,12 @@
 // The core's own lines and the devices, side by side, and the end of the run.
-ghost use Rattle.std.specs.Prelude.{◌≡◌, ◌+◌, [], All, OnOk, OnErr};
-ghost use Rattle.std.specs.Thread.{IsSync};
+ghost use Rattle.std.specs.{Prelude.All, Prelude.OnOk, Prelude.is_ok, Prelude.◌≡◌, Thread.IsSync};
 ghost use Rattle.rt_code.specs.Lines.{HasLines};
 ghost use Rattle.rt_core.specs.Machine.{IsFresh};
 ghost use Rattle.rt_outside.specs.Faults.{HasCause};
-ghost use Rattle.rt_script.specs.Script.{count, HasNames};
-ghost use Rattle.rt_live.specs.Able.{CanGo};
-ghost use Rattle.rt_live.specs.Going.{Goes, Stops, IsSameLine};
-ghost use Rattle.rt_live.specs.Interleaving.{last_turns, turns};
-ghost use Rattle.rt_live.specs.Ready.{AreReady, AreGathered, core_line};
-ghost use Rattle.rt_live.specs.Requests.{no_route};
-ghost use Rattle.rt_live.specs.Shares.{own_turns};
-ghost use Rattle.rt_live.specs.Written.{EndsWhole, EndsEarly};
-ghost use Rattle.rt_live.specs.Inside.Working.{CanWork, AllWork};
-ghost use Rattle.rt_live.specs.declared.share.Share.TheVariants.{BesideDevices};
+ghost use Rattle.rt_script.specs.Script.{HasNames, count};
+ghost use Rattle.rt_live.specs.{Able.CanGo, Going.Goes, Interleaving.turns, Ready.AreGathered, Ready.AreReady};
+ghost use Rattle.rt_live.specs.{Requests.no_route, Shares.own_turns, Written.Ended, Inside.Working.AllWork};
+ghost use Rattle.rt_live.specs.{Inside.Working.CanWork, declared.share.Share.TheVariants.BesideDevices};
 
 use crate::account::AccountRow;
 use crate::ending::end;
@@ -36,29 +29,6 @@ const ALONE: Role<NoRoutes> = Role {
     routes: NoRoutes,
 };
 
-/// The core looks once more, makes as many core steps again as there were, each behind a look, and the line of the
-/// total goes out.
-fn end_alone<K: Sink, G: Gate>(
-    core: &mut Core,
-    line: &mut Line,
-    words: &Words,
-    out: &mut K,
-    gate: &G,
-) -> Result<(), Failed>
-    requires can { CanGo (core.old.steps + 1) no_route core.old line.old words.now }
-    ensures ok { OnOk result (EndsWhole no_route (last_turns core.old.steps) line.old line.new core.old core.new
-        (K.taken out.old) (K.taken out.new)) }
-    ensures err { OnErr result (EndsEarly no_route (last_turns core.old.steps) line.old line.new core.old core.new
-        (K.taken out.old) (K.taken out.new)) }
-    ensures same { IsSameLine line.old line.new }
-    ensures cause { HasCause (K.faults out.old) (K.faults out.new) result }
-    ensures quiet { OnOk result (K.faults out.new ≡ K.faults out.old) }
-{
-    let steps = core.steps();
-    let mut between = Between::new();
-    end(core, line, words, &ALONE, steps, out, &mut between, gate)
-}
-
 /// The core does the script's own lines while the devices make their pends. It ends when all of them have ended.
 fn beside<R: Threads + Sync, K: Sink, G: Gate + Sync>(
     rt: &R,
@@ -74,11 +44,8 @@ fn beside<R: Threads + Sync, K: Sink, G: Gate + Sync>(
     requires declared { HasNames core.old.image.names script.now }
     requires work { All (CanWork words.now) devices.old }
     ensures worked { AllWork devices.old devices.new }
-    ensures ok { OnOk result (Goes no_route (own_turns BesideDevices script.now) line.old line.new core.old core.new
-        (K.taken out.old) (K.taken out.new)) }
-    ensures err { OnErr result (Stops no_route (own_turns BesideDevices script.now) line.old line.new
-        core.old core.new (K.taken out.old) (K.taken out.new)) }
-    ensures same { IsSameLine line.old line.new }
+    ensures goes { Goes no_route (own_turns BesideDevices script.now) (is_ok result) line.old line.new
+        core.old core.new (K.taken out.old) (K.taken out.new) }
     ensures cause { HasCause (K.faults out.old) (K.faults out.new) result }
     ensures quiet { OnOk result (K.faults out.new ≡ K.faults out.old) }
 {
@@ -98,11 +65,9 @@ fn beside<R: Threads + Sync, K: Sink, G: Gate + Sync>(
         &mut || -> Result<(), Failed>
             requires can { CanGo (count script.now) no_route core.now line.now words.now }
             requires declared { HasNames core.now.image.names script.now }
-            ensures ok { OnOk result (Goes no_route (own_turns BesideDevices script.entry.now) line.entry.now
-                line.exit.now core.entry.now core.exit.now (K.taken out.entry.now) (K.taken out.exit.now)) }
-            ensures err { OnErr result (Stops no_route (own_turns BesideDevices script.entry.now) line.entry.now
-                line.exit.now core.entry.now core.exit.now (K.taken out.entry.now) (K.taken out.exit.now)) }
-            ensures same { IsSameLine line.entry.now line.exit.now }
+            ensures goes { Goes no_route (own_turns BesideDevices script.entry.now) (is_ok result)
+                line.entry.now line.exit.now core.entry.now core.exit.now
+                (K.taken out.entry.now) (K.taken out.exit.now) }
             ensures cause { HasCause (K.faults out.entry.now) (K.faults out.exit.now) result }
             ensures quiet { OnOk result (K.faults out.exit.now ≡ K.faults out.entry.now) }
         {
@@ -113,8 +78,9 @@ fn beside<R: Threads + Sync, K: Sink, G: Gate + Sync>(
     done
 }
 
-/// The core does the script's own lines while the devices make their pends. Then the lines of the devices are gathered,
-/// and the core goes on to its end.
+/// The core does the script's own lines while the devices make their pends. Then the lines of the devices are gathered.
+/// The core looks once more, makes as many core steps again as there were, each behind a look, and the line of the
+/// total goes out.
 pub(crate) fn go<R: Threads + Sync, K: Sink, G: Gate + Sync>(
     rt: &R,
     core: &mut Core,
@@ -131,13 +97,10 @@ pub(crate) fn go<R: Threads + Sync, K: Sink, G: Gate + Sync>(
     requires ready { AreReady core.old.image.names script.now words.now line.old devices.items rows.old }
 
     // The core's line made the calls of the turns, and no other: the latches of the looks. What was written is the
-    // trace of the interleaving with just what these looks found, and its total.
-    ensures ok { OnOk result (EndsWhole no_route (turns script.now) (core_line words.now [])
-        (core_line words.now line.new.calls) core.old core.new (K.taken out.old) (K.taken out.new)) }
-
-    // A fault came in the turns, and the last look may be cut, or it came in the line of the total.
-    ensures err { OnErr result (EndsEarly no_route (turns script.now) (core_line words.now [])
-        (core_line words.now line.new.calls) core.old core.new (K.taken out.old) (K.taken out.new)) }
+    // trace of the interleaving with just what these looks found, and its total. At a fault the last look may be cut,
+    // or the fault came in the line of the total.
+    ensures ended { Ended no_route 0 0 (turns script.now) (is_ok result) line.new.calls core.old core.new
+        (K.taken out.old) (K.taken out.new) }
 
     // Either way each device has made its pends, and its line is gathered.
     ensures gathered { AreGathered core.old.image.names script.now words.now line.new rows.new }
@@ -147,5 +110,7 @@ pub(crate) fn go<R: Threads + Sync, K: Sink, G: Gate + Sync>(
     let done = beside(rt, core, line, words, script, out, gate, &mut devices);
     gather_all(line, words, devices, rows);
     done?;
-    end_alone(core, line, words, out, gate)
+    let steps = core.steps();
+    let mut between = Between::new();
+    end(core, line, words, &ALONE, steps, out, &mut between, gate)
 }

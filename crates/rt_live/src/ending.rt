@@ -1,14 +1,12 @@
 // The end of a run: the last look, the added steps, and the total.
-ghost use Rattle.std.specs.Prelude.{◌≡◌, ◌+◌, [], ◌++◌, OnOk, OnErr};
+ghost use Rattle.std.specs.Prelude.{OnOk, is_ok, ◌++◌, ◌+◌, ◌≡◌};
 ghost use Rattle.rt_outside.specs.Faults.{HasCause};
 ghost use Rattle.rt_script.specs.Script.{count};
 ghost use Rattle.rt_live.specs.Able.{CanGo};
-ghost use Rattle.rt_live.specs.Interleaving.{last_turns};
-ghost use Rattle.rt_live.specs.Shares.{HasOwnNames, own_turns};
-ghost use Rattle.rt_live.specs.Written.{EndsWhole, EndsEarly};
+ghost use Rattle.rt_live.specs.{Interleaving.last_turns, Shares.HasOwnNames, Shares.own_turns, Written.Ends};
 
 use crate::routes::{Role, Routes};
-use crate::turns::{Between, last_turns, own_lines};
+use crate::turns::{Between, look, own_lines, repeat};
 use rt_core::Core;
 use rt_devices::Gate;
 use rt_outside::{Failed, Sink};
@@ -28,15 +26,15 @@ pub(crate) fn end<K: Sink, G: Gate, T: Routes>(
     gate: &G,
 ) -> Result<(), Failed>
     requires can { CanGo (steps + 1) (T.leads role.now.routes) core.old line.old words.now }
-    requires empty { between.old.held ≡ [] }
-    ensures ok { OnOk result (EndsWhole (T.leads role.now.routes) (last_turns steps) line.old line.new core.old core.new
-        (K.taken out.old) (K.taken out.new)) }
-    ensures err { OnErr result (EndsEarly (T.leads role.now.routes) (last_turns steps) line.old line.new
-        core.old core.new (K.taken out.old) (K.taken out.new)) }
+    ensures ends { Ends (T.leads role.now.routes) (last_turns steps) (is_ok result)
+        line.old line.new core.old core.new (K.taken out.old) (K.taken out.new) }
     ensures cause { HasCause (K.faults out.old) (K.faults out.new) result }
     ensures quiet { OnOk result (K.faults out.new ≡ K.faults out.old) }
 {
-    last_turns(core, line, words, role, steps, out, between, gate)?;
+    look(core, line, words, out, &mut between.held)?;
+    let one = Asked::Steps(1);
+    repeat(core, line, words, role, &one, steps, out, between, gate)?;
+    between.held.clear();
     put_end(out, &mut between.held, core.steps())
 }
 
@@ -53,11 +51,8 @@ pub fn run_turns<K: Sink, G: Gate, T: Routes>(
 ) -> Result<(), Failed>
     requires can { CanGo (count script.now + 1) (T.leads role.now.routes) core.old line.old words.now }
     requires declared { HasOwnNames role.now.share core.old.image.names script.now }
-    ensures ok { OnOk result (EndsWhole (T.leads role.now.routes) (own_turns role.now.share script.now ++ last_turns 0)
-        line.old line.new core.old core.new (K.taken out.old) (K.taken out.new)) }
-    ensures err { OnErr result (EndsEarly (T.leads role.now.routes)
-        (own_turns role.now.share script.now ++ last_turns 0) line.old line.new core.old core.new
-        (K.taken out.old) (K.taken out.new)) }
+    ensures ends { Ends (T.leads role.now.routes) (own_turns role.now.share script.now ++ last_turns 0) (is_ok result)
+        line.old line.new core.old core.new (K.taken out.old) (K.taken out.new) }
     ensures cause { HasCause (K.faults out.old) (K.faults out.new) result }
     ensures quiet { OnOk result (K.faults out.new ≡ K.faults out.old) }
 {

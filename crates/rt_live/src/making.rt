@@ -1,15 +1,13 @@
 // What a run is made of: the rows of the account, the interrupts that may be pended, and the devices of the script.
-ghost use Rattle.std.specs.Prelude.{◌≡◌, ◌≢◌, ℕ, List, ◌/◌, ◌<◌, ◌∷◌, ◌++◌, map, Contains, IfOk, OnOk};
 ghost use Rattle.std.specs.List.{AllByRecursion};
+ghost use Rattle.std.specs.Prelude.{Contains, IfOk, List, OnOk, map, ℕ, ◌%◌, ◌++◌, ◌/◌, ◌<◌, ◌≡◌, ◌≢◌, ◌⊎◌};
 ghost use Rattle.rt_ids.specs.declared.limits.TheConstants.{DEVICES, IRQ_NUMBERS};
-ghost use Rattle.rt_words.specs.Lines.{new_line};
-ghost use Rattle.rt_words.specs.Object.{pending_bit};
-ghost use Rattle.rt_live.specs.Devices.{devices, device_script, is_device};
-ghost use Rattle.rt_live.specs.Account.{declared_irqs, empty_row};
-ghost use Rattle.rt_live.specs.Ready.{HasBits, IsWaiting, irqs_of, maker_line};
+ghost use Rattle.rt_words.specs.{Lines.new_line, Object.IsPending, Object.pending_bit};
+ghost use Rattle.rt_live.specs.{Devices.device_script, Devices.devices, Devices.is_device, Account.declared_irqs};
+ghost use Rattle.rt_live.specs.{Account.empty_row, Ready.HasBits, Ready.IsWaiting, Ready.irqs_of, Ready.maker_line};
 
 use crate::account::AccountRow;
-use crate::row_bits;
+use crate::gathering::bit_in_row;
 use rt_devices::Device;
 use rt_ids::limits::DEVICES;
 use rt_ids::{Irq, Names, NoMemory};
@@ -44,10 +42,12 @@ pub fn add_bits(may: &mut [u32; 32], core: u8, rows: &[AccountRow])
     ensures own { (before : List ℕ) → HasBits core may.old before
         → HasBits core may.new (before ++ irqs_of rows.now) }
     ensures other { (bit : ℕ) → bit / 512 ≢ core → pending_bit may.new bit ≡ pending_bit may.old bit }
+    ensures low { (bit : ℕ) → IsPending may.new bit
+        → IsPending may.old bit ⊎ ((bit / 512 ≡ core) × (bit % 512 < IRQ_NUMBERS)) }
     ensures in_range { AllByRecursion (λ irq. irq < IRQ_NUMBERS) (irqs_of rows.now) }
 {
     for row in rows {
-        let bit = row_bits::bit_in_row(core, row.irq);
+        let bit = bit_in_row(core, row.irq);
         may[bit / 32] |= 1 << (bit % 32);
     }
 }
@@ -74,31 +74,7 @@ fn script_of(alloc: Global, lines: &[Line], number: u8) -> Result<Vec<(Irq, u32)
     Ok(script)
 }
 
-/// The device of a number, with a line that is made for it.
-fn device_of(
-    alloc: Global,
-    words: &Words,
-    line: &mut Caller,
-    lines: &[Line],
-    number: u8,
-) -> Result<Device, NoMemory>
-    requires line { line.old ≡ maker_line words.now line.old.made }
-    requires low { number < DEVICES }
-    requires new { ¬ Contains line.old.made number }
-    ensures number { IfOk result (λ device. device.number ≡ number) }
-    ensures waiting { IfOk result (IsWaiting words.now lines.now) }
-    ensures line { OnOk result (line.new ≡ maker_line words.now (number ∷ line.old.made)) }
-{
-    let script = script_of(alloc, lines, number)?;
-    let own = line.split(words, number, 0, 0);
-    Ok(Device {
-        line: own,
-        number,
-        script,
-    })
-}
-
-/// The devices of a script, by rising number.
+/// The devices of a script, by rising number, each with a line that is made for it.
 pub(crate) fn devices_of(
     alloc: Global,
     words: &Words,
@@ -113,9 +89,16 @@ pub(crate) fn devices_of(
 {
     let mut made = Vec::new(alloc);
     for number in 0..DEVICES {
-        if names_device(lines, number) {
-            made.push(device_of(alloc, words, line, lines, number)?)?;
+        if !names_device(lines, number) {
+            continue;
         }
+        let script = script_of(alloc, lines, number)?;
+        let own = line.split(words, number, 0, 0);
+        made.push(Device {
+            line: own,
+            number,
+            script,
+        })?;
     }
     Ok(made)
 }

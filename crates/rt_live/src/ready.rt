@@ -1,17 +1,14 @@
 // What a run takes memory for, and the run of it to its end.
-ghost use Rattle.std.specs.Prelude.{◌≡◌, IfOk, OnOk, OnErr};
-ghost use Rattle.std.specs.List.{AllByRecursion};
+ghost use Rattle.std.specs.{List.AllByRecursion, Prelude.IfOk, Prelude.OnErr, Prelude.OnOk, Prelude.◌≡◌};
 ghost use Rattle.rt_code.specs.Lines.{HasLines};
 ghost use Rattle.rt_core.specs.Machine.{IsFresh};
 ghost use Rattle.rt_outside.specs.Faults.{HasCause};
 ghost use Rattle.rt_script.specs.Script.{HasNames};
-ghost use Rattle.rt_live.specs.Doing.{HasLived, HasWrittenPart};
-ghost use Rattle.rt_live.specs.Output.{IsBalanced};
-ghost use Rattle.rt_live.specs.Ready.{IsReady};
+ghost use Rattle.rt_live.specs.{Doing.HasLived, Doing.HasWrittenPart, Output.IsBalanced, Ready.IsReady};
 
 use crate::account::{Account, AccountRow};
 use crate::beside::go;
-use crate::left::enter_left;
+use crate::gathering::enter_left;
 use crate::making::{add_bits, devices_of, rows_of};
 use rt_core::Core;
 use rt_devices::{Device, Gate};

@@ -1,6 +1,6 @@
 // Where the posts of a core lead.
 
-ghost use Rattle.std.specs.Prelude.{◌≡◌, ℕ, Option};
+ghost use Rattle.std.specs.Prelude.{Option, ℕ, ◌≡◌};
 
 use crate::share::Share;
 use rt_ids::Irq;

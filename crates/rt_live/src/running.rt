@@ -1,15 +1,13 @@
 // Runs a core beside the devices of a script.
 
-ghost use Rattle.std.specs.Prelude.{◌≡◌, [], ℕ, List, IfOk, IsErrOf, OnOk, OnErr};
 ghost use Rattle.std.specs.List.{AllByRecursion};
+ghost use Rattle.std.specs.Prelude.{IfOk, IsErrOf, List, OnErr, OnOk, [], ℕ, ◌≡◌};
 ghost use Rattle.rt_code.specs.Lines.{HasLines};
 ghost use Rattle.rt_core.specs.Machine.{IsFresh};
-ghost use Rattle.rt_outside.specs.Bytes.{Took};
-ghost use Rattle.rt_outside.specs.Faults.{Rose, HasCause};
+ghost use Rattle.rt_outside.specs.{Bytes.Took, Faults.HasCause, Faults.Rose};
 ghost use Rattle.rt_script.specs.Script.{HasNames};
 ghost use Rattle.rt_live.specs.Doing.{HasLived, HasWritten, HasWrittenPart};
-ghost use Rattle.rt_live.specs.Output.{IsLiveText, Lives, TookPart, IsBalanced};
-ghost use Rattle.rt_live.specs.Ready.{IsReady};
+ghost use Rattle.rt_live.specs.{Output.IsBalanced, Output.IsLiveText, Output.Lives, Output.TookPart, Ready.IsReady};
 
 use crate::account::{Account, put_account};
 use crate::ready::Ready;

@@ -1,10 +1,9 @@
 // One core step, whose line goes out at once and whose item is told.
-ghost use Rattle.std.specs.Prelude.{◌≡◌, ◌^◌, ◌<◌, [], ◌∷◌, IfOk, OnOk, OnErr};
-ghost use Rattle.rt_core.specs.Stepping as stepping;
+ghost use Rattle.std.specs.Prelude.{IfOk, OnErr, OnOk, [], ◌<◌, ◌^◌, ◌∷◌, ◌≡◌};
 ghost use Rattle.rt_ids.specs.Event.{Step};
 ghost use Rattle.rt_outside.specs.Faults.{HasCause};
-ghost use Rattle.rt_run.specs.Sending.{Sends, Breaks};
-ghost use Rattle.rt_run.specs.Writable.{IsWritable};
+ghost use Rattle.rt_run.specs.{Sending.Breaks, Sending.Sends, Writable.IsWritable};
+ghost use Rattle.rt_core.specs.Stepping as stepping;
 
 use rt_core::Core;
 use rt_outside::{Failed, Sink, put_all};

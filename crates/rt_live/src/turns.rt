@@ -1,17 +1,12 @@
 // Turns of a core of a row: looks at its words, the events of a script that are its own, and what its posts lead to.
-ghost use Rattle.std.specs.Prelude.{◌≡◌, ◌+◌, ◌-◌, ◌*◌, ◌^◌, ◌<◌, ◌==◌, [], ◌∷◌, length, map, replicate, OnOk, OnErr};
-ghost use Rattle.std.specs.Prelude.{if◌then◌else◌};
-ghost use Rattle.std.specs.Int.{bit_at};
-ghost use Rattle.rt_ids.specs.Arrivals.{arrivals};
-ghost use Rattle.rt_ids.specs.Event.{Arrive, Step};
+ghost use Rattle.std.specs.Prelude.{OnOk, Option, [], is_ok, length, map, replicate, ℕ, ◌+◌, ◌-◌, ◌<◌, ◌^◌, ◌∷◌, ◌≡◌};
+ghost use Rattle.rt_ids.specs.{Arrivals.arrivals, Event.Arrive, Event.Step};
 ghost use Rattle.rt_outside.specs.Faults.{HasCause};
-ghost use Rattle.rt_run.specs.Sending.{Sends, Breaks};
 ghost use Rattle.rt_run.specs.Writable.{IsWritable};
-ghost use Rattle.rt_script.specs.Script.{HasName, count, count_of};
-ghost use Rattle.rt_live.specs.Able.{IsAble, CanGo, BitsMayArrive, MayArrive, MayRoute};
-ghost use Rattle.rt_live.specs.Going.{Finds, FindsPart, Goes, Posts, Stops};
-ghost use Rattle.rt_live.specs.Interleaving.{event_turns, last_turns, with_looks};
-ghost use Rattle.rt_live.specs.Shares.{HasOwnName, HasOwnNames, event_of, own_line_events, own_turns};
+ghost use Rattle.rt_script.specs.Script.{HasName, count};
+ghost use Rattle.rt_live.specs.Able.{BitsMayArrive, CanGo, IsAble, MayRoute};
+ghost use Rattle.rt_live.specs.{Going.Comes, Going.Goes, Going.Posts, Interleaving.Looks, Interleaving.event_turns};
+ghost use Rattle.rt_live.specs.{Interleaving.with_looks, Shares.HasOwnNames, Shares.event_of, Shares.own_turns};
 ghost use Rattle.rt_live.specs.Requests as spec;
 
 use crate::routes::{Role, Routes};
@@ -29,10 +24,10 @@ use rt_words::{CORE_WORDS, Line, Words};
 /// Bits of a word.
 const WORD_BITS: u16 = 32;
 
-/// What goes from turn to turn: a buffer for lines, which is empty between them, and how often a post was forwarded.
+/// What goes from turn to turn.
 #[derive(Drop)]
 pub(crate) struct Between {
-    /// The lines of an event before they go out.
+    /// Room for the lines of an event before they go out, in which nothing is kept.
     pub held: LineBuffer,
     /// How often a post was forwarded; stands still at its type's end.
     pub forwarded: u64,
@@ -40,45 +35,12 @@ pub(crate) struct Between {
 
 impl Between {
     /// Before the first turn.
-    pub(crate) fn new() -> Between
-        ensures { result.held ≡ [] }
-    {
+    pub(crate) fn new() -> Between {
         Between {
             held: LineBuffer::new(),
             forwarded: 0,
         }
     }
-}
-
-/// The interrupt of a bit of a word arrives, where the bit stands.
-fn arrive_bit<K: Sink>(
-    core: &mut Core,
-    word: u8,
-    found: u32,
-    bit: u16,
-    out: &mut K,
-    held: &mut LineBuffer,
-) -> Result<(), Failed>
-    requires writable { IsWritable core.old }
-    requires few { core.old.steps < 2 ^ 31 }
-    requires bit { bit < 32 }
-    requires may { bit_at found bit ≡ 1 → MayArrive core.old.image.names (32 * word + bit) }
-    requires empty { held.old ≡ [] }
-    ensures ok { OnOk result (Sends (map Arrive (if bit_at found bit == 1 then (32 * word + bit) ∷ [] else []))
-        core.old core.new (K.taken out.old) (K.taken out.new)) }
-    ensures none_held { OnOk result (held.new ≡ []) }
-    ensures err { OnErr result (Breaks (map Arrive (if bit_at found bit == 1 then (32 * word + bit) ∷ [] else []))
-        core.old core.new (K.taken out.old) (K.taken out.new)) }
-    ensures cause { HasCause (K.faults out.old) (K.faults out.new) result }
-    ensures quiet { OnOk result (K.faults out.new ≡ K.faults out.old) }
-{
-    if (found >> bit) & 1 != 1 {
-        return Ok(());
-    }
-    let Some(irq) = Irq::new(u16::from(word) * WORD_BITS + bit) else {
-        unreachable!()
-    };
-    send_pend(core, irq, out, held)
 }
 
 /// The interrupts whose bits a word holds arrive, the lowest first.
@@ -92,26 +54,26 @@ fn arrive_word<K: Sink>(
     requires writable { IsWritable core.old }
     requires few { core.old.steps < 2 ^ 31 }
     requires may { BitsMayArrive core.old.image.names word found }
-    requires empty { held.old ≡ [] }
-    ensures ok { OnOk result
-        (Sends (map Arrive (arrivals word found)) core.old core.new (K.taken out.old) (K.taken out.new)) }
-    ensures none_held { OnOk result (held.new ≡ []) }
-    ensures err { OnErr result
-        (Breaks (map Arrive (arrivals word found)) core.old core.new (K.taken out.old) (K.taken out.new)) }
+    ensures comes { Comes (is_ok result) (map Arrive (arrivals word found))
+        core.old core.new (K.taken out.old) (K.taken out.new) }
     ensures cause { HasCause (K.faults out.old) (K.faults out.new) result }
     ensures quiet { OnOk result (K.faults out.new ≡ K.faults out.old) }
 {
-    if found == 0 {
-        return Ok(());
-    }
     for bit in 0..WORD_BITS {
-        arrive_bit(core, word, found, bit, out, held)?;
+        if (found >> bit) & 1 != 1 {
+            continue;
+        }
+        let Some(irq) = Irq::new(u16::from(word) * WORD_BITS + bit) else {
+            unreachable!()
+        };
+        held.clear();
+        send_pend(core, irq, out, held)?;
     }
     Ok(())
 }
 
 /// One look: latches every word of the line's own core, from word 0 up, and what each holds arrives.
-fn look<K: Sink>(
+pub(crate) fn look<K: Sink>(
     core: &mut Core,
     line: &mut Line,
     words: &Words,
@@ -121,16 +83,16 @@ fn look<K: Sink>(
     requires able { IsAble core.old line.old words.now }
     requires few { core.old.steps < 2 ^ 31 }
     requires room { length line.old.calls + 16 < 2 ^ 32 - 1 }
-    requires empty { held.old ≡ [] }
-    ensures ok { OnOk result (Finds CORE_WORDS line.old line.new core.old core.new
-        (K.taken out.old) (K.taken out.new)) }
-    ensures none_held { OnOk result (held.new ≡ []) }
-    ensures err { OnErr result (FindsPart line.old line.new core.old core.new (K.taken out.old) (K.taken out.new)) }
+    ensures goes { (route : ℕ → Option ℕ) → Goes route (Looks ∷ []) (is_ok result)
+        line.old line.new core.old core.new (K.taken out.old) (K.taken out.new) }
     ensures cause { HasCause (K.faults out.old) (K.faults out.new) result }
     ensures quiet { OnOk result (K.faults out.new ≡ K.faults out.old) }
 {
     for k in 0..CORE_WORDS {
         let found = line.latch(words, k);
+        if found == 0 {
+            continue;
+        }
         arrive_word(core, k, found, out, held)?;
     }
     Ok(())
@@ -189,12 +151,8 @@ fn step<K: Sink, G: Gate, T: Routes>(
     gate: &G,
 ) -> Result<(), Failed>
     requires can { CanGo 1 (T.leads role.now.routes) core.old line.old words.now }
-    requires empty { between.old.held ≡ [] }
-    ensures ok { OnOk result (Goes (T.leads role.now.routes) (event_turns Step) line.old line.new core.old core.new
-        (K.taken out.old) (K.taken out.new)) }
-    ensures none_held { OnOk result (between.new.held ≡ []) }
-    ensures err { OnErr result (Stops (T.leads role.now.routes) (event_turns Step) line.old line.new core.old core.new
-        (K.taken out.old) (K.taken out.new)) }
+    ensures goes { Goes (T.leads role.now.routes) (event_turns Step) (is_ok result)
+        line.old line.new core.old core.new (K.taken out.old) (K.taken out.new) }
     ensures cause { HasCause (K.faults out.old) (K.faults out.new) result }
     ensures quiet { OnOk result (K.faults out.new ≡ K.faults out.old) }
 {
@@ -218,25 +176,26 @@ fn turn<K: Sink, G: Gate, T: Routes>(
 ) -> Result<(), Failed>
     requires can { CanGo 1 (T.leads role.now.routes) core.old line.old words.now }
     requires declared { HasName core.old.image.names asked.now }
-    requires empty { between.old.held ≡ [] }
-    ensures ok { OnOk result (Goes (T.leads role.now.routes) (event_turns (event_of asked.now))
-        line.old line.new core.old core.new (K.taken out.old) (K.taken out.new)) }
-    ensures none_held { OnOk result (between.new.held ≡ []) }
-    ensures err { OnErr result (Stops (T.leads role.now.routes) (event_turns (event_of asked.now))
-        line.old line.new core.old core.new (K.taken out.old) (K.taken out.new)) }
+    ensures goes { Goes (T.leads role.now.routes) (event_turns (event_of asked.now)) (is_ok result)
+        line.old line.new core.old core.new (K.taken out.old) (K.taken out.new) }
     ensures cause { HasCause (K.faults out.old) (K.faults out.new) result }
     ensures quiet { OnOk result (K.faults out.new ≡ K.faults out.old) }
 {
     match asked {
         Asked::Steps(_) => step(core, line, words, role, out, between, gate),
-        Asked::Ticks(_) => send_tick(core, out, &mut between.held),
-        Asked::Pends(irq, _) => send_pend(core, *irq, out, &mut between.held),
-        Asked::Device(_, irq, _) => send_pend(core, *irq, out, &mut between.held),
+        Asked::Ticks(_) => {
+            between.held.clear();
+            send_tick(core, out, &mut between.held)
+        }
+        Asked::Pends(irq, _) | Asked::Device(_, irq, _) => {
+            between.held.clear();
+            send_pend(core, *irq, out, &mut between.held)
+        }
     }
 }
 
 /// The event that a line of the script counts, so many times.
-fn repeat<K: Sink, G: Gate, T: Routes>(
+pub(crate) fn repeat<K: Sink, G: Gate, T: Routes>(
     core: &mut Core,
     line: &mut Line,
     words: &Words,
@@ -249,12 +208,8 @@ fn repeat<K: Sink, G: Gate, T: Routes>(
 ) -> Result<(), Failed>
     requires can { CanGo times (T.leads role.now.routes) core.old line.old words.now }
     requires declared { HasName core.old.image.names asked.now }
-    requires empty { between.old.held ≡ [] }
-    ensures ok { OnOk result (Goes (T.leads role.now.routes) (with_looks (replicate times (event_of asked.now)))
-        line.old line.new core.old core.new (K.taken out.old) (K.taken out.new)) }
-    ensures none_held { OnOk result (between.new.held ≡ []) }
-    ensures err { OnErr result (Stops (T.leads role.now.routes) (with_looks (replicate times (event_of asked.now)))
-        line.old line.new core.old core.new (K.taken out.old) (K.taken out.new)) }
+    ensures goes { Goes (T.leads role.now.routes) (with_looks (replicate times (event_of asked.now))) (is_ok result)
+        line.old line.new core.old core.new (K.taken out.old) (K.taken out.new) }
     ensures cause { HasCause (K.faults out.old) (K.faults out.new) result }
     ensures quiet { OnOk result (K.faults out.new ≡ K.faults out.old) }
 {
@@ -262,35 +217,6 @@ fn repeat<K: Sink, G: Gate, T: Routes>(
         turn(core, line, words, role, asked, out, between, gate)?;
     }
     Ok(())
-}
-
-/// The events of a line of the script, where they come to the core.
-fn own_line<K: Sink, G: Gate, T: Routes>(
-    core: &mut Core,
-    line: &mut Line,
-    words: &Words,
-    role: &Role<T>,
-    asked: &Asked,
-    out: &mut K,
-    between: &mut Between,
-    gate: &G,
-) -> Result<(), Failed>
-    requires can { CanGo (count_of asked.now) (T.leads role.now.routes) core.old line.old words.now }
-    requires declared { HasOwnName role.now.share core.old.image.names asked.now }
-    requires empty { between.old.held ≡ [] }
-    ensures ok { OnOk result (Goes (T.leads role.now.routes) (with_looks (own_line_events role.now.share asked.now))
-        line.old line.new core.old core.new (K.taken out.old) (K.taken out.new)) }
-    ensures none_held { OnOk result (between.new.held ≡ []) }
-    ensures err { OnErr result (Stops (T.leads role.now.routes) (with_looks (own_line_events role.now.share asked.now))
-        line.old line.new core.old core.new (K.taken out.old) (K.taken out.new)) }
-    ensures cause { HasCause (K.faults out.old) (K.faults out.new) result }
-    ensures quiet { OnOk result (K.faults out.new ≡ K.faults out.old) }
-{
-    if !role.share.takes(asked) {
-        return Ok(());
-    }
-    let times = u64::from(asked.count());
-    repeat(core, line, words, role, asked, times, out, between, gate)
 }
 
 /// The events of a script that are the core's own, in order; each core step comes behind a look.
@@ -306,43 +232,17 @@ pub(crate) fn own_lines<K: Sink, G: Gate, T: Routes>(
 ) -> Result<(), Failed>
     requires can { CanGo (count script.now) (T.leads role.now.routes) core.old line.old words.now }
     requires declared { HasOwnNames role.now.share core.old.image.names script.now }
-    requires empty { between.old.held ≡ [] }
-    ensures ok { OnOk result (Goes (T.leads role.now.routes) (own_turns role.now.share script.now)
-        line.old line.new core.old core.new (K.taken out.old) (K.taken out.new)) }
-    ensures none_held { OnOk result (between.new.held ≡ []) }
-    ensures err { OnErr result (Stops (T.leads role.now.routes) (own_turns role.now.share script.now)
-        line.old line.new core.old core.new (K.taken out.old) (K.taken out.new)) }
+    ensures goes { Goes (T.leads role.now.routes) (own_turns role.now.share script.now) (is_ok result)
+        line.old line.new core.old core.new (K.taken out.old) (K.taken out.new) }
     ensures cause { HasCause (K.faults out.old) (K.faults out.new) result }
     ensures quiet { OnOk result (K.faults out.new ≡ K.faults out.old) }
 {
     for asked in script {
-        own_line(core, line, words, role, asked, out, between, gate)?;
+        if !role.share.takes(asked) {
+            continue;
+        }
+        let times = u64::from(asked.count());
+        repeat(core, line, words, role, asked, times, out, between, gate)?;
     }
     Ok(())
-}
-
-/// A look alone, and then so many core steps, each behind a look.
-pub(crate) fn last_turns<K: Sink, G: Gate, T: Routes>(
-    core: &mut Core,
-    line: &mut Line,
-    words: &Words,
-    role: &Role<T>,
-    steps: u64,
-    out: &mut K,
-    between: &mut Between,
-    gate: &G,
-) -> Result<(), Failed>
-    requires can { CanGo (steps + 1) (T.leads role.now.routes) core.old line.old words.now }
-    requires empty { between.old.held ≡ [] }
-    ensures ok { OnOk result (Goes (T.leads role.now.routes) (last_turns steps) line.old line.new core.old core.new
-        (K.taken out.old) (K.taken out.new)) }
-    ensures none_held { OnOk result (between.new.held ≡ []) }
-    ensures err { OnErr result (Stops (T.leads role.now.routes) (last_turns steps) line.old line.new core.old core.new
-        (K.taken out.old) (K.taken out.new)) }
-    ensures cause { HasCause (K.faults out.old) (K.faults out.new) result }
-    ensures quiet { OnOk result (K.faults out.new ≡ K.faults out.old) }
-{
-    look(core, line, words, out, &mut between.held)?;
-    let one = Asked::Steps(1);
-    repeat(core, line, words, role, &one, steps, out, between, gate)
 }

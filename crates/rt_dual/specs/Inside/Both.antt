@@ -1,33 +1,21 @@
 -- What is made for both cores of a pair, and what is known when both have ended.
-use Rattle.std.specs.Prelude.{◌≡◌, ◌≢◌, ◌+◌, ◌<◌, ◌^◌, ℕ, ◌++◌, List, [], ◌∷◌, length, map, codes, slice_index_or}
-use Rattle.std.specs.Prelude.{Option, None}
 use Rattle.std.specs.List.{AllByRecursion}
+use Rattle.std.specs.Prelude.{List, None, Option, [], codes, length, map, slice_index_or, true, ℕ, ◌++◌, ◌+◌, ◌<◌, ◌^◌}
+use Rattle.std.specs.Prelude.{◌∷◌, ◌≡◌, ◌≢◌}
 use Rattle.rt_code.specs.Image.{Image}
-use Rattle.rt_core.specs.Machine.{Machine, IsFresh}
+use Rattle.rt_core.specs.Machine.{IsFresh, Machine}
 use Rattle.rt_ids.specs.declared.limits.TheConstants.{IRQ_NUMBERS}
-use Rattle.rt_listing.specs.Listing.{listing}
-use Rattle.rt_listing.specs.Numbers.{HasTypedNumbers}
+use Rattle.rt_script.specs.{declared.line.Line.Line, Script.count as length_of}
 use Rattle.rt_words.specs.Ending.{calls_in}
-use Rattle.rt_words.specs.History.{IsLegal, part}
-use Rattle.rt_words.specs.Lines.{Row, Line as Caller, count, new_line}
-use Rattle.rt_words.specs.declared.call.Call.{Call}
-use Rattle.rt_words.specs.declared.call.Entry.{Entry}
-use Rattle.rt_words.specs.declared.row.TheConstants.{ROW_WORDS}
-use Rattle.rt_live.specs.Able.{CanGo}
-use Rattle.rt_live.specs.Account.{account_of, account_text, declared_irqs, empty_row}
-use Rattle.rt_live.specs.Ready.{HasBits, irqs_of}
-use Rattle.rt_live.specs.Shares.{HasOwnNames, own_events}
-use Rattle.rt_live.specs.Written.{EndsWhole}
-use Rattle.rt_live.specs.declared.account.AccountRow.{AccountRow}
-use Rattle.rt_live.specs.declared.share.Share.{Share}
-use Rattle.rt_live.specs.declared.share.Share.TheVariants.{First, Second}
-use Rattle.rt_script.specs.Script.{count as length_of}
-use Rattle.rt_script.specs.declared.line.Line.{Line}
-use Rattle.rt_dual.specs.Course.{Place, first_place, second_place, turns}
-use Rattle.rt_dual.specs.Forwarded.{forward}
-use Rattle.rt_dual.specs.declared.making.Both.{Both}
-use Rattle.rt_dual.specs.declared.making.Side.{Side}
-use Rattle.rt_dual.specs.declared.routes.Table.{Table}
+use Rattle.rt_words.specs.{History.IsLegal, History.part, Lines.Line as Caller, Lines.Row, Lines.count, Lines.new_line}
+use Rattle.rt_words.specs.{declared.call.Call.Call, declared.call.Entry.Entry, declared.row.TheConstants.ROW_WORDS}
+use Rattle.rt_listing.specs.{Numbers.HasTypedNumbers, Listing.listing}
+use Rattle.rt_live.specs.{Able.CanGo, Account.account_of, Account.account_text, Account.declared_irqs}
+use Rattle.rt_live.specs.{Account.empty_row, Ready.HasBits, Ready.irqs_of, Shares.HasOwnNames, Shares.own_events}
+use Rattle.rt_live.specs.{Written.Ends, declared.account.AccountRow.AccountRow, declared.share.Share.Share}
+use Rattle.rt_live.specs.{declared.share.Share.TheVariants.First, declared.share.Share.TheVariants.Second}
+use Rattle.rt_dual.specs.{Course.Place, Course.first_place, Course.second_place, Course.turns, Forwarded.forward}
+use Rattle.rt_dual.specs.{declared.making.Both.Both, declared.making.Side.Side, declared.routes.Table.Table}
 
 -- the text in front of the trace of a core
 abbrev pub front : List ℕ → Image → List ℕ
@@ -69,7 +57,7 @@ pub record CanRun (script : List Line) (m : Machine) (side : Side) (row : Row) :
 
 -- a core has done its events of a script, and of its side its line and its text have changed
 pub record HasEnded (script : List Line) (m n : Machine) (old new : Side) : Type 0 where
-  pub ends : EndsWhole (leads_by old.role.routes) (turns (own_events old.role.share script)) old.line.value
+  pub ends : Ends (leads_by old.role.routes) (turns (own_events old.role.share script)) true old.line.value
       new.line.value m n old.text.bytes.items new.text.bytes.items
   pub rows : new.rows.items ≡ old.rows.items
 

@@ -1,11 +1,8 @@
 -- Devices that work.
-use Rattle.std.specs.Prelude.{◌≡◌, ℕ, ◌+◌, ◌-◌, ◌^◌, ◌<◌, List, length, slice_index_or}
 use Rattle.std.specs.List.{AllByRecursion}
-use Rattle.rt_devices.specs.Work.{requests, Works}
-use Rattle.rt_devices.specs.declared.device.Device.{Device}
-use Rattle.rt_words.specs.Lines.{Row}
-use Rattle.rt_words.specs.Row.{bit_in_row}
-use Rattle.rt_words.specs.Object.{IsPending}
+use Rattle.std.specs.Prelude.{List, length, slice_index_or, ℕ, ◌+◌, ◌-◌, ◌<◌, ◌^◌, ◌≡◌}
+use Rattle.rt_words.specs.{Lines.Row, Object.IsPending, Row.bit_in_row}
+use Rattle.rt_devices.specs.{Work.requests, Work.Works, declared.device.Device.Device}
 
 -- a device can make the pends of its script
 pub record CanWork (row : Row) (device : Device) : Type 0 where

@@ -1,4 +1,4 @@
-use Rattle.std.proofs.Common.{◌∙◌}
+use Rattle.rt_live.proofs.Vocabulary.{◌∙◌}
 use Rattle.rt_dual.proofs.Accounts.{all_gathered, are_accounts, more, room_for}
 use Rattle.rt_dual.proofs.closing.accounts_of.Goals as goal
 

@@ -1,5 +1,4 @@
-use Rattle.rt_dual.proofs.Nothing.{nothing}
-use Rattle.rt_dual.proofs.Ordered.{ordered}
+use Rattle.rt_dual.proofs.{Nothing.nothing, Ordered.ordered}
 use Rattle.rt_dual.proofs.laws.pairs_are_ordered.Goals as goal
 
 pub returns-clause-ordered : goal.returns-clause-ordered

@@ -1,12 +1,6 @@
-use Rattle.std.proofs.Common.{◌≡◌, ◌<◌, [], ◌∷◌, List, map, subst, ap, ◌∙◌}
-use Rattle.std.specs.List.{AllByRecursion}
-use Rattle.rt_code.specs.Image.{Image}
-use Rattle.rt_ids.specs.declared.limits.TheConstants.{IRQ_NUMBERS}
-use Rattle.rt_words.specs.Lines.{Line}
-use Rattle.rt_live.specs.Account.{declared_irqs, empty_row}
-use Rattle.rt_live.specs.Ready.{HasBits, irqs_of}
-use Rattle.rt_live.specs.declared.account.AccountRow.{AccountRow}
-use Rattle.rt_live.proofs.Readied.{irqs_empty}
+use Rattle.rt_live.proofs.Vocabulary.{AllByRecursion, Caller as Line, HasBits, IRQ_NUMBERS, Image, List, [], ap}
+use Rattle.rt_live.proofs.Vocabulary.{declared_irqs, empty_row, irqs_of, map, subst, ◌<◌, ◌∙◌, ◌∷◌, ◌≡◌}
+use Rattle.rt_dual.proofs.Vocabulary.{AccountRow, irqs_empty}
 use Rattle.rt_dual.proofs.making.both_of.Goals as goal
 
 -- the interrupts of rows that were lent

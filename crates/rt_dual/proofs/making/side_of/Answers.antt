@@ -1,7 +1,5 @@
-use Rattle.std.proofs.Common.{ap, ◌∙◌}
-use Rattle.rt_code.specs.Image.{Image}
-use Rattle.rt_dual.specs.Forwarded.{forward}
-use Rattle.rt_dual.specs.Inside.Both.{leads_by}
+use Rattle.rt_live.proofs.Vocabulary.{Image, ap, ◌∙◌}
+use Rattle.rt_dual.proofs.Vocabulary.{forward, leads_by}
 use Rattle.rt_dual.proofs.Routing.{leads}
 use Rattle.rt_dual.proofs.making.side_of.Goals as goal
 

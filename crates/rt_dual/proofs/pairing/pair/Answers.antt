@@ -1,7 +1,5 @@
-use Rattle.std.proofs.Common.{sym, subst}
-use Rattle.rt_script.specs.Script.{IsScript}
-use Rattle.rt_dual.proofs.Beforehand.{can_write}
-use Rattle.rt_dual.proofs.Coursing.{finished}
+use Rattle.rt_live.proofs.Vocabulary.{IsScript, subst, sym}
+use Rattle.rt_dual.proofs.{Beforehand.can_write, Coursing.finished}
 use Rattle.rt_dual.proofs.pairing.pair.Goals as goal
 
 pub put_both-requires : goal.put_both-requires
@@ -25,11 +23,7 @@ returns-in-Err-clause-begun g c =
     let wrote = c.in-Err.ensures.err in
     let end = finished c.in-Ok-run_both.ensures.ok c.lines-lines.ensures.lines c.image-3.ensures c.image-4.ensures
     wrote.1 in
-    λ _. record {
-      part = record { bytes = wrote.0; is = end.0; took = wrote.2 };
-      one_leads = end.1;
-      two_leads = end.2;
-    }
+    λ _. record { part = record { bytes = wrote.0; is = end.0; took = wrote.2 }; one_leads = end.1; two_leads = end.2 }
 
 pub returns-in-Err-clause-part : goal.returns-in-Err-clause-part
 returns-in-Err-clause-part g c = λ fault. (returns-in-Err-clause-begun g c fault).part

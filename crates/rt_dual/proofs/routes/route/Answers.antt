@@ -1,6 +1,4 @@
-use Rattle.std.proofs.Common.{option_map, Some, None, sym, ap, ◌∙◌}
-use Rattle.rt_code.specs.Image.{Image}
-use Rattle.rt_ids.specs.Naming.{irq_named}
+use Rattle.rt_live.proofs.Vocabulary.{Image, None, Some, ap, irq_named, option_map, sym, ◌∙◌}
 use Rattle.rt_dual.proofs.Routing.{by_name}
 use Rattle.rt_dual.proofs.routes.route.Goals as goal
 

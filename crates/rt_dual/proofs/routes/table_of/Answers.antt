@@ -1,8 +1,8 @@
-use Rattle.std.proofs.Common.{◌≡◌, ◌+◌, ◌<◌, ◌++◌, ◌∷◌, [], ℕ, List, Option, None, length, slice_index_or, sym, subst}
-use Rattle.std.proofs.Common.{ap, ◌∙◌, arith, length-append}
-use Rattle.std.proofs.lemmas.List.{get_or_past}
-use Rattle.rt_dual.specs.Forwarded.{forward}
+use Rattle.rt_live.proofs.Vocabulary.{List, None, Option, [], ap, arith, length, length-append, slice_index_or, subst}
+use Rattle.rt_live.proofs.Vocabulary.{sym, ℕ, ◌++◌, ◌+◌, ◌<◌, ◌∙◌, ◌∷◌, ◌≡◌}
+use Rattle.rt_dual.proofs.Vocabulary.{forward}
 use Rattle.rt_dual.proofs.Routing.{places_more}
+use Rattle.std.proofs.{lemmas.List.get_or_past}
 use Rattle.rt_dual.proofs.routes.table_of.Goals as goal
 
 pub loop-number-preserved : goal.loop-number-preserved

@@ -1,5 +1,5 @@
-use Rattle.std.proofs.Common.{◌≡◌, ◌<◌, ℕ, length, None, slice_index_or}
-use Rattle.rt_dual.specs.Forwarded.{forward}
+use Rattle.rt_live.proofs.Vocabulary.{None, length, slice_index_or, ℕ, ◌<◌, ◌≡◌}
+use Rattle.rt_dual.proofs.Vocabulary.{forward}
 use Rattle.rt_dual.proofs.routes.table_of.Given as goal
 
 abbrev pub invariant-loop-number : goal.invariant-loop-number

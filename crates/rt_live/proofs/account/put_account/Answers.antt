@@ -1,13 +1,8 @@
-use Rattle.std.proofs.Common.{rules, ◌≡◌, ℕ, ◌+◌, ◌<◌, List, ◌++◌, length, take, drop, flat_map, get_or, sym, ap, subst}
-use Rattle.std.proofs.Common.{◌∙◌}
-use Rattle.std.proofs.lemmas.List.{take-append-drop}
-use Rattle.std.proofs.lemmas.List.Concat.{flat_map-append}
+use Rattle.rt_live.proofs.Vocabulary.{List, TookPrefix, account_text, ap, drop, flat_map, flat_map-append, get_or}
+use Rattle.rt_live.proofs.Vocabulary.{length, on_err_from, part_more, part_on, rules, subst, sym, take}
+use Rattle.rt_live.proofs.Vocabulary.{take-append-drop, ℕ, ◌++◌, ◌+◌, ◌<◌, ◌∙◌, ◌≡◌}
 use Rattle.rt_lemmas.proofs.Lists.{drop_as_cons}
-use Rattle.rt_lemmas.proofs.Results.{on_err_from}
-use Rattle.rt_outside.specs.Bytes.{TookPrefix}
-use Rattle.rt_run.proofs.Taking.{part_on, part_more}
-use Rattle.rt_live.specs.Account.{row_text, account_text}
-use Rattle.rt_live.specs.declared.account.AccountRow.{AccountRow}
+use Rattle.rt_live.specs.{Account.row_text, declared.account.AccountRow.AccountRow}
 use Rattle.rt_live.proofs.account.put_account.Goals as goal
 
 -- the texts of all are those of the first, of one, and of those behind it

@@ -1,6 +1,4 @@
-use Rattle.std.proofs.Common.{◌≡◌, take}
-use Rattle.rt_outside.specs.Bytes.{Took}
-use Rattle.rt_live.specs.Account.{account_text}
+use Rattle.rt_live.proofs.Vocabulary.{Took, account_text, take, ◌≡◌}
 use Rattle.rt_live.proofs.account.put_account.Given as goal
 
 -- the lines of the rows so far

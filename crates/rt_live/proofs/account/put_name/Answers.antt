@@ -1,4 +1,4 @@
-use Rattle.std.proofs.Common.{rules, ◌≡◌, length, ap, arith, length-append}
+use Rattle.rt_live.proofs.Vocabulary.{ap, arith, length, length-append, rules, ◌≡◌}
 use Rattle.rt_ids.specs.Naming.{irq_name}
 use Rattle.rt_lines.proofs.Short.{irq_name_short}
 use Rattle.rt_live.proofs.account.put_name.Goals as goal

@@ -1,19 +1,10 @@
-use Rattle.std.proofs.Common.{◌+◌, ◌<◌, ◌≤◌, length, ap, sym, subst, ◌∙◌, arith}
-use Rattle.std.specs.Prelude.{All}
-use Rattle.std.specs.List.{AllByRecursion}
-use Rattle.std.proofs.lemmas.Result.{on_ok_weaker, on_err_weaker}
-use Rattle.rt_lemmas.proofs.Results.{on_err_from}
-use Rattle.rt_ids.specs.declared.limits.TheConstants.{IRQ_NUMBERS}
-use Rattle.rt_script.specs.Script.{count}
-use Rattle.rt_words.specs.Lines.{Line}
-use Rattle.rt_live.specs.Inside.Working.{CanWork}
-use Rattle.rt_live.specs.Shares.{own_events}
-use Rattle.rt_live.specs.declared.share.Share.TheVariants.{BesideDevices}
-use Rattle.rt_live.proofs.Ended.{own_few, cut_few, early_own, run_whole, run_early}
-use Rattle.rt_live.proofs.Turning.{own_length, steps_below, can_behind, can_fewer}
-use Rattle.rt_live.proofs.Woven.{happenings_own}
+use Rattle.rt_live.proofs.Vocabulary.{All, AllByRecursion, Caller as Line, CanWork, IRQ_NUMBERS, ap, arith, count}
+use Rattle.rt_live.proofs.Vocabulary.{length, own_events, subst, sym, ◌+◌, ◌<◌, ◌∙◌}
+use Rattle.rt_live.proofs.Turning.{can_behind, can_fewer, gave_up, own_length, steps_below}
 use Rattle.rt_live.proofs.Readied.{are_gathered, beside_ended, can_gathered, can_ready, can_work, few_ended, rows_empty}
 use Rattle.rt_live.proofs.Readied.{rows_irqs, still_gathered, written_back}
+use Rattle.rt_live.proofs.{Ended.own_cut, Ended.own_ends, Ended.own_few, Woven.events_own}
+use Rattle.rt_live.specs.declared.share.Share.TheVariants.{BesideDevices}
 use Rattle.rt_live.proofs.beside.go.Goals as goal
 
 pub beside-done-requires-clause-can : goal.beside-done-requires-clause-can
@@ -29,21 +20,19 @@ beside-done-requires-clause-work g c = λ _ _.
 
 pub gather_all-requires-clause-first : goal.gather_all-requires-clause-first
 gather_all-requires-clause-first g c =
-    ap (λ (l : Line). l.number) c.beside-done.ensures.same.1 ∙ ap (λ (l : Line). l.number) c.requires.ready.first
+    ap (λ (l : Line). l.number) c.beside-done.ensures.goes.same ∙ ap (λ (l : Line). l.number) c.requires.ready.first
 
 pub gather_all-requires-clause-devices : goal.gather_all-requires-clause-devices
 gather_all-requires-clause-devices g c =
     beside_ended c.requires.ready
     _ (written_back c.args.devices.len c.beside-done.new.devices c.deref_mut.ensures.value c.deref_mut.ensures.len
-    c.beside-done.auto.devices
-    c.beside-done.ensures.worked)
+    c.beside-done.auto.devices c.beside-done.ensures.worked)
 
 pub gather_all-requires-clause-few : goal.gather_all-requires-clause-few
 gather_all-requires-clause-few g c =
     few_ended c.requires.ready
     _ (written_back c.args.devices.len c.beside-done.new.devices c.deref_mut.ensures.value c.deref_mut.ensures.len
-    c.beside-done.auto.devices
-    c.beside-done.ensures.worked)
+    c.beside-done.auto.devices c.beside-done.ensures.worked)
 
 pub gather_all-requires-clause-empty : goal.gather_all-requires-clause-empty
 gather_all-requires-clause-empty g c = rows_empty c.requires.ready
@@ -55,76 +44,48 @@ gather_all-requires-clause-in_range g c =
 pub returns-in_err-done-clause-gathered : goal.returns-in_err-done-clause-gathered
 returns-in_err-done-clause-gathered g c =
     let ready = c.requires.ready in
+    let goes = c.beside-done.ensures.goes in
     let gathers = c.gather_all.ensures in
     are_gathered ready
     _ (written_back c.args.devices.len c.beside-done.new.devices c.deref_mut.ensures.value c.deref_mut.ensures.len
-    c.beside-done.auto.devices
-    c.beside-done.ensures.worked)
-    c.beside-done.ensures.same
-    (cut_few c.args.words.now c.args.script.now (ap (λ (l : Line). l.here) ready.first)
-    (ap (λ (l : Line). l.there) ready.first) (ap (λ (l : Line). l.calls) ready.first) c.in_err-done.ensures.err)
-    gathers.line gathers.since gathers.rows
+    c.beside-done.auto.devices c.beside-done.ensures.worked) goes.calls goes.same
+    (own_few c.args.script.now ready.first goes) gathers.line gathers.since gathers.rows
 
 pub returns-clause-gathered : goal.returns-clause-gathered
 returns-clause-gathered g c =
     let ready = c.requires.ready in
+    let goes = c.beside-done.ensures.goes in
     let gathers = c.gather_all.ensures in
-    still_gathered
-    (are_gathered ready
+    still_gathered (are_gathered ready
     _ (written_back c.args.devices.len c.beside-done.new.devices c.deref_mut.ensures.value c.deref_mut.ensures.len
-    c.beside-done.auto.devices
-    c.beside-done.ensures.worked)
-    c.beside-done.ensures.same
-    (own_few c.args.words.now c.args.script.now (ap (λ (l : Line). l.here) ready.first)
-    (ap (λ (l : Line). l.there) ready.first) (ap (λ (l : Line). l.calls) ready.first) c.in_ok-done.ensures.ok)
-    gathers.line gathers.since gathers.rows)
-    c.end_alone.ensures.same
+    c.beside-done.auto.devices c.beside-done.ensures.worked) goes.calls goes.same
+    (own_few c.args.script.now ready.first goes) gathers.line gathers.since gathers.rows)
+    c.end.ensures.ends.calls c.end.ensures.ends.same
 
-pub returns-in_err-done-clause-err : goal.returns-in_err-done-clause-err
-returns-in_err-done-clause-err g c =
-    let ready = c.requires.ready in
-    on_err_from c.from_residual.result
-    (early_own c.args.words.now c.args.script.now (ap (λ (l : Line). l.here) ready.first)
-    (ap (λ (l : Line). l.there) ready.first) (ap (λ (l : Line). l.calls) ready.first) c.gather_all.new.line
-    (ap (λ (l : Line). l.calls) c.gather_all.ensures.line) c.in_err-done.ensures.err)
+pub returns-in_err-done-clause-ended : goal.returns-in_err-done-clause-ended
+returns-in_err-done-clause-ended g c =
+    rw (gave_up _ c.from_residual.result c.from_residual.ensures.1)
+    (own_cut c.args.script.now c.requires.ready.first c.gather_all.ensures.line c.in_err-done.ensures.goes)
 
-pub end_alone-requires : goal.end_alone-requires
-end_alone-requires g c =
-    let run = c.in_ok-done.ensures.ok in
-    let own : length (own_events BesideDevices c.args.script.now) ≤ count c.args.script.now =
-    own_length BesideDevices c.args.script.now in
+pub end-requires : goal.end-requires
+end-requires g c =
+    let run = c.in_ok-done.ensures.goes in
     record {
       can =
           can_gathered _ c.gather_all.ensures.line
-          (can_behind (own_events BesideDevices c.args.script.now) run (c.beside-done.new.core.steps + 1)
+          (can_behind (own_events BesideDevices c.args.script.now) run (c.steps-steps.result + 1)
           (can_ready c.requires.fresh c.requires.lines c.requires.ready)
           (omega (
             arith,
+            c.steps-steps.ensures,
             steps_below run,
-            happenings_own (own_events BesideDevices c.args.script.now),
+            ap length (events_own (own_events BesideDevices c.args.script.now)),
             c.requires.fresh.steps,
-            own,
+            own_length BesideDevices c.args.script.now,
           )));
     }
 
-pub returns-clause-ok : goal.returns-clause-ok
-returns-clause-ok g c =
-    let ready = c.requires.ready in
-    let gathers = c.gather_all.ensures.line in
-    on_ok_weaker c.end_alone.result
-    (run_whole c.args.words.now c.args.script.now (ap (λ (l : Line). l.here) ready.first)
-    (ap (λ (l : Line). l.there) ready.first) (ap (λ (l : Line). l.calls) ready.first) c.requires.fresh
-    c.in_ok-done.ensures.ok c.gather_all.new.line c.end_alone.new.line (ap (λ (l : Line). l.here) gathers)
-    (ap (λ (l : Line). l.there) gathers) (ap (λ (l : Line). l.calls) gathers) c.end_alone.new.core _)
-    c.end_alone.ensures.ok
-
-pub returns-clause-err : goal.returns-clause-err
-returns-clause-err g c =
-    let ready = c.requires.ready in
-    let gathers = c.gather_all.ensures.line in
-    on_err_weaker c.end_alone.result
-    (run_early c.args.words.now c.args.script.now (ap (λ (l : Line). l.here) ready.first)
-    (ap (λ (l : Line). l.there) ready.first) (ap (λ (l : Line). l.calls) ready.first) c.requires.fresh
-    c.in_ok-done.ensures.ok c.gather_all.new.line c.end_alone.new.line (ap (λ (l : Line). l.here) gathers)
-    (ap (λ (l : Line). l.there) gathers) (ap (λ (l : Line). l.calls) gathers) c.end_alone.new.core _)
-    c.end_alone.ensures.err
+pub returns-clause-ended : goal.returns-clause-ended
+returns-clause-ended g c =
+    own_ends c.args.script.now c.requires.ready.first c.gather_all.ensures.line c.requires.fresh
+    c.in_ok-done.ensures.goes c.steps-steps.ensures c.end.ensures.ends

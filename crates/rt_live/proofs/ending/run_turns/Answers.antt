@@ -1,40 +1,27 @@
-use Rattle.std.proofs.Common.{inl, ◌+◌, ◌∙◌, arith}
-use Rattle.std.proofs.lemmas.Result.{on_ok_weaker, on_err_weaker}
-use Rattle.rt_lemmas.proofs.Results.{on_err_from}
-use Rattle.rt_run.proofs.Taking.{cause_on}
-use Rattle.rt_script.specs.Script.{count}
-use Rattle.rt_live.specs.Interleaving.{last_turns}
-use Rattle.rt_live.specs.Shares.{own_events}
-use Rattle.rt_live.proofs.Ended.{ends_on, early_on}
-use Rattle.rt_live.proofs.Turning.{own_length, can_fewer, can_behind, stops_before}
+use Rattle.rt_live.proofs.Vocabulary.{arith, cause_on, count, last_turns, on_ok_weaker, own_events, ◌+◌, ◌∙◌}
+use Rattle.rt_live.proofs.Ended.{ends_cut, ends_on}
+use Rattle.rt_live.proofs.Turning.{own_length, can_fewer, can_behind, gave_up, goes_before}
 use Rattle.rt_live.proofs.ending.run_turns.Goals as goal
 
 pub own_lines-requires-clause-can : goal.own_lines-requires-clause-can
-own_lines-requires-clause-can g c =
-    can_fewer (count c.args.script.now) c.requires.can (omega arith)
+own_lines-requires-clause-can g c = can_fewer (count c.args.script.now) c.requires.can (omega arith)
 
-pub returns-in_err-own_lines-clause-err : goal.returns-in_err-own_lines-clause-err
-returns-in_err-own_lines-clause-err g c =
-    on_err_from c.from_residual.result
-    (inl (stops_before (last_turns 0) c.in_err-own_lines.ensures.err))
+pub returns-in_err-own_lines-clause-ends : goal.returns-in_err-own_lines-clause-ends
+returns-in_err-own_lines-clause-ends g c =
+    rw (gave_up _ c.from_residual.result c.from_residual.ensures.1)
+    (ends_cut (goes_before (last_turns 0) c.in_err-own_lines.ensures.goes))
 
-pub end-requires-clause-can : goal.end-requires-clause-can
-end-requires-clause-can g c =
+pub end-requires : goal.end-requires
+end-requires g c =
     let share = c.args.role.now.share in
-    can_behind (own_events share c.args.script.now) c.in_ok-own_lines.ensures.ok (0 + 1) c.requires.can
-    (omega (arith, own_length share c.args.script.now))
+    record {
+      can =
+          can_behind (own_events share c.args.script.now) c.in_ok-own_lines.ensures.goes (0 + 1) c.requires.can
+          (omega (arith, own_length share c.args.script.now));
+    }
 
-pub returns-clause-ok : goal.returns-clause-ok
-returns-clause-ok g c =
-    on_ok_weaker c.end.result
-    (λ last. ends_on c.in_ok-own_lines.ensures.ok last)
-    c.end.ensures.ok
-
-pub returns-clause-err : goal.returns-clause-err
-returns-clause-err g c =
-    on_err_weaker c.end.result
-    (λ early. early_on c.in_ok-own_lines.ensures.ok early)
-    c.end.ensures.err
+pub returns-clause-ends : goal.returns-clause-ends
+returns-clause-ends g c = ends_on c.in_ok-own_lines.ensures.goes c.end.ensures.ends
 
 pub returns-clause-cause : goal.returns-clause-cause
 returns-clause-cause g c = cause_on _ _ _ c.end.result c.in_ok-own_lines.ensures.quiet c.end.ensures.cause

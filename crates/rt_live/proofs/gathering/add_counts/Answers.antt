@@ -1,6 +1,5 @@
-use Rattle.std.proofs.Common.{ap, sym, ◌∙◌, slice_set, arith}
-use Rattle.std.proofs.lemmas.List.Edits.{map_over_more}
-use Rattle.rt_live.specs.Account.{with_counts}
+use Rattle.rt_live.proofs.Vocabulary.{ap, arith, sym, with_counts, ◌∙◌}
+use Rattle.std.proofs.{Common.slice_set, lemmas.List.Edits.map_over_more}
 use Rattle.rt_live.proofs.Tallied.{next_fits}
 use Rattle.rt_live.proofs.gathering.add_counts.Goals as goal
 

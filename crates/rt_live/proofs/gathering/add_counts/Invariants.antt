@@ -1,5 +1,4 @@
-use Rattle.std.proofs.Common.{◌≡◌, ◌++◌, map, take, drop}
-use Rattle.rt_live.specs.Account.{with_counts}
+use Rattle.rt_live.proofs.Vocabulary.{drop, map, take, with_counts, ◌++◌, ◌≡◌}
 use Rattle.rt_live.proofs.gathering.add_counts.Given as goal
 
 abbrev pub invariant-loop-row : goal.invariant-loop-row

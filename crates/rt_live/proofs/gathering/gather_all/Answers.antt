@@ -1,8 +1,5 @@
-use Rattle.std.proofs.Common.{◌<◌, sym, ap, ◌∙◌, append-nil, arith}
-use Rattle.rt_lemmas.proofs.Membership.{all_weaker}
-use Rattle.rt_ids.specs.declared.limits.TheConstants.{IRQ_NUMBERS}
+use Rattle.rt_live.proofs.Vocabulary.{IRQ_NUMBERS, all_weaker, ap, append-nil, arith, irqs_of, sym, ◌<◌, ◌∙◌}
 use Rattle.rt_words.specs.Lines.{Line}
-use Rattle.rt_live.specs.Ready.{irqs_of}
 use Rattle.rt_live.proofs.Tallied.{gathers_more, next_beside, next_room}
 use Rattle.rt_live.proofs.gathering.gather_all.Goals as goal
 
@@ -34,11 +31,10 @@ gather-tally-requires-clause-other c = λ is.
     absurd (omega (arith, is, ap (λ (l : Line). l.number) beside.line, beside.low))
 
 pub add_counts-requires : goal.add_counts-requires
-add_counts-requires c =
-    record {
-      room = next_room c.args.words.now _ c.in-Some.device c.loop-device.invariant c.in-Some.ensures.items
-          c.requires.devices c.requires.few;
-    }
+add_counts-requires c = record {
+  room = next_room c.args.words.now _ c.in-Some.device c.loop-device.invariant c.in-Some.ensures.items
+      c.requires.devices c.requires.few;
+}
 
 pub loop-device-preserved : goal.loop-device-preserved
 loop-device-preserved c =

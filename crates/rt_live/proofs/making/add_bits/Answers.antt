@@ -1,12 +1,7 @@
-use Rattle.std.proofs.Common.{◌≡◌, ℕ, ◌+◌, ◌/◌, ◌<◌, ◌++◌, ◌∷◌, [], List, length, take, refl, ap, sym, subst, ◌∙◌}
-use Rattle.std.proofs.Common.{arith}
-use Rattle.std.proofs.Common.{length-set, append-nil, append_assoc}
-use Rattle.std.specs.List.{AllByRecursion}
-use Rattle.std.proofs.lemmas.List.{take_all}
+use Rattle.rt_live.proofs.Vocabulary.{AllByRecursion, HasBits, IRQ_NUMBERS, List, [], all_append, ap, append-nil}
+use Rattle.rt_live.proofs.Vocabulary.{append_assoc, arith, inl, inr, irqs_of, length, length-set, refl, subst, sym}
+use Rattle.rt_live.proofs.Vocabulary.{take, take_all, ℕ, ℕ_discrete, ◌++◌, ◌+◌, ◌/◌, ◌<◌, ◌∙◌, ◌∷◌, ◌≡◌}
 use Rattle.rt_lemmas.proofs.Lists.{map_next}
-use Rattle.rt_lemmas.proofs.Membership.{all_append}
-use Rattle.rt_ids.specs.declared.limits.TheConstants.{IRQ_NUMBERS}
-use Rattle.rt_live.specs.Ready.{HasBits, irqs_of}
 use Rattle.rt_live.specs.declared.account.AccountRow.{AccountRow}
 use Rattle.rt_live.proofs.Made.{bits_more, other_stays}
 use Rattle.rt_live.proofs.making.add_bits.Goals as goal
@@ -16,6 +11,7 @@ loop-row-init c = record {
   long = c.told-may;
   own = λ before has. subst (HasBits c.args.core c.args.may.now) (sym (append-nil before)) has;
   other = λ bit far. refl;
+  low = λ bit is. inl is;
   in_range = tt;
 }
 
@@ -39,6 +35,10 @@ loop-row-preserved c =
           (bits_more words n fits core row.irq (irqs ++ rows) bit.is (before.own irqs has));
       other = λ b far.
           other_stays words n fits b (λ e. far (omega (arith, e, bit.is, bit.numbered))) ∙ before.other b far;
+      low = λ b is. elim (ℕ_discrete b n) [
+        | yes e ↦ inr (omega (arith, e, bit.is, bit.numbered), omega (arith, e, bit.is, bit.numbered))
+        | no ne ↦ before.low b (sym (other_stays words n fits b ne) ∙ is)
+      ];
       in_range =
           subst (AllByRecursion (λ irq. irq < IRQ_NUMBERS)) (sym more)
           (all_append (λ irq. irq < IRQ_NUMBERS) rows (row.irq ∷ []) before.in_range (bit.numbered, tt));

@@ -1,8 +1,5 @@
-use Rattle.std.proofs.Common.{◌≡◌, ℕ, map, Contains}
-use Rattle.std.specs.List.{AllByRecursion}
-use Rattle.rt_ids.specs.Lists.{those_below}
-use Rattle.rt_live.specs.Devices.{is_device}
-use Rattle.rt_live.specs.Ready.{IsWaiting, maker_line}
+use Rattle.rt_live.proofs.Vocabulary.{AllByRecursion, Contains, IsWaiting, is_device, maker_line, map, those_below, ℕ}
+use Rattle.rt_live.proofs.Vocabulary.{◌≡◌}
 use Rattle.rt_live.proofs.making.devices_of.Given as goal
 
 abbrev pub invariant-loop-number : goal.invariant-loop-number

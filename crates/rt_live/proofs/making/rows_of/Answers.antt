@@ -1,5 +1,4 @@
-use Rattle.std.proofs.Common.{[], ◌∷◌, ◌++◌, ap, ◌∙◌, arith}
-use Rattle.rt_live.specs.Account.{empty_row}
+use Rattle.rt_live.proofs.Vocabulary.{[], ap, arith, empty_row, ◌++◌, ◌∙◌, ◌∷◌}
 use Rattle.rt_live.proofs.Made.{rows_step}
 use Rattle.rt_live.proofs.making.rows_of.Goals as goal
 

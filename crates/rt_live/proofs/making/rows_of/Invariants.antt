@@ -1,5 +1,4 @@
-use Rattle.std.proofs.Common.{◌≡◌, map, take}
-use Rattle.rt_live.specs.Account.{empty_row}
+use Rattle.rt_live.proofs.Vocabulary.{empty_row, map, take, ◌≡◌}
 use Rattle.rt_live.proofs.making.rows_of.Given as goal
 
 abbrev pub invariant-loop-index : goal.invariant-loop-index

@@ -1,5 +1,4 @@
-use Rattle.std.proofs.Common.{◌≡◌, take}
-use Rattle.rt_live.specs.Devices.{device_script}
+use Rattle.rt_live.proofs.Vocabulary.{device_script, take, ◌≡◌}
 use Rattle.rt_live.proofs.making.script_of.Given as goal
 
 abbrev pub invariant-loop-line : goal.invariant-loop-line

@@ -1,6 +1,4 @@
-use Rattle.std.proofs.Common.{ap, ◌∙◌}
-use Rattle.std.proofs.lemmas.Result.{on_ok_weaker, on_err_weaker}
-use Rattle.rt_code.specs.Image.{Image}
+use Rattle.rt_live.proofs.Vocabulary.{Image, ap, on_err_weaker, on_ok_weaker, ◌∙◌}
 use Rattle.rt_live.proofs.Outputs.{account_part, has_written}
 use Rattle.rt_live.proofs.running.run_beside.Goals as goal
 
@@ -25,5 +23,4 @@ returns-clause-begun g c =
     c.put_account.ensures.err
 
 pub returns-clause-err : goal.returns-clause-err
-returns-clause-err g c =
-    on_err_weaker c.put_account.result (λ begun. begun.part) (returns-clause-begun g c)
+returns-clause-err g c = on_err_weaker c.put_account.result (λ begun. begun.part) (returns-clause-begun g c)

@@ -1,14 +1,9 @@
-use Rattle.std.proofs.Common.{◌≡◌, suc, List, ℕ, ap, sym, subst, ◌∙◌, arith}
-use Rattle.rt_lemmas.proofs.Results.{on_err_from}
-use Rattle.rt_ids.specs.Names.{Names}
-use Rattle.rt_code.specs.Image.{Image}
-use Rattle.rt_outside.specs.Bytes.{Took, TookPrefix}
-use Rattle.rt_ids.specs.Event.{Step}
+use Rattle.rt_live.proofs.Vocabulary.{Image, List, Names, Step, Took, TookPrefix, ap, arith, on_err_from, subst, suc}
+use Rattle.rt_live.proofs.Vocabulary.{sym, ℕ, ◌∙◌, ◌≡◌}
 use Rattle.rt_live.proofs.Woven.{at_event}
 use Rattle.rt_run.specs.Inside.Writing.{HasWords, ShowsWords}
-use Rattle.rt_run.proofs.Worded.{operands, step_known}
-use Rattle.rt_run.proofs.Happened.{step_leads, silent_lines, silent_lined, step_lines, step_lined}
-use Rattle.rt_run.proofs.Taking.{took_none}
+use Rattle.rt_run.proofs.{Worded.operands, Worded.step_known, Happened.step_leads, Happened.silent_lines}
+use Rattle.rt_run.proofs.{Happened.silent_lined, Happened.step_lines, Happened.step_lined, Taking.took_none}
 use Rattle.rt_live.proofs.showing.show_step.Goals as goal
 
 pub line-text-requires : goal.line-text-requires
@@ -32,8 +27,7 @@ returns-in_default-clause-ok g c =
       leads = step_leads core c.step.new.self c.step.ensures.state;
       lined = silent_lined core c.step.result c.step.ensures.item c.in_default.is;
       took =
-          subst (Took kept kept)
-          (sym (silent_lines core c.step.result c.step.ensures.item c.in_default.is))
+          subst (Took kept kept) (sym (silent_lines core c.step.result c.step.ensures.item c.in_default.is))
           (took_none kept);
     }
 
@@ -57,11 +51,9 @@ returns-clause-ok g c =
             operands = operands c.behind-core.inside.names c.in-Some.what words c.numbers_fit.ensures;
           });
       took =
-          subst (Took kept after)
-          (c.as_slice.ensures.value ∙ c.line-text.ensures
+          subst (Took kept after) (c.as_slice.ensures.value ∙ c.line-text.ensures
           ∙ sym (step_lines core c.behind-core.inside.names c.step.result c.in-Some.what c.steps-step.result named
-          c.step.ensures.item c.in-Some.is counted))
-          c.in_ok-put_all.ensures.ok;
+          c.step.ensures.item c.in-Some.is counted)) c.in_ok-put_all.ensures.ok;
     }
 
 pub returns-in_err-put_all-clause-err : goal.returns-in_err-put_all-clause-err
@@ -72,10 +64,7 @@ returns-in_err-put_all-clause-err g c =
     let counted : c.steps-step.result ≡ suc core.steps = omega (arith, c.steps-step.ensures, run.steps) in
     let kept : List ℕ = g.K.Sink.taken c.args.out.now in
     let after : List ℕ = g.K.Sink.taken c.put_all.new.sink in
-    on_err_from c.from_residual.result
-    (at_event Step core c.step.new.self kept after run
-    (subst (TookPrefix kept after)
+    on_err_from c.from_residual.result (at_event Step core c.step.new.self kept after run (subst (TookPrefix kept after)
     (c.as_slice.ensures.value ∙ c.line-text.ensures
     ∙ sym (step_lines core c.behind-core.inside.names c.step.result c.in-Some.what c.steps-step.result named
-    c.step.ensures.item c.in-Some.is counted))
-    c.in_err-put_all.ensures.err))
+    c.step.ensures.item c.in-Some.is counted)) c.in_err-put_all.ensures.err))

@@ -1,4 +1,4 @@
-use Rattle.std.proofs.Common.{None, Some, sym, ◌∙◌}
+use Rattle.rt_live.proofs.Vocabulary.{None, Some, sym, ◌∙◌}
 use Rattle.rt_live.proofs.Looking.{posts_none, posts_one, posts_counted, may_post}
 use Rattle.rt_live.proofs.turns.forward.Goals as goal
 
@@ -10,8 +10,7 @@ returns-in_default-clause-posts g c =
 pub pend-requires-clause-may : goal.pend-requires-clause-may
 pend-requires-clause-may g c =
     may_post (g.T.Routes.leads c.args.role.now.routes) c.args.line.now.there c.in-Some.irq c.args.words.now
-    c.requires.may
-    c.args.shown.now (sym c.routed.ensures ∙ c.in-Some.is)
+    c.requires.may c.args.shown.now (sym c.routed.ensures ∙ c.in-Some.is)
 
 pub returns-clause-posts : goal.returns-clause-posts
 returns-clause-posts g c =

@@ -1,32 +1,19 @@
-use Rattle.std.proofs.Common.{◌≡◌, ◌<◌, List, length, take, get_or, refl, sym, subst, ◌∙◌, arith}
-use Rattle.std.proofs.lemmas.List.{take_all}
-use Rattle.std.proofs.lemmas.Option.{slice_get-get_or}
-use Rattle.rt_lemmas.proofs.Membership.{all_at}
-use Rattle.rt_lemmas.proofs.Results.{on_err_from}
-use Rattle.rt_code.specs.Image.{Image}
-use Rattle.rt_script.specs.Script.{count_of}
-use Rattle.rt_script.specs.declared.line.Line.{Line as Asked}
-use Rattle.rt_live.specs.Going.{Goes, no_turn}
-use Rattle.rt_live.specs.Shares.{HasOwnName, own_events, own_turns}
-use Rattle.rt_live.proofs.Turning.{can_behind, own_room, own_line_more, own_line_cut}
-use Rattle.rt_live.proofs.Weaving.{weave}
+use Rattle.rt_live.proofs.Vocabulary.{Asked, HasName, HasOwnName, Image, all_at, arith, get_or, length, refl}
+use Rattle.rt_live.proofs.Vocabulary.{slice_get-get_or, subst, sym, ◌+◌, ◌<◌, ◌∙◌}
+use Rattle.rt_live.proofs.Turning.{can_line, gave_up, goes_none, line_goes, line_skips, lines_all, lines_cut}
+use Rattle.rt_live.proofs.Turning.{same_image}
 use Rattle.rt_live.proofs.turns.own_lines.Goals as goal
 
 pub loop-asked-init : goal.loop-asked-init
-loop-asked-init g c = record { run = no_turn; none_held = c.requires.empty; quiet = refl }
+loop-asked-init g c = record { run = goes_none; quiet = refl }
 
-pub own_line-requires-clause-can : goal.own_line-requires-clause-can
-own_line-requires-clause-can g c =
-    let script = c.args.script.now in
-    let i = c.loop-asked.asked-index in
-    let at : i < length script = omega arith in
-    let share = c.args.role.now.share in
-    can_behind (own_events share (take i script)) c.loop-asked.invariant.run
-    (count_of c.asked-item.result) c.requires.can
-    (own_room share script i c.asked-item.result at c.asked-item.is)
+pub repeat-requires-clause-can : goal.repeat-requires-clause-can
+repeat-requires-clause-can g c =
+    can_line c.args.role.now.share c.args.script.now c.loop-asked.asked-index c.asked-item.result (omega arith)
+    c.asked-item.is c.loop-asked.invariant.run (c.from-times.ensures ∙ c.count.ensures) c.requires.can
 
-pub own_line-requires-clause-declared : goal.own_line-requires-clause-declared
-own_line-requires-clause-declared g c =
+pub repeat-requires-clause-declared : goal.repeat-requires-clause-declared
+repeat-requires-clause-declared g c =
     let script = c.args.script.now in
     let i = c.loop-asked.asked-index in
     let at : i < length script = omega arith in
@@ -36,36 +23,35 @@ own_line-requires-clause-declared g c =
     let named : HasOwnName share names (get_or script i line) =
     all_at (HasOwnName share names) script i (get_or script i line) c.requires.declared
     (slice_get-get_or script i line at) in
-    subst (λ (img : Image). HasOwnName share img.names line) (sym (weave c.loop-asked.invariant.run).sends.leads.image)
-    (subst (HasOwnName share names) (sym c.asked-item.is) named)
+    subst (λ (img : Image). HasName img.names line) (sym (same_image c.loop-asked.invariant.run))
+    (subst (HasOwnName share names) (sym c.asked-item.is) named (sym c.takes.ensures ∙ c.if-not-takes.false))
 
-pub returns-in_err-own_line-clause-err : goal.returns-in_err-own_line-clause-err
-returns-in_err-own_line-clause-err g c =
+pub returns-in_err-repeat-clause-goes : goal.returns-in_err-repeat-clause-goes
+returns-in_err-repeat-clause-goes g c =
     let script = c.args.script.now in
     let i = c.loop-asked.asked-index in
-    let at : i < length script = omega arith in
-    on_err_from c.from_residual.result
-    (own_line_cut c.args.role.now.share script i c.asked-item.result at c.asked-item.is c.loop-asked.invariant.run
-    c.in_err-own_line.ensures.err)
+    let share = c.args.role.now.share in
+    rw (gave_up _ c.from_residual.result c.from_residual.ensures.1) (lines_cut share script (i + 1)
+    (line_goes share script i c.asked-item.result (omega arith) c.asked-item.is c.loop-asked.invariant.run
+    (c.from-times.ensures ∙ c.count.ensures) (sym c.takes.ensures ∙ c.if-not-takes.false) c.in_err-repeat.ensures.goes))
+
+pub loop-asked-preserved-then-not-takes : goal.loop-asked-preserved-then-not-takes
+loop-asked-preserved-then-not-takes g c = record {
+  run =
+      line_skips c.args.role.now.share c.args.script.now c.loop-asked.asked-index c.asked-item.result (omega arith)
+      c.asked-item.is c.loop-asked.invariant.run (sym c.takes.ensures ∙ c.if-not-takes.true);
+  quiet = c.loop-asked.invariant.quiet;
+}
 
 pub loop-asked-preserved : goal.loop-asked-preserved
-loop-asked-preserved g c =
-    let script = c.args.script.now in
-    let i = c.loop-asked.asked-index in
-    let at : i < length script = omega arith in
-    record {
-      run =
-          own_line_more c.args.role.now.share script i c.asked-item.result at c.asked-item.is
-          c.loop-asked.invariant.run c.in_ok-own_line.ensures.ok;
-      none_held = c.in_ok-own_line.ensures.none_held;
-      quiet = c.in_ok-own_line.ensures.quiet ∙ c.loop-asked.invariant.quiet;
-    }
+loop-asked-preserved g c = record {
+  run =
+      line_goes c.args.role.now.share c.args.script.now c.loop-asked.asked-index c.asked-item.result (omega arith)
+      c.asked-item.is c.loop-asked.invariant.run (c.from-times.ensures ∙ c.count.ensures)
+      (sym c.takes.ensures ∙ c.if-not-takes.false) c.in_ok-repeat.ensures.goes;
+  quiet = c.in_ok-repeat.ensures.quiet ∙ c.loop-asked.invariant.quiet;
+}
 
-pub returns-clause-ok : goal.returns-clause-ok
-returns-clause-ok g c =
-    let script = c.args.script.now in
-    let all : take c.loop-asked.asked-index script ≡ script = take_all c.loop-asked.asked-index script (omega arith) in
-    subst (λ (s : List Asked). Goes (g.T.Routes.leads c.args.role.now.routes) (own_turns c.args.role.now.share s)
-    c.args.line.now c.loop-asked.line c.args.core.now c.loop-asked.core (g.K.Sink.taken c.args.out.now)
-    (g.K.Sink.taken c.loop-asked.out))
-    all c.loop-asked.invariant.run
+pub returns-clause-goes : goal.returns-clause-goes
+returns-clause-goes g c =
+    lines_all c.args.role.now.share c.args.script.now c.loop-asked.asked-index (omega arith) c.loop-asked.invariant.run

@@ -1,14 +1,10 @@
-use Rattle.std.proofs.Common.{◌≡◌, [], replicate}
-use Rattle.rt_live.specs.Going.{Goes}
-use Rattle.rt_live.specs.Interleaving.{with_looks}
-use Rattle.rt_live.specs.Shares.{event_of}
+use Rattle.rt_live.proofs.Vocabulary.{Goes, event_of, event_turns, flat_map, replicate, take, true, ◌≡◌}
 use Rattle.rt_live.proofs.turns.repeat.Given as goal
 
 abbrev pub invariant-loop-done : goal.invariant-loop-done
 invariant-loop-done g l = record {
   run :
-      Goes (g.T.Routes.leads l.role.routes) (with_looks (replicate l._done (event_of l.asked))) l.fn.line l.line
-      l.fn.core l.core (g.K.Sink.taken l.fn.out) (g.K.Sink.taken l.out);
-  none_held : l.between.held ≡ [];
+      Goes (g.T.Routes.leads l.role.routes) (flat_map event_turns (take l._done (replicate l.times (event_of l.asked))))
+      true l.fn.line l.line l.fn.core l.core (g.K.Sink.taken l.fn.out) (g.K.Sink.taken l.out);
   quiet : g.K.Sink.faults l.out ≡ g.K.Sink.faults l.fn.out;
 }

@@ -1,44 +1,20 @@
-use Rattle.std.proofs.Common.{◌≡◌, ℕ, ◌<◌, ◌/◌, List, [], map, ap, sym, subst, ◌∙◌, arith}
-use native.Mathlib.Decide.{ℕ_discrete}
-use Rattle.std.specs.List.{AllByRecursion}
-use Rattle.rt_code.specs.Image.{Image}
-use Rattle.rt_ids.specs.Names.{Names}
-use Rattle.rt_ids.specs.declared.limits.TheConstants.{IRQ_NUMBERS}
-use Rattle.rt_script.specs.Script.{HasNames, IsScript}
-use Rattle.rt_script.specs.declared.line.Line.{Line}
-use Rattle.rt_words.specs.Object.{IsPending}
-use Rattle.rt_words.proofs.Found.{none_pending}
-use Rattle.rt_live.specs.Account.{declared_irqs, empty_row}
-use Rattle.rt_live.specs.Ready.{AreReady, HasBits, irqs_of}
-use Rattle.rt_live.proofs.Made.{bits_low, no_bits}
-use Rattle.rt_live.proofs.Readied.{irqs_empty}
+use Rattle.rt_live.proofs.Vocabulary.{AllByRecursion, AreReady, HasBits, HasNames, IRQ_NUMBERS, Image, IsScript, Line}
+use Rattle.rt_live.proofs.Vocabulary.{List, Names, [], ap, arith, declared_irqs, empty_row, inl, inr, irqs_of, map}
+use Rattle.rt_live.proofs.Vocabulary.{none_pending, subst, sym, ◌<◌, ◌∙◌, ◌≡◌}
+use Rattle.rt_live.proofs.{Made.no_bits, Readied.irqs_empty}
 use Rattle.rt_live.proofs.ready.Ready.of.Goals as goal
 
--- the bits of one core alone are those of its interrupts
-alone_low : (may irqs : List ℕ) → HasBits 0 may irqs → AllByRecursion (λ irq. irq < IRQ_NUMBERS) irqs
-    → ((bit : ℕ) → ¬ (bit / 512 ≡ 0) → IsPending may bit → ⊥) → (bit : ℕ) → IsPending may bit → bit < IRQ_NUMBERS
-alone_low may irqs has low none bit is = elim (ℕ_discrete (bit / 512) 0) [
-  | yes here ↦ omega (arith, here, bits_low 0 bit may irqs has low here is)
-  | no far ↦ absurd (none bit far is)
+pub make-requires-clause-covered : goal.make-requires-clause-covered
+make-requires-clause-covered c = λ bit is. elim (c.add_bits.ensures.low bit is) [
+  | inl none ↦ absurd (none_pending (λ _. ⊥) bit none)
+  | inr own ↦ omega (arith, own.0, own.1)
 ]
 
-pub make-requires-clause-covered : goal.make-requires-clause-covered
-make-requires-clause-covered c = λ bit there.
-    let bits = c.add_bits.ensures in
-    omega (
-      arith,
-      alone_low c.add_bits.new.may _ (bits.own [] (no_bits 0)) bits.in_range
-          (λ b far is. none_pending (λ _. ⊥) b (sym (bits.other b far) ∙ is)) bit there,
-    )
-
 pub make-requires-clause-in_range : goal.make-requires-clause-in_range
-make-requires-clause-in_range c = λ bit there.
-    let bits = c.add_bits.ensures in
-    omega (
-      arith,
-      alone_low c.add_bits.new.may _ (bits.own [] (no_bits 0)) bits.in_range
-          (λ b far is. none_pending (λ _. ⊥) b (sym (bits.other b far) ∙ is)) bit there,
-    )
+make-requires-clause-in_range c = λ bit is. elim (c.add_bits.ensures.low bit is) [
+  | inl none ↦ absurd (none_pending (λ _. ⊥) bit none)
+  | inr own ↦ own.1
+]
 
 pub returns-clause-ready : goal.returns-clause-ready
 returns-clause-ready c =

@@ -1,16 +1,8 @@
-use Rattle.std.proofs.Common.{◌≡◌, ◌≤◌, ℕ, List, ◌++◌, length, map, take, drop, get_or, refl, ap, sym, subst, ◌∙◌}
-use Rattle.std.proofs.Common.{arith}
-use Rattle.std.specs.List.{AllByRecursion}
-use Rattle.std.proofs.lemmas.List.{take_at}
-use Rattle.std.proofs.lemmas.Result.{on_ok_weaker, on_err_weaker}
-use Rattle.rt_script.specs.Script.{IsScript}
-use Rattle.rt_script.specs.declared.line.Line.{Line}
-use Rattle.rt_words.specs.Lines.{Line as Caller}
-use Rattle.rt_live.specs.Account.{HasRoom, settled_row, with_counts}
-use Rattle.rt_live.specs.Doing.{HasLived, HasWrittenPart}
-use Rattle.rt_live.specs.Output.{IsBalanced}
-use Rattle.rt_live.specs.Ready.{AreReady}
+use Rattle.rt_live.proofs.Vocabulary.{AllByRecursion, AreReady, Caller, HasLived, HasRoom, HasWrittenPart, IsBalanced}
+use Rattle.rt_live.proofs.Vocabulary.{IsScript, Line, List, ap, arith, drop, get_or, length, map, refl, settled_row}
+use Rattle.rt_live.proofs.Vocabulary.{subst, sym, take, take_at, with_counts, ℕ, ◌++◌, ◌∙◌, ◌≡◌, ◌≤◌}
 use Rattle.rt_live.specs.declared.account.AccountRow.{AccountRow}
+use Rattle.rt_live.proofs.Ended.{if_all, if_cut}
 use Rattle.rt_live.proofs.Outputs.{all_gathered, failed_part, has_lived, rows_balanced, rows_fit}
 use Rattle.rt_live.proofs.ready.Ready.run.Goals as goal
 
@@ -19,8 +11,7 @@ go-went-requires-clause-ready g c = λ _ _.
     let names = c.args.core.now.image.names in
     let ready = c.args.self in
     subst (λ (lines : List Line). AreReady names lines ready.words ready.line ready.devices.items
-    c.deref_mut.result.now)
-    (sym c.lines.ensures.lines)
+    c.deref_mut.result.now) (sym c.lines.ensures.lines)
     (subst (AreReady names ready.script.now ready.words ready.line ready.devices.items) (sym c.deref_mut.ensures.value)
     c.requires.ready)
 
@@ -38,8 +29,7 @@ pub enter_left-requires-clause-room : goal.enter_left-requires-clause-room
 enter_left-requires-clause-room g c =
     let front : List AccountRow = c.go-went.new.rows in
     let held : length front ≡ c.args.self.rows.len = c.go-went.auto.rows ∙ c.deref_mut.ensures.len in
-    subst (AllByRecursion HasRoom)
-    (sym (c.deref_mut-2.ensures.value
+    subst (AllByRecursion HasRoom) (sym (c.deref_mut-2.ensures.value
     ∙ take_at front (drop (length front) c.args.self.rows.items) c.args.self.rows.len held))
     (rows_fit (subst IsScript (sym c.lines.ensures.lines) c.requires.ready.scripted) c.go-went.ensures.gathered)
 
@@ -69,21 +59,19 @@ returns g c =
     let behind : (k : ℕ) → 16 ≤ k → get_or bits k 0 ≡ 0 = λ k far. closed.behind k (omega (arith, ready.many, far)) in
     record {
       ok =
-          on_ok_weaker c.go-went.result
-          (λ all. subst (λ (ls : List Line). HasLived ls old new x y out) lines
+          if_all c.go-went.result went.ended (λ all. subst (λ (ls : List Line). HasLived ls old new x y out) lines
           (subst (HasLived c.lines.result.now old new x y) (sym rows)
           (has_lived scripted went.gathered closed.history behind c.requires.fresh own closed.own ready.in_range x y all
-          refl))) went.ok;
+          refl)));
       balanced =
-          on_ok_weaker c.go-went.result
+          if_all c.go-went.result went.ended
           (λ all. subst (λ (ls : List Line). AllByRecursion (IsBalanced ls) out) lines
           (subst (AllByRecursion (IsBalanced c.lines.result.now)) (sym rows)
           (rows_balanced scripted went.gathered closed.history behind c.requires.fresh own closed.own ready.in_range x y
-          all))) went.ok;
+          all)));
       err =
-          on_err_weaker c.go-went.result
-          (λ early. subst (λ (ls : List Line). HasWrittenPart ls old new x y) lines
-          (failed_part scripted went.gathered closed.history behind c.requires.fresh x y early)) went.err;
+          if_cut c.go-went.result went.ended (λ early. subst (λ (ls : List Line). HasWrittenPart ls old new x y) lines
+          (failed_part scripted went.gathered closed.history behind c.requires.fresh x y early));
       cause = went.cause;
       quiet = went.quiet;
     }

@@ -1,6 +1,5 @@
-use Rattle.std.proofs.Common.{◌≡◌, ◌++◌, map, take, drop}
-use Rattle.rt_live.specs.Account.{settled_row}
-use Rattle.rt_live.proofs.left.settle.Given as goal
+use Rattle.rt_live.proofs.Vocabulary.{drop, map, settled_row, take, ◌++◌, ◌≡◌}
+use Rattle.rt_live.proofs.gathering.settle.Given as goal
 
 abbrev pub invariant-loop-row : goal.invariant-loop-row
 invariant-loop-row l =

@@ -1,11 +1,9 @@
-use Rattle.std.proofs.Common.{◌≡◌, ℕ, ◌<◌, ◌/◌, ◌%◌, length, get_or, rules, ap, ◌∙◌}
+use Rattle.rt_live.proofs.Vocabulary.{ap, bit_in_row, get_or, length, pending_bit, rules, settled_row, ℕ, ◌%◌, ◌/◌, ◌<◌}
+use Rattle.rt_live.proofs.Vocabulary.{◌∙◌, ◌≡◌}
 use Rattle.std.proofs.lemmas.Nat.Bits.{shr_and_one}
 use Rattle.rt_lemmas.proofs.Rows.{changed}
-use Rattle.rt_words.specs.Object.{pending_bit}
-use Rattle.rt_words.specs.Row.{bit_in_row}
-use Rattle.rt_live.specs.Account.{settled_row}
 use Rattle.rt_live.specs.declared.account.AccountRow.{AccountRow}
-use Rattle.rt_live.proofs.left.settle.Goals as goal
+use Rattle.rt_live.proofs.gathering.settle.Goals as goal
 
 pub loop-row-preserved : goal.loop-row-preserved
 loop-row-preserved c =
@@ -22,10 +20,4 @@ loop-row-preserved c =
     ∙ shr_and_one (get_or bits (bit / 32) 0) (bit % 32)
     ∙ ap (pending_bit bits) c.bit_in_row-bit.ensures.is in
     changed (settled_row core bits) rows old i within c.loop-row.invariant c.row-item.result _
-    (λ k. record {
-      irq = x.irq;
-      raised = x.raised;
-      merged = x.merged;
-      latched = x.latched;
-      left = left k;
-    })
+    (λ k. record { irq = x.irq; raised = x.raised; merged = x.merged; latched = x.latched; left = left k })
