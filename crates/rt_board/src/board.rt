@@ -1,3 +1,5 @@
+// A board: the local resources that a device writes.
+
 ghost use Rattle.std.specs.Prelude.{◌≡◌, OnOk, OnErr};
 ghost use Rattle.rt_board.specs.Board.{no_board, is_written, with_input};
 

@@ -1,3 +1,5 @@
+// Laws on boards: a text is read in one way, and each refusal says what is wrong.
+
 ghost use Rattle.rt_lines.specs.Reading.{IsReadOneWay};
 ghost use Rattle.rt_app.specs.Tree.{App};
 ghost use Rattle.rt_board.specs.Reading.{board_reader};

@@ -1,3 +1,5 @@
+// What a line of a board text says.
+
 ghost use Rattle.std.specs.Prelude.{◌≡◌, slice_get};
 ghost use Rattle.std.specs.List.{list_any};
 ghost use Rattle.rt_ids.specs.Lists.{is_some_and, then_from};

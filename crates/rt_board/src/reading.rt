@@ -1,3 +1,5 @@
+// Reads a board text.
+
 ghost use Rattle.std.specs.Prelude.{◌≡◌, IfOk, IfErr};
 ghost use Rattle.rt_lines.specs.Answers.{and_make};
 ghost use Rattle.rt_lines.specs.Parts.{spaced_words};

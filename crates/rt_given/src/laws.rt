@@ -1,3 +1,5 @@
+// A law on scripts beside devices: a text is read in one way.
+
 ghost use Rattle.rt_ids.specs.Names.{Names};
 ghost use Rattle.rt_lines.specs.Reading.{IsReadOneWay};
 ghost use Rattle.rt_app.specs.Tree.{App};

@@ -16,3 +16,4 @@ pub use line::GivenLine;
 pub use reading::read_given;
 pub use refusal::{Cause, GivenRefused, refusal_text};
 pub use script::GivenScript;
+pub use words::input_named;

@@ -1,3 +1,5 @@
+// What a line of a script beside devices asks for.
+
 ghost use Rattle.std.specs.Prelude.{◌≡◌};
 ghost use Rattle.rt_given.specs.Given.{asks, count_of};
 

@@ -1,3 +1,5 @@
+// Reads a script beside devices.
+
 ghost use Rattle.std.specs.Prelude.{◌≡◌, IfOk, IfErr};
 ghost use Rattle.rt_lines.specs.Answers.{and_make};
 ghost use Rattle.rt_script.specs.Script.{HasNames};

@@ -1,3 +1,5 @@
+// A script beside devices.
+
 ghost use Rattle.std.specs.Prelude.{◌≡◌, ◌+◌, [], ◌∷◌, ◌++◌, true, false, Ok, nat_le, IfOk, OnErr};
 ghost use Rattle.rt_ids.specs.declared.limits.TheConstants.{SCRIPT_EVENTS};
 ghost use Rattle.rt_script.specs.Script.{IsScript, count};

@@ -1,3 +1,5 @@
+// What the words of a line of such a script say.
+
 ghost use Rattle.std.specs.Prelude.{◌≡◌, slice_get};
 ghost use Rattle.rt_ids.specs.Lists.{is_some_and};
 ghost use Rattle.rt_lines.specs.Parts.{spaced_words};
@@ -114,7 +116,7 @@ fn read_input(app: &App, board: &Board, name: &[u8]) -> Result<u8, Cause>
 }
 
 /// The local resource of this name, where it is one that a device writes.
-fn input_named(locals: &[Local], board: &Board, name: &[u8]) -> Option<u8>
+pub fn input_named(locals: &[Local], board: &Board, name: &[u8]) -> Option<u8>
     ensures { result ≡ spec.input_named locals.now board.now name.now }
 {
     let input = board

@@ -36,35 +36,13 @@ use Rattle.rt_inputs.specs.Inputs.{irq_of, put_for, puts_for, puts_before, moves
 use Rattle.rt_inputs.specs.Laws.{GivenWordsAreFree, RunsWithInputsAreGood}
 use Rattle.rt_inputs.proofs.Joined.{things_append, declared_append, take_arms_none, core_append, labels_append}
 use Rattle.rt_inputs.proofs.Joined.{state_behind, same_jobs, free_event, free_word}
+use Rattle.rt_inputs.proofs.Moved.{puts_things, events_come}
 use Rattle.rt_inputs.proofs.Unused.{inputs_are_unused}
 
 -- what a step shows where it takes an interrupt
 taken_is : (shown : Option What) (irq : ℕ) → taken shown ≡ Some irq → (depth : ℕ) × (shown ≡ Some (what.Take irq depth))
 taken_is (Some (what.Take i depth)) irq is = (depth, ap (λ n. Some (what.Take n depth)) (same_Some i irq is))
 taken_is shown irq is = absurd (none-some irq is)
-
--- what devices put is no event
-module _ (app : App) (img : Image) (board : Board) (registers : Registers) where
-  none_for : (irq : ℕ) (inputs : List Input) → things (flat_map (put_for app board registers irq) inputs) ≡ []
-  none_for irq [] = refl
-  none_for irq (input ∷ inputs) =
-      let rest = flat_map (put_for app board registers irq) inputs in
-      things_append (put_for app board registers irq input) rest
-      ∙ one (is_some_and (λ n. n == irq) (irq_of app input)) (things rest) (none_for irq inputs)
-    where
-      one : (b : Bool) (rest : List Event) → rest ≡ []
-          → things (if b then Puts input.local (registers input.local) ∷ [] else []) ++ rest ≡ []
-      one true rest none = none
-      one false rest none = none
-
-  puts_things : (c : Core) (e : Event) → things (puts_before app board registers img c e) ≡ []
-  puts_things c (Arrive irq) = refl
-  puts_things c Tick = refl
-  puts_things c Step = by (taken (step img c).1)
-    where
-      by : (o : Option ℕ) → things (puts_for app board registers o) ≡ []
-      by None = refl
-      by (Some irq) = none_for irq board.inputs
 
 module _ (app : App) (img : Image) (accepted : IsAccepted app) (is_image : IsImageOf app img) where
   -- events and words that came, and their core
@@ -273,17 +251,5 @@ given_words_are_free app img accepted is_image board inputs happenings short dec
 pub runs_with_inputs_are_good : RunsWithInputsAreGood
 runs_with_inputs_are_good app img accepted is_image board inputs happenings short declared fit =
     images_are_good_beside app img accepted is_image (moves_of app img board happenings) fit
-    (subst (AreDeclared app) (sym (same_events (reset img) no_words happenings)) declared)
+    (subst (AreDeclared app) (sym (events_come app img board (reset img) no_words happenings)) declared)
     (given_words_are_free app img accepted is_image board inputs happenings short declared fit)
-  where
-    same_events : (c : Core) (registers : Registers) (happenings : List Happening)
-        → things (moves_from app img board c registers happenings) ≡ events_of happenings
-    same_events c registers [] = refl
-    same_events c registers (Gives local word ∷ more) = same_events c (with_word registers local word) more
-    same_events c registers (Comes e ∷ more) =
-        let puts = puts_before app board registers img c e in
-        let next = core_beside app img c (puts ++ One e ∷ []) in
-        let rest = moves_from app img board next registers more in
-        things_append puts (One e ∷ rest)
-        ∙ ap (λ ts. ts ++ e ∷ things rest) (puts_things app img board registers c e)
-        ∙ ap (λ ts. e ∷ ts) (same_events next registers more)

@@ -1,4 +1,14 @@
-pub mod Unused
 pub mod Joined
+pub mod Unused
 pub mod Free
 pub mod Takes
+pub mod LinesBehind
+pub mod Moved
+pub mod Advancing
+pub mod Known
+pub mod Reached
+pub mod Going
+pub mod Plain
+pub mod Words
+pub mod Scripted
+pub mod Proved

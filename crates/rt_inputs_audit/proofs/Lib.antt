@@ -1,0 +1,10 @@
+pub mod Placing
+pub mod Sound
+pub mod Complete
+pub mod Counting
+pub mod Verdicts
+pub mod Opening
+pub mod Judged
+pub mod Auditing
+pub mod Written
+pub mod Texts
