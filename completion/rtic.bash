@@ -1,4 +1,4 @@
-# Completion of rtic for bash: the commands, and then in each place files of its kind (README.md beside this file).
+# Completion of rtic and rticx for bash: the commands, and then in each place files of its kind (README.md beside this file).
 
 # The names that begin with a word. Those with the ending and folders come first. Where the ending is that of
 # applications others come only if there are none of these.
@@ -21,25 +21,29 @@ _rtic_files() {
 }
 
 _rtic() {
-    local word=${COMP_WORDS[COMP_CWORD]}
+    local word=${COMP_WORDS[COMP_CWORD]} program=${COMP_WORDS[0]##*/}
     local -a endings=()
     COMPREPLY=()
     if [[ $COMP_CWORD -eq 1 ]]; then
         local words='run check fmt build audit live soak demo deepest verify times pair'
+        [[ $program != rticx ]] || words='run audit'
         [[ $word != -* ]] || words='-h --help --version'
         mapfile -t COMPREPLY < <(compgen -W "$words" -- "$word")
         return
     fi
-    case ${COMP_WORDS[1]} in
-    check | fmt | build | soak | deepest) endings=(rtic) ;;
-    run | live) endings=(rtic script) ;;
-    audit) endings=(rtic trace) ;;
-    times) endings=(rtic limits) ;;
-    verify) endings=(listing) ;;
-    pair) endings=(rtic rtic script) ;;
+    case $program:${COMP_WORDS[1]} in
+    rticx:run) endings=(rtic board script) ;;
+    rticx:audit) endings=(rtic board trace) ;;
+    rticx:*) ;;
+    *:check | *:fmt | *:build | *:soak | *:deepest) endings=(rtic) ;;
+    *:run | *:live) endings=(rtic script) ;;
+    *:audit) endings=(rtic trace) ;;
+    *:times) endings=(rtic limits) ;;
+    *:verify) endings=(listing) ;;
+    *:pair) endings=(rtic rtic script) ;;
     esac
     local ending=${endings[COMP_CWORD - 2]}
     [[ -z $ending ]] || _rtic_files "$word" "$ending"
 }
 
-complete -o nosort -o filenames -F _rtic rtic
+complete -o nosort -o filenames -F _rtic rtic rticx

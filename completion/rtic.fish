@@ -1,21 +1,26 @@
-# Completion of rtic for fish: the commands, and then in each place files of its kind (README.md beside this file).
+# Completion of rtic and rticx for fish: the commands, and then in each place files of its kind (README.md beside this file).
 
 # Whether the word that is completed is a file with this usual ending.
 function __rtic_wants --argument-names ending
     set -l words (commandline -opc)
     set -l endings
-    switch "$words[2]"
-        case check fmt build soak deepest
+    switch (string replace -r '.*/' '' "$words[1]")" $words[2]"
+        case 'rticx run'
+            set endings rtic board script
+        case 'rticx audit'
+            set endings rtic board trace
+        case 'rticx *'
+        case '* check' '* fmt' '* build' '* soak' '* deepest'
             set endings rtic
-        case run live
+        case '* run' '* live'
             set endings rtic script
-        case audit
+        case '* audit'
             set endings rtic trace
-        case times
+        case '* times'
             set endings rtic limits
-        case verify
+        case '* verify'
             set endings listing
-        case pair
+        case '* pair'
             set endings rtic rtic script
     end
     set -l place (math (count $words) - 1)
@@ -33,10 +38,15 @@ function __rtic_files --argument-names ending
     printf '%s\n' $first
 end
 
-complete -c rtic -f
-complete -c rtic -n __fish_is_first_token -s h -l help -d 'write this help'
-complete -c rtic -n __fish_is_first_token -l version \
-    -d 'write the version, and whether the program at hand is the proved one'
+for program in rtic rticx
+    complete -c $program -f
+    complete -c $program -n __fish_is_first_token -s h -l help -d 'write this help'
+    complete -c $program -n __fish_is_first_token -l version \
+        -d 'write the version, and whether the program at hand is the proved one'
+    for ending in rtic board script trace limits listing
+        complete -c $program -n "__rtic_wants $ending" -k -a "(__rtic_files $ending)"
+    end
+end
 for row in \
         'run:write an image of an application, and its trace under a script' \
         'check:write ceilings, frames, costs, waiting bounds and the stack bound' \
@@ -53,6 +63,9 @@ for row in \
     set -l parts (string split -m 1 : $row)
     complete -c rtic -n __fish_is_first_token -a $parts[1] -d $parts[2]
 end
-for ending in rtic script trace limits listing
-    complete -c rtic -n "__rtic_wants $ending" -k -a "(__rtic_files $ending)"
+for row in \
+        'run:write an image of an application, and its trace under a script that gives values' \
+        'audit:judge whether such a trace is a run of Baker\'s machine beside devices'
+    set -l parts (string split -m 1 : $row)
+    complete -c rticx -n __fish_is_first_token -a $parts[1] -d $parts[2]
 end

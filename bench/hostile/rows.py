@@ -33,7 +33,7 @@ def pieces(rest):
 
 
 def cases(name):
-    """The cases of a table, each its parts by name, as bytes."""
+    """The cases of a table, by its name or its path, each its parts by name, as bytes."""
     found = []
     for line in (DATA / name).read_text(encoding="utf8").splitlines():
         if line.startswith("= "):

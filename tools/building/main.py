@@ -1,5 +1,6 @@
 #!/usr/bin/env python3
-"""Proves the crates that the program is made of, as the gate does, builds the program and runs it on an example.
+"""Proves the crates that the programs are made of, as the gate does, builds the programs and runs the first on an
+example.
 
     ./build [--anew]
 
@@ -24,7 +25,7 @@ sys.path.insert(0, str(ROOT / "tools"))
 
 from building.progress import MEASURED, Progress, about, parts_of, rows_of, seconds_of
 
-TOP = "rtic"
+TOP, MORE = "rtic", "rticx"
 OUT = ROOT / "crates" / TOP / "out"
 LOG = OUT / "build.log"
 EXAMPLE = ["run", "examples/two.rtic", "examples/two.script"]
@@ -35,7 +36,7 @@ COPIES = "rtic-build-"
 # how the lines of a crate begin and end, and what is said beside them where all is well
 BEGINS, ENDS = re.compile(r"== \w+"), re.compile(r"rt: (\w+)(: its tests are)? (proved|is kept|NOT PROVED)\b")
 WELL = re.compile(r"rt: (ok; |\w+ ran\b.*, and wrote )|\d+ passed, \d+ failed$")
-HEAD = "What rt ci wrote in a copy of the program's crates, without their must-fail edits:\n"
+HEAD = "What rt ci wrote in a copy of the programs' crates, without their must-fail edits:\n"
 FAILED, STOPPED = 1, 2
 
 
@@ -159,14 +160,20 @@ def prove(words, folder, progress, begun):
             gate.terminate()
 
 
-def put(program, moment):
-    """Puts the program into its place, as old as the sources that it was made from, so that a later edit is newer."""
-    OUT.mkdir(exist_ok=True)
-    new = OUT / f"{TOP}.new"
+def place_of(root, name):
+    """Where a program is, in the repository or in its copy."""
+    return root / "crates" / name / "out" / name
+
+
+def put(program, name, moment):
+    """Puts a program into its place, as old as the sources that it was made from, so that a later edit is newer."""
+    place = place_of(ROOT, name)
+    place.parent.mkdir(exist_ok=True)
+    new = place.with_name(f"{name}.new")
     shutil.copyfile(program, new)
     new.chmod(0o755)
     os.utime(new, ns=(moment, moment))
-    new.replace(OUT / TOP)
+    new.replace(place)
 
 
 def build(words):
@@ -177,7 +184,7 @@ def build(words):
         say("another ./build is at work in this folder")
         return STOPPED
     lines, uses = rows_of((ROOT / "crates.txt").read_text(encoding="utf-8"))
-    parts = parts_of(uses, TOP)
+    parts = parts_of(uses, TOP, MORE)
     seconds = seconds_of(lengths_of(parts), MEASURED.read_text(encoding="utf-8"))
     progress, log = Progress(parts, seconds, processors()), os.path.relpath(LOG, ROOT)
     say(f"proves {len(parts)} crates on {progress.processors} processors, from nothing in {about(progress.whole())};"
@@ -185,11 +192,12 @@ def build(words):
     with room() as folder:
         copy_of(lines, parts, folder / "copy")
         status = prove(words, folder, progress, begun)
-        program = folder / "copy" / "crates" / TOP / "out" / TOP
-        if not status and program.is_file():
-            put(program, moment)
+        programs = {name: place_of(folder / "copy", name) for name in (TOP, MORE)}
+        if not status and all(program.is_file() for program in programs.values()):
+            for name, program in programs.items():
+                put(program, name, moment)
             minutes, rest = divmod(round(time.monotonic() - begun), 60)
-            say(f"crates/{TOP}/out/{TOP} is built, after {minutes} min {rest} s; ./rtic {' '.join(EXAMPLE)} writes:")
+            say(f"{TOP} and {MORE} are built, after {minutes} min {rest} s; ./rtic {' '.join(EXAMPLE)} writes:")
             return 0
     say(f"not built; the lines above say why, and {log} has all lines")
     return status or STOPPED

@@ -22,9 +22,9 @@ def rows_of(text):
     return lines, uses
 
 
-def parts_of(uses, top):
-    """The crates that one is made of, itself too, each with those that it uses; libraries of the kit are none."""
-    found, left = {}, [top]
+def parts_of(uses, *tops):
+    """The crates that some are made of, themselves too, each with those that it uses; libraries of the kit are none."""
+    found, left = {}, list(tops)
     while left:
         name = left.pop()
         if name not in found:

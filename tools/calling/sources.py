@@ -4,7 +4,8 @@ from collections import namedtuple
 from pathlib import Path
 
 ROOT = Path(__file__).resolve().parents[2]
-PROGRAM = "rtic"
+# the program below which all public calls are, those of the other one too
+PROGRAM = "rticx"
 
 # `name` is the path that a caller writes, without the crate; `parameters` are as in the source, the receiver first;
 # `answer` is the type, or an empty text; `bounds` are the type parameters. A clause has a kind, `requires` or

@@ -7,21 +7,23 @@ from calling.sources import calls
 HEAD = "| Call | Needs | Other answers, and their cause | Left |\n|---|---|---|---|\n"
 # Types of answers of which each value is a cause of its own.
 TELLING = ("Status", "Verdict", "Verified", "Pended", "Measure")
-FAILS = re.compile(r"\b(OnErr|IfErr|IsErr|IsErrOf|Err|Gives|HasCause|MatchResult)\b")
+FAILS = re.compile(r"\b(OnErr|IfErr|IsErr|IsErrOf|Err|HasEffect|RepliesOrStops|HasCause|MatchResult|Reads|ReadsBytes)\b")
 SUCCEEDS = re.compile(r"^(OnOk|IfOk|OnSome|IfSome)\b")
 DECIDES = re.compile(r"\bresult\b.*(≡|↔)|(≡|↔).*\bresult\b|MatchOption|IsTrue result|IsFalse result"
-                     r"|^(YieldsFirst|StepsToItem)")
+                     r"|^(YieldsFirst|StepsToItem|Passes|TotalJudged)")
 # Calls of which no clause says what is left where memory is used up: each appends to what its caller then lets go.
 LEFT_UNSAID = {
     "rt_ids push_bytes", "rt_ids push_number", "rt_outside LineSink::take", "rt_gen_queue fill",
     "rt_baker_work begin_body", "rt_baker_work answer", "rt_baker_work Store::effect", "rt_baker_work settle",
     "rt_baker_work Work::begin", "rt_listing push_first_line", "rt_listing push_cell", "rt_listing push_irq",
-    "rt_listing push_body",
+    "rt_listing push_body", "rt_baker judge_item", "rt_inputs_audit InputsAuditor::end",
 }
 # Arguments of which no clause says what is left: the sink of a text has had lines of it, a buffer may have had bytes,
 # and a judge is done with.
 ARGUMENTS_UNSAID = {
     ("rt_outside read_lines", "sink"), ("rt_outside Source::read", "buffer"), ("rt_baker Judge::verdict", "self"),
+    ("rt_baker judge_total", "state"), ("rt_inputs_audit InputsJudge::verdict", "self"),
+    ("rt_inputs_audit InputsAuditor::end", "self"),
 }
 
 
@@ -74,8 +76,8 @@ def causes(call):
     """What a call may answer besides success, and the clauses that say when; None where no clause does."""
     error = error_of(call)
     whole = [clause for clause in promised(call) if clause.text.startswith("result ≡")]
-    if error == "NoMemory":
-        return "`NoMemory`", []
+    if error in ("NoMemory", "AllocError"):
+        return f"`{error}`", []
     if error:
         found = names([clause for clause in promised(call) if FAILS.search(clause.text)] or whole)
         return f"`{error}`", found or None

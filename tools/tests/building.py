@@ -17,11 +17,12 @@ sys.dont_write_bytecode = True
 from building.main import held
 from building.progress import GAIN, MEASURED, Progress, parts_of, rows_of, seconds_of, spans_of
 
-CRATES = "# Some crates\nlow: thiserror\n\nmid: low itoa  # in the middle\nside: low\nrtic: mid side\ntests: rtic low\n"
-PARTS = ["low: thiserror", "mid: low itoa", "side: low", "rtic: mid side"]
+CRATES = ("# Some crates\nlow: thiserror\n\nmid: low itoa  # in the middle\nside: low\nrtic: mid\nrticx: rtic side\n"
+          "tests: rtic low\n")
+PARTS = ["low: thiserror", "mid: low itoa", "side: low", "rtic: mid", "rticx: rtic side"]
 FILES = ["low/must-fail/a.edit", "low/out/old", "low/proofs/f/Answers.antt", "low/specs/Lib.antt", "low/src/lib.rt",
-         "mid/src/lib.rt", "rtic/args", "rtic/data/in", "rtic/src/main.rt", "rtic/stdout", "side/src/lib.rt",
-         "tests/src/main.rt"]
+         "mid/src/lib.rt", "rtic/args", "rtic/data/in", "rtic/src/main.rt", "rtic/stdout", "rticx/src/main.rt",
+         "side/src/lib.rt", "tests/src/main.rt"]
 COPIED = [file for file in FILES if not file.startswith("tests/") and "/must-fail/" not in file and "/out/" not in file]
 # It notes what it is called with and what is there, writes the lines, makes a program that writes its words, and ends.
 STAND_IN = """#!/bin/sh
@@ -30,13 +31,13 @@ echo $$ >"$CASE/process"
 cat "$CASE/lines"
 [ ! -e "$CASE/edit" ] || touch "$(cat "$CASE/edit")"
 [ ! -e "$CASE/waits" ] || exec sleep 60
-mkdir crates/rtic/out && printf '#!/bin/sh\\necho "$@"\\n' >crates/rtic/out/rtic
+for it in rtic rticx; do mkdir "crates/$it/out" && printf '#!/bin/sh\\necho "$@"\\n' >"crates/$it/out/$it"; done
 exit "$(cat "$CASE/status")"
 """
 BLOCK = "== {0}\nfn {0}::f: proved\nlogic=proved functions=1\nrt: {0} proved\n"
 KEPT = "rt: {0} is kept: an earlier run on this machine proved the same files over the same libraries\n"
 END = "rt: rtic ran, and wrote what its file stdout has\nrt: ok; handles allowed: none; the rest\n4 passed, 0 failed\n"
-ALL = "".join(map(BLOCK.format, ("low", "mid", "side", "rtic"))) + END
+ALL = "".join(map(BLOCK.format, ("low", "mid", "side", "rtic", "rticx"))) + END
 EXAMPLE = "run examples/two.rtic examples/two.script"
 faults, count = [], 0
 
@@ -120,9 +121,10 @@ def try_well(case):
     status, said, complained = case.run()
     lines, last = progress_lines(said), said.splitlines()[-1]
     expect(f"proved: {status} {said} {complained}", (status, complained, last) == (0, "", EXAMPLE))
-    expect(f"lines: {lines}", [line.split(",")[0] for line in lines] == [f"{n} of 4 proved" for n in (1, 2, 3, 4)])
+    expect(f"lines: {lines}", [line.split(",")[0] for line in lines] == [f"{n} of 5 proved" for n in range(1, 6)])
     left = [line.partition(", ")[2] for line in lines]
-    expect(f"estimates: {left}", all(line.endswith(" left") for line in left[:3]) and left[3] == "")
+    expect(f"estimates: {left}", all(line.endswith(" left") for line in left[:4]) and left[4] == "")
+    expect("both programs", all(case.root.joinpath("crates", it, "out", it).is_file() for it in ("rtic", "rticx")))
     wanted = ["ci", *PARTS, "Handles allowed: none.", *(f"crates/{file}" for file in COPIED)]
     expect(f"the copy: {case.seen()}", case.seen() == wanted)
     log = (case.program.parent / "build.log").read_text()
@@ -136,13 +138,14 @@ def try_well(case):
 
 def try_kept(case):
     """Earlier runs proved some, or all."""
-    case.begin("".join(map(KEPT.format, ("low", "mid", "side", "rtic"))) + END)
+    case.begin("".join(map(KEPT.format, ("low", "mid", "side", "rtic", "rticx"))) + END)
     status, said, _ = case.run()
-    expect(f"all kept: {said}", status == 0 and " left" not in said and "3 of 4 proved, by an earlier run" in said)
-    case.begin(KEPT.format("low") + BLOCK.format("side") + KEPT.format("mid") + BLOCK.format("rtic") + END)
+    expect(f"all kept: {said}", status == 0 and " left" not in said and "4 of 5 proved, by an earlier run" in said)
+    case.begin(KEPT.format("low") + BLOCK.format("side") + KEPT.format("mid") + BLOCK.format("rtic")
+               + BLOCK.format("rticx") + END)
     status, said, _ = case.run()
     left = [line.endswith(" left") for line in progress_lines(said)]
-    expect(f"some kept: {said}", status == 0 and left == [False, True, True, False])
+    expect(f"some kept: {said}", status == 0 and left == [False, True, True, True, False])
 
 
 def try_edit(case):
@@ -215,9 +218,12 @@ def try_interrupted(case):
 def try_model():
     """The model's own lines at half its pace; a crate without a measure; and the file of measures."""
     lines, uses = rows_of(CRATES)
-    parts = parts_of(uses, "rtic")
-    expect("the parts", parts == {"low": set(), "mid": {"low"}, "side": {"low"}, "rtic": {"mid", "side"}})
+    parts = parts_of(uses, "rtic", "rticx")
+    expect("the parts of both", parts == {"low": set(), "mid": {"low"}, "side": {"low"}, "rtic": {"mid"},
+                                          "rticx": {"rtic", "side"}})
     expect("their lines", [lines[name] for name in parts] == PARTS)
+    expect("the parts of one", set(parts_of(uses, "rtic")) == {"low", "mid", "rtic"})
+    parts = {"low": set(), "mid": {"low"}, "side": {"low"}, "rtic": {"mid", "side"}}
     seconds = {"low": 60.0, "mid": 300.0, "side": 240.0, "rtic": 60.0}
     one = spans_of(parts, seconds, 1)
     expect("one processor", one == {"low": (0, 60), "mid": (60, 360), "side": (360, 600), "rtic": (600, 660)})
@@ -231,7 +237,7 @@ def try_model():
         "3 of 4 proved, about 2 minutes left", "4 of 4 proved",
     ])
     expect("by length", seconds_of({"a": 10, "b": 30, "c": 5}, "# x\na 20\nb 60\n") == {"a": 20, "b": 60, "c": 10})
-    names = set(parts_of(rows_of((ROOT / "crates.txt").read_text())[1], "rtic"))
+    names = set(parts_of(rows_of((ROOT / "crates.txt").read_text())[1], "rtic", "rticx"))
     rows = [line.split() for line in MEASURED.read_text().splitlines() if not line.startswith("#")]
     expect("what was measured", rows and all(row[0] in names and float(row[1]) > 0 for row in rows))
 

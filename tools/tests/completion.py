@@ -1,6 +1,7 @@
 #!/usr/bin/env python3
-"""Tries the completions of bash, zsh and fish: what each offers for every word of every command, in a folder that has a
-file with each usual ending. What is due comes from the program's usage line. A shell that is not there is left out."""
+"""Tries the completions of bash, zsh and fish: what each offers for every word of every command of both programs, in a
+folder that has a file with each usual ending. What is due comes from the programs' usage lines. A shell that is not
+there is left out."""
 import os
 import pathlib
 import pty
@@ -17,7 +18,7 @@ COMPLETION = TOOLS.parent / "completion"
 sys.dont_write_bytecode = True
 sys.path.insert(0, str(TOOLS))
 
-from documenting.usage import ENDINGS, of_usage
+from documenting.usage import ENDINGS, PROGRAMS, of_usage
 
 FOLDER, OTHER = "sub", "text.c"
 OPTIONS = ["--help", "--version", "-h"]
@@ -123,12 +124,15 @@ def due_of_place(operand):
 
 def due():
     """For each line what is due."""
-    commands = of_usage()
-    found = {"rtic ": ([], set(commands)), "rtic -": ([], set(OPTIONS)), f"rtic check {OTHER[0]}": ([], {OTHER}),
-             "rtic de": ([], {"demo", "deepest"}), "rtic nothing ": ([], set())}
-    for command, operands in commands.items():
-        for place, operand in enumerate([*operands, "nothing more"]):
-            found[" ".join(["rtic", command, *["w"] * place, ""])] = due_of_place(operand)
+    found = {f"rtic check {OTHER[0]}": ([], {OTHER}), "rtic de": ([], {"demo", "deepest"}),
+             "rticx check ": ([], set()), "rticx ru": ([], {"run"})}
+    for program in PROGRAMS:
+        commands = of_usage(program)
+        found.update({f"{program} ": ([], set(commands)), f"{program} -": ([], set(OPTIONS)),
+                      f"{program} nothing ": ([], set())})
+        for command, operands in commands.items():
+            for place, operand in enumerate([*operands, "nothing more"]):
+                found[" ".join([program, command, *["w"] * place, ""])] = due_of_place(operand)
     return found
 
 

@@ -1,5 +1,5 @@
 #!/usr/bin/env python3
-"""Tries the launcher on stand-ins for the program and the toolchain: which of the two it runs and with which words, its
+"""Tries the launcher on stand-ins for the programs and the toolchain: which of them it runs and with which words, its
 help and its version, and standard input as a file. No program need be built."""
 import os
 import pathlib
@@ -15,7 +15,7 @@ ROOT = TOOLS.parent
 sys.dont_write_bytecode = True
 sys.path.insert(0, str(TOOLS))
 
-from documenting.usage import files_in, help_text, of_usage, usage_line
+from documenting.usage import PROGRAMS, files_in, help_text, of_usage, usage_line
 
 # It writes its words, a line each, and then what is in the files that they name.
 PROGRAM = """#!/bin/sh
@@ -47,17 +47,19 @@ def written(path, text, at=OLD):
 
 
 class Place:
-    """A folder with the launcher, the source of the usage line, and the two stand-ins; and where it was called."""
+    """A folder with the launcher, the sources of the usage lines, and the two stand-ins; and where it was called."""
 
-    def __init__(self, folder):
+    def __init__(self, folder, name):
+        self.name = name
         self.root, self.here, self.temporary = folder / "the root", folder / "here", folder / "temporary"
-        for name in ("rtic", "CHANGELOG.md", "crates/rt_top/src/top.rt"):
-            path = self.root / name
+        for file in ("rtic", "CHANGELOG.md", *(source for source, _ in PROGRAMS.values())):
+            path = self.root / file
             path.parent.mkdir(parents=True, exist_ok=True)
-            shutil.copy(ROOT / name, path)
+            shutil.copy(ROOT / file, path)
             os.utime(path, (OLD, OLD))
-        (self.root / "crates" / "rtic").mkdir()
-        self.program = self.root / "crates" / "rtic" / "out" / "rtic"
+        (self.root / "rticx").symlink_to("rtic")
+        (self.root / "crates" / self.name).mkdir()
+        self.program = self.root / "crates" / self.name / "out" / self.name
         written(folder / "bin" / "rt", TOOLCHAIN).chmod(0o755)
         self.path = f"{folder}/bin:{os.environ['PATH']}"
         self.here.mkdir()
@@ -72,7 +74,7 @@ class Place:
         """The status, the output and the errors of the launcher."""
         environment = {**os.environ, "PATH": self.path, "TMPDIR": str(self.temporary), **more.pop("environment", {})}
         more = {"input": text, "stdout": subprocess.PIPE, **more}
-        done = subprocess.run([self.root / "rtic", *words], cwd=self.here, env=environment, stderr=subprocess.PIPE,
+        done = subprocess.run([self.root / self.name, *words], cwd=self.here, env=environment, stderr=subprocess.PIPE,
                               check=False, **more)
         return done.returncode, done.stdout, done.stderr
 
@@ -93,7 +95,8 @@ def lines(*words):
 def try_toolchain(place):
     """Without a program: each command reaches the toolchain with its files, and other words get the usage line."""
     written(place.here / "file", "text")
-    for command, operands in of_usage().items():
+    usage = lines(usage_line(place.name))
+    for command, operands in of_usage(place.name).items():
         count = files_in(operands)
         words = ["file"] * count + ["7"] * (len(operands) - count)
         data = [part for copy in COPIES[:count] for part in ("--data", copy)]
@@ -104,10 +107,17 @@ def try_toolchain(place):
             place.expect(f"{command} - to the toolchain", found == (0, due))
         for other in (words[1:], words + ["file"]):
             found = place.ended([command, *other])[:2]
-            place.expect(f"{command} with {len(other)} words", found == (2, lines(usage_line())))
+            place.expect(f"{command} with {len(other)} words", found == (2, usage))
     for words in ([], ["compile", "file"], ["--help", "file"], ["-"], ["run|check", "file"]):
-        place.expect(f"{words}", place.ended(words)[:2] == (2, lines(usage_line())))
-    place.expect("no such file", place.ended(["check", "none"]) == (5, b"", b""))
+        place.expect(f"{words}", place.ended(words)[:2] == (2, usage))
+    missing = ["none"] * len(of_usage(place.name)["run"])
+    place.expect("no such file", place.ended(["run", *missing]) == (5, b"", b""))
+
+
+def try_made(place):
+    """The program, once it is there, with its words and its status."""
+    place.build()
+    place.expect("the program", place.ended(["a", "b"], environment={"STATUS": "3"}) == (3, b"a\nb\n", b""))
 
 
 def try_sources(place):
@@ -151,10 +161,10 @@ def try_list(place, listed):
 def try_own_words(place):
     """The help and the version."""
     for words in (["--help"], ["-h"]):
-        due = help_text().replace("$root", str(place.root)).encode()
+        due = help_text(place.name).replace("$root", str(place.root)).encode()
         place.expect(f"{words}", place.ended(words) == (0, due, b""))
     newest = next(line for line in (ROOT / "CHANGELOG.md").read_text().splitlines() if line.startswith("## "))
-    due = lines(f"rtic {newest.removeprefix('## ')}", PROVED)
+    due = lines(f"{place.name} {newest.removeprefix('## ')}", PROVED)
     place.expect("--version", place.ended(["--version"]) == (0, due, b""))
     for words in (["--help"], ["--version"]):
         with open("/dev/full", "wb") as full:
@@ -164,9 +174,9 @@ def try_own_words(place):
     place.build()
 
 
-def try_input(place):
-    """`-` in the place of each file of each command, and where it is none."""
-    for command, operands in of_usage().items():
+def try_each_input(place):
+    """`-` in the place of each file of each command."""
+    for command, operands in of_usage(place.name).items():
         for position, operand in enumerate(operands):
             words = [f"w{number}" for number in range(len(operands))]
             words[position] = "-"
@@ -175,6 +185,10 @@ def try_input(place):
             output = lines(command, *due) + TEXT * is_file
             found = place.ended([command, *words], TEXT, environment={"STATUS": "4"})
             place.expect(f"{command} {words}", found == (4, output, b""))
+
+
+def try_input(place):
+    """`-` where it is no file, and texts of other kinds."""
     written(place.here / "-", "a file of this name")
     for words, due in (
         (["check", "-"], b"check\n/dev/stdin\n" + TEXT), (["check", "./-"], b"check\n./-\na file of this name"),
@@ -221,14 +235,18 @@ def try_killed(place):
 def main():
     """Ends with 1 where a case is wrong."""
     begun = time.monotonic()
-    with tempfile.TemporaryDirectory() as name:
-        place = Place(pathlib.Path(name))
-        for part in (try_toolchain, try_sources, try_own_words, try_input, try_odd_input, try_killed):
-            part(place)
-    for told in place.wrong:
+    count, wrong = 0, []
+    for program, more in (("rtic", (try_sources, try_input, try_odd_input, try_killed)), ("rticx", ())):
+        with tempfile.TemporaryDirectory() as name:
+            place = Place(pathlib.Path(name), program)
+            for part in (try_toolchain, try_made, try_own_words, try_each_input, *more):
+                part(place)
+        count += place.count
+        wrong += [f"{program}: {told}" for told in place.wrong]
+    for told in wrong:
         print(f"launcher: {told}: not as it is to be")
-    print(f"launcher: {place.count} calls, {len(place.wrong)} wrong, in {time.monotonic() - begun:.1f} s")
-    return 1 if place.wrong else 0
+    print(f"launcher: {count} calls, {len(wrong)} wrong, in {time.monotonic() - begun:.1f} s")
+    return 1 if wrong else 0
 
 
 if __name__ == "__main__":

@@ -1,0 +1,24 @@
+-- The words of a command.
+use Rattle.std.proofs.Common.{◌≡◌, ℕ, List, [], ◌∷◌, codes, Option, Some, None, Bool, true, false, bytes_eq, ap}
+use Rattle.rt_topx.specs.declared.command.Command.{Command}
+use Rattle.rt_topx.specs.declared.command.Command.TheVariants as command
+use Rattle.rt_topx.specs.Words.{Names}
+
+-- the command, where the test is true, else that of the other tests
+abbrev when : Bool → Command → Option Command → Option Command
+when true c other = Some c
+when false c other = other
+
+-- the one command that words can name, by the first
+abbrev command_named : List (List ℕ) → Option Command
+command_named [] = None
+command_named (verb ∷ words) =
+    when (bytes_eq verb (codes "run")) command.Run (when (bytes_eq verb (codes "audit")) command.Audit None)
+
+names_it : (words : List (List ℕ)) (c : Command) → Names words c → command_named words ≡ Some c
+names_it words command.Run named = ap command_named named.3
+names_it words command.Audit named = ap command_named named.3
+
+-- words name one command at most
+pub one_command : (words : List (List ℕ)) (c d : Command) → Names words c → Names words d → c ≡ d
+one_command words c d named other = let e = names_it words c named in let f = names_it words d other in cc

@@ -1,0 +1,194 @@
+-- A text is refused or is read, not both, and the status that is due is one.
+use Rattle.std.proofs.Common.{◌≡◌, ℕ, List, [], ◌∷◌, inl, inr, sym, ap, subst, ◌∙◌, arith}
+use Rattle.rt_ids.specs.declared.status.Status.{Status}
+use Rattle.rt_ids.specs.declared.status.Status.TheVariants as status
+use Rattle.rt_app.specs.Names.{names_of}
+use Rattle.rt_app.specs.Tree.{App}
+use Rattle.rt_build.specs.Accepted.{IsApplication}
+use Rattle.rt_baker.specs.declared.verdict.Verdict.{Verdict}
+use Rattle.rt_baker.specs.declared.verdict.Verdict.TheVariants as judged
+use Rattle.rt_lines.proofs.Reading.{read_one_way}
+use Rattle.rt_board.specs.Board as boards
+use Rattle.rt_board.specs.Reading.{IsBoardOf, board_reader}
+use Rattle.rt_board.specs.Reading as board
+use Rattle.rt_board.specs.declared.refusal.BoardRefused.{BoardRefused}
+use Rattle.rt_given.specs.Reading.{IsGivenText, given_reader}
+use Rattle.rt_given.specs.Reading as given
+use Rattle.rt_given.specs.declared.line.GivenLine.{GivenLine}
+use Rattle.rt_given.specs.declared.refusal.GivenRefused.{GivenRefused}
+use Rattle.rt_inputs_audit.specs.Audit.{IsVerdictBeside, JudgedBeside}
+use Rattle.rt_inputs_audit.specs.Reading.{Told, Standing, IsInputsText, inputs_reader}
+use Rattle.rt_inputs_audit.specs.Reading as trace
+use Rattle.rt_inputs_audit.specs.declared.refusal.InputsRefused.{InputsRefused}
+use Rattle.rt_trace.specs.Reading.{total_of}
+use Rattle.rt_top.specs.Defined.{Inputs}
+use Rattle.rt_top.proofs.Excluding.{application_passes, application_only, IsReplied, AreDue, due_as}
+use Rattle.rt_top.proofs.Excluding.{SaysWhether, whether_once}
+use Rattle.rt_topx.specs.declared.command.Command.{Command}
+use Rattle.rt_topx.specs.declared.command.Command.TheVariants as command
+use Rattle.rt_topx.specs.Kinds.{Kind, kinds_of, IsOfKind, IsRefusedBy, IsRefusedAmong}
+use Rattle.rt_topx.specs.Kinds as kind
+use Rattle.rt_topx.specs.Refusal.{RefusesBoard, RefusesBeside, SaysBoard, SaysScript, SaysTrace}
+use Rattle.rt_topx.specs.Outputs.{IsAudited, Says}
+use Rattle.rt_topx.specs.Defined.{Writes, Defined, refused, output}
+
+-- What is read is refused by no line.
+
+-- a board, of an application
+board_read : (app : App) (more line : List ℕ) (b : boards.Board) (r : BoardRefused) → IsBoardOf app more b
+    → board.IsRefused app more r → SaysBoard r line → ⊥
+board_read app more line b r is (board.too_long long) says = omega (arith, is.short, long)
+board_read app more line b r is (board.first_wrong n w first) says =
+    (read_one_way (board_reader app)).not_both more b n w is first
+board_read app more line b r is board.no_memory says = says
+
+-- a script, over an application and beside a board
+script_read : (app : App) (b : boards.Board) (more line : List ℕ) (s : List GivenLine) (r : GivenRefused)
+    → IsGivenText (names_of app) app b more s → given.IsRefused (names_of app) app b more r → SaysScript r line → ⊥
+script_read app b more line s r is (given.too_long long) says = omega (arith, is.short, long)
+script_read app b more line s r is (given.first_wrong n w first) says =
+    (read_one_way (given_reader (names_of app) app b)).not_both more s n w is first
+script_read app b more line s r is given.no_memory says = says
+
+-- a trace, likewise
+trace_read : (app : App) (b : boards.Board) (more line : List ℕ) (told : Told) (r : InputsRefused)
+    → IsInputsText (names_of app) app b more told → trace.IsRefused (names_of app) app b more r → SaysTrace r line → ⊥
+trace_read app b more line told r is (trace.too_long long) says = omega (arith, is.leads.short, long)
+trace_read app b more line told r is (trace.first_wrong n w first) says =
+    (read_one_way (inputs_reader (names_of app) app b)).not_both more is.reached n w is.leads first
+trace_read app b more line told r is trace.no_memory says = says
+
+-- what a trace tells is one
+told_only : (app : App) (b : boards.Board) (text : List ℕ) (one other : Told)
+    → IsInputsText (names_of app) app b text one → IsInputsText (names_of app) app b text other → one ≡ other
+told_only app b text one other is is' =
+    let same : is.reached ≡ is'.reached =
+    (read_one_way (inputs_reader (names_of app) app b)).one_state text is.reached is'.reached is.leads is'.leads in
+    is.tells
+    ∙ ap (λ (s : Standing). record { lines = s.lines; total = total_of s.phase }) same
+    ∙ sym is'.tells
+
+-- the board of a text is one
+pub board_only : (app : App) (text : List ℕ) (a b : boards.Board) → IsBoardOf app text a → IsBoardOf app text b → a ≡ b
+board_only app text a b one other = (read_one_way (board_reader app)).one_state text a b one other
+
+board_passes : (text more line : List ℕ) (app : App) → IsApplication text app → (b : boards.Board)
+    → IsBoardOf app more b → RefusesBoard text more line → ⊥
+board_passes text more line app is b read r =
+    board_read r.app more line b r.refusal
+    (subst (λ a. IsBoardOf a more b) (application_only text app r.app is r.of_text) read) r.refused r.says
+
+-- what is of a kind over an application and beside a board is not refused there
+beside_passes : {S R : Type 0} (IsOf : App → boards.Board → List ℕ → S → Type 0)
+    (IsRefused : App → boards.Board → List ℕ → R → Type 0) (Says : R → List ℕ → Type 0)
+    → ((app : App) (b : boards.Board) (more line : List ℕ) (s : S) (r : R) → IsOf app b more s
+    → IsRefused app b more r → Says r line → ⊥)
+    → (text beside more line : List ℕ) (app : App) → IsApplication text app → (b : boards.Board)
+    → IsBoardOf app beside b → (s : S) → IsOf app b more s → RefusesBeside IsRefused Says text beside more line → ⊥
+beside_passes IsOf IsRefused Says excludes text beside more line app is b of_board s read r =
+    let same : app ≡ r.app = application_only text app r.app is r.of_text in
+    let on = subst (λ a. IsBoardOf a beside b) same of_board in
+    let one : b ≡ r.board = board_only r.app beside b r.board on r.of_board in
+    excludes r.app r.board more line s r.refusal
+    (subst (λ c. IsOf r.app c more s) one (subst (λ a. IsOf a b more s) same read)) r.refused r.says
+
+-- A text is of its kind or is refused, not both.
+pub one_of_each : (k : Kind) (t : Inputs) (text : List ℕ) (ended : Status) (line : List ℕ) → IsOfKind k t text
+    → IsRefusedBy k t text ended line → ⊥
+one_of_each kind.Application t text ended line (app, is) (told, r) = application_passes text line app is r
+one_of_each kind.Board t text ended line (app, is, b, read) (told, r) =
+    board_passes t.first text line app is b read r
+one_of_each kind.Script t text ended line (app, is, b, of_board, script, read) (told, r) =
+    beside_passes (λ a c. IsGivenText (names_of a) a c) (λ a c. given.IsRefused (names_of a) a c) SaysScript
+    script_read t.first t.second text line app is b of_board script read r
+one_of_each kind.Trace t text ended line (app, is, b, of_board, told, read) (as_told, r) =
+    beside_passes (λ a c. IsInputsText (names_of a) a c) (λ a c. trace.IsRefused (names_of a) a c) SaysTrace
+    trace_read t.first t.second text line app is b of_board told read r
+
+-- a verdict says whether the lines are right
+judged_so : (app : App) (b : boards.Board) (told : Told) (v : Verdict) (ended : Status) (bytes : List ℕ)
+    → IsVerdictBeside app b told.lines told.total v → Says told v ended bytes
+    → SaysWhether (JudgedBeside app b told.lines told.total) ended
+judged_so app b told judged.Yes ended bytes is s = inl (s.0, is.judged)
+judged_so app b told (judged.No n) ended bytes is s = inr (s.0, is.not_judged)
+
+audited_so : (text beside more : List ℕ) (a b : Status) (x y : List ℕ) → IsAudited text beside more a x
+    → IsAudited text beside more b y → AreDue a b
+audited_so text beside more a b x y one other =
+    let app : other.app ≡ one.app = application_only text other.app one.app other.of_text one.of_text in
+    let on = subst (λ p. IsBoardOf p beside other.board) app other.of_board in
+    let board : other.board ≡ one.board = board_only one.app beside other.board one.board on one.of_board in
+    let read = subst (λ c. IsInputsText (names_of one.app) one.app c more other.told) board
+    (subst (λ p. IsInputsText (names_of p) p other.board more other.told) app other.read) in
+    let same : other.told ≡ one.told = told_only one.app one.board more other.told one.told read one.read in
+    whether_once (JudgedBeside one.app one.board one.told.lines one.told.total) a b
+    (judged_so one.app one.board one.told one.verdict a x one.is one.says)
+    (subst (λ t. SaysWhether (JudgedBeside one.app one.board t.lines t.total) b) same
+    (subst (λ c. SaysWhether (JudgedBeside one.app c other.told.lines other.told.total) b) board
+    (subst (λ p. SaysWhether (JudgedBeside p other.board other.told.lines other.told.total) b) app
+    (judged_so other.app other.board other.told other.verdict b y other.is other.says))))
+
+-- a refusal has the status of its kind
+one_refusal : (k : Kind) (t : Inputs) (text : List ℕ) (a b : Status) (x y : List ℕ) → IsRefusedBy k t text a x
+    → IsRefusedBy k t text b y → AreDue a b
+one_refusal kind.Application t text a b x y r s = due_as status.App a b tt r.0 s.0
+one_refusal kind.Board t text a b x y r s = due_as status.Text a b tt r.0 s.0
+one_refusal kind.Script t text a b x y r s = due_as status.Text a b tt r.0 s.0
+one_refusal kind.Trace t text a b x y r s = due_as status.Text a b tt r.0 s.0
+
+-- each text is of its kind
+abbrev AreOfKinds : List Kind → Inputs → List (List ℕ) → Type 0
+AreOfKinds [] t texts = Unit {0}
+AreOfKinds (k ∷ kinds) t [] = ⊥
+AreOfKinds (k ∷ kinds) t (text ∷ texts) = IsOfKind k t text × AreOfKinds kinds t texts
+
+-- then none is refused
+none_refused : (kinds : List Kind) (t : Inputs) (texts : List (List ℕ)) (ended : Status) (line : List ℕ)
+    → AreOfKinds kinds t texts → IsRefusedAmong kinds t texts ended line → ⊥
+none_refused [] t texts ended line are r = r
+none_refused (k ∷ kinds) t [] ended line are r = r
+none_refused (k ∷ kinds) t (text ∷ texts) ended line are (inl r) = one_of_each k t text ended line are.0 r
+none_refused (k ∷ kinds) t (text ∷ texts) ended line are (inr r) = none_refused kinds t texts ended line are.1 r.1
+
+-- and the first that is has one status
+one_among : (kinds : List Kind) (t : Inputs) (texts : List (List ℕ)) (a b : Status) (x y : List ℕ)
+    → IsRefusedAmong kinds t texts a x → IsRefusedAmong kinds t texts b y → AreDue a b
+one_among [] t texts a b x y r s = absurd r
+one_among (k ∷ kinds) t [] a b x y r s = absurd r
+one_among (k ∷ kinds) t (text ∷ texts) a b x y (inl r) (inl s) = one_refusal k t text a b x y r s
+one_among (k ∷ kinds) t (text ∷ texts) a b x y (inl r) (inr s) = absurd (one_of_each k t text a x s.0 r)
+one_among (k ∷ kinds) t (text ∷ texts) a b x y (inr r) (inl s) = absurd (one_of_each k t text b y r.0 s)
+one_among (k ∷ kinds) t (text ∷ texts) a b x y (inr r) (inr s) = one_among kinds t texts a b x y r.1 s.1
+
+-- where there is an output each text is of its kind
+all_read : (c : Command) (t : Inputs) (ended : Status) (bytes : List ℕ) → Writes c t ended bytes
+    → AreOfKinds (kinds_of c) t (t.first ∷ t.second ∷ t.third ∷ [])
+all_read command.Run t ended bytes (is, w) = (
+  (w.app, w.is.of_text),
+  ((w.app, w.is.of_text, w.board, w.of_board), ((w.app, w.is.of_text, w.board, w.of_board, w.script, w.read), tt)),
+)
+all_read command.Audit t ended bytes w = (
+  (w.app, w.of_text),
+  ((w.app, w.of_text, w.board, w.of_board), ((w.app, w.of_text, w.board, w.of_board, w.told, w.read), tt)),
+)
+
+one_output : (c : Command) (t : Inputs) (a b : Status) (x y : List ℕ) → Writes c t a x → Writes c t b y → AreDue a b
+one_output command.Run t a b x y w v = due_as status.Done a b tt w.0 v.0
+one_output command.Audit t a b x y w v = audited_so t.first t.second t.third a b x y w v
+
+-- what is due has one status, with which commands reply
+both_due : (c : Command) (t : Inputs) (a b : Status) (x y : List ℕ) → Defined c t a x → Defined c t b y → AreDue a b
+both_due c t a b x y (refused one line r) (refused other line' s) =
+    one_among (kinds_of c) t (t.first ∷ t.second ∷ t.third ∷ []) one other line line' r s
+both_due c t a b x y (refused one line r) (output other bytes w) =
+    absurd (none_refused (kinds_of c) t (t.first ∷ t.second ∷ t.third ∷ []) one line (all_read c t other bytes w) r)
+both_due c t a b x y (output one bytes w) (refused other line s) =
+    absurd (none_refused (kinds_of c) t (t.first ∷ t.second ∷ t.third ∷ []) other line (all_read c t one bytes w) s)
+both_due c t a b x y (output one bytes w) (output other bytes' v) = one_output c t one other bytes bytes' w v
+
+pub one_due : (c : Command) (t : Inputs) (a b : Status) (x y : List ℕ) → Defined c t a x → Defined c t b y → a ≡ b
+one_due c t a b x y d e = (both_due c t a b x y d e).1
+
+pub replied : (c : Command) (t : Inputs) (ended : Status) (bytes : List ℕ) → Defined c t ended bytes
+    → IsReplied ended
+replied c t ended bytes d = (both_due c t ended ended bytes bytes d d).0

@@ -1,0 +1,8 @@
+mod Conducting
+mod Using
+mod Excluding
+mod CommandWords
+mod Ending
+mod Clauses
+mod Scripted
+mod Running

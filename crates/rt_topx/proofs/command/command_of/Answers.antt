@@ -1,0 +1,9 @@
+use Rattle.rt_top.proofs.CommandWords.{with_verb}
+use Rattle.rt_topx.proofs.command.command_of.Goals as goal
+
+pub returns-in-run-clause-some : goal.returns-in-run-clause-some
+returns-in-run-clause-some c = (_, _, _, with_verb 3 _ c.in-run.is-run c.in-run.len_at_least c.in-run.len_below)
+
+pub returns-in-audit-clause-some : goal.returns-in-audit-clause-some
+returns-in-audit-clause-some c =
+    (_, _, _, with_verb 3 _ c.in-audit.is-audit c.in-audit.len_at_least c.in-audit.len_below)

@@ -1,0 +1,21 @@
+use Rattle.rt_app.specs.View.{app_of}
+use Rattle.rt_top.specs.Defined.{inputs}
+use Rattle.rt_top.specs.Reads.{given_by}
+use Rattle.rt_top.proofs.Conducting.{kept}
+use Rattle.rt_topx.proofs.Conducting.{conducts_behind, refused_conducts, not_application, begins}
+use Rattle.rt_topx.proofs.decide.decide.Goals as goal
+
+pub returns-in-Ok : goal.returns-in-Ok
+returns-in-Ok g c =
+    let read = c.in-Ok.ensures.reads in
+    let kinds = begins c.args.command in
+    rw kinds (conducts_behind read.0 (app_of c.in-Ok.app, read.1) (c.decide_of.ensures _ read.1))
+
+pub returns-in-Err : goal.returns-in-Err
+returns-in-Err g c =
+    let second = given_by g.B.Source.past c.args.second.now c.args.second.now in
+    let third = given_by g.C.Source.past c.args.third.now c.args.third.now in
+    let kinds = begins c.args.command in
+    rw kinds (refused_conducts (kept, (kept, tt))
+    (not_application (inputs _ second third) _ _ _ c.in-Err.ensures.reads) c.finish.ensures.finished
+    c.finish.ensures.heard)

@@ -1,0 +1,11 @@
+use Rattle.rt_topx.proofs.Conducting.{one_conducts, one_answers}
+use Rattle.rt_topx.proofs.decide.decide_beside.Goals as goal
+
+pub returns-in-Run : goal.returns-in-Run
+returns-in-Run g c first second is of_board =
+    rw c.in-Run.is (one_conducts tt (c.run.ensures.ends first second is of_board) c.run.ensures.heard)
+
+pub returns-in-Audit : goal.returns-in-Audit
+returns-in-Audit g c first second is of_board =
+    rw c.in-Audit.is (one_answers tt (c.audit.ensures first second is of_board) c.finish.ensures.finished
+    c.finish.ensures.heard)

@@ -1,0 +1,65 @@
+-- What a command reads: texts of these kinds, one of each of its sources, in this order. A kind has a bound on the
+-- bytes of its texts, and a text is of its kind or is refused, not both (`OneOfEachKind`). What a text is depends on
+-- those before it: a board is one of an application, a script is over both.
+use Rattle.std.specs.Prelude.{◌≡◌, ◌⊎◌, ℕ, List, [], ◌∷◌}
+use Rattle.rt_ids.specs.declared.limits.TheConstants.{TEXT_BYTES, SCRIPT_BYTES, TRACE_BYTES}
+use Rattle.rt_ids.specs.declared.status.Status.{Status}
+use Rattle.rt_ids.specs.declared.status.Status.TheVariants as status
+use Rattle.rt_app.specs.Names.{names_of}
+use Rattle.rt_app.specs.Tree.{App}
+use Rattle.rt_build.specs.Accepted.{IsApplication}
+use Rattle.rt_board.specs.Board as boards
+use Rattle.rt_board.specs.Reading.{IsBoardOf}
+use Rattle.rt_given.specs.Reading.{IsGivenText}
+use Rattle.rt_given.specs.declared.line.GivenLine.{GivenLine}
+use Rattle.rt_inputs_audit.specs.Reading.{Told, IsInputsText}
+use Rattle.rt_top.specs.Refusal.{RefusesApplication}
+use Rattle.rt_top.specs.Defined.{Inputs}
+use Rattle.rt_topx.specs.declared.command.Command.{Command}
+use Rattle.rt_topx.specs.declared.command.Command.TheVariants as command
+use Rattle.rt_topx.specs.Refusal.{RefusesBoard, RefusesScript, RefusesTrace}
+
+pub data Kind : Type 0 where
+  Application : Kind
+  -- of the first application
+  Board : Kind
+  -- these are over the names of the application and the inputs of the board
+  Script : Kind
+  Trace : Kind
+
+-- the kinds of the texts that a command reads
+abbrev pub kinds_of : Command → List Kind
+kinds_of command.Run = Application ∷ Board ∷ Script ∷ []
+kinds_of command.Audit = Application ∷ Board ∷ Trace ∷ []
+
+-- the most bytes of a text of the kind
+abbrev pub most_bytes : Kind → ℕ
+most_bytes Application = TEXT_BYTES
+most_bytes Board = SCRIPT_BYTES
+most_bytes Script = SCRIPT_BYTES
+most_bytes Trace = TRACE_BYTES
+
+-- the text is of the kind, where these are the texts that the command reads
+abbrev pub IsOfKind : Kind → Inputs → List ℕ → Type 0
+IsOfKind Application t text = (app : App) × IsApplication text app
+IsOfKind Board t text = (app : App) × IsApplication t.first app × (board : boards.Board) × IsBoardOf app text board
+IsOfKind Script t text =
+    (app : App) × IsApplication t.first app × (board : boards.Board) × IsBoardOf app t.second board
+    × (script : List GivenLine) × IsGivenText (names_of app) app board text script
+IsOfKind Trace t text =
+    (app : App) × IsApplication t.first app × (board : boards.Board) × IsBoardOf app t.second board
+    × (told : Told) × IsInputsText (names_of app) app board text told
+
+-- the text is none of the kind, and is refused with this status and this line
+abbrev pub IsRefusedBy : Kind → Inputs → List ℕ → Status → List ℕ → Type 0
+IsRefusedBy Application t text ended line = (ended ≡ status.App) × RefusesApplication text line
+IsRefusedBy Board t text ended line = (ended ≡ status.Text) × RefusesBoard t.first text line
+IsRefusedBy Script t text ended line = (ended ≡ status.Text) × RefusesScript t.first t.second text line
+IsRefusedBy Trace t text ended line = (ended ≡ status.Text) × RefusesTrace t.first t.second text line
+
+-- one of the texts is refused, each for its kind, and those before it are of theirs
+abbrev pub IsRefusedAmong : List Kind → Inputs → List (List ℕ) → Status → List ℕ → Type 0
+IsRefusedAmong [] t texts ended line = ⊥
+IsRefusedAmong (kind ∷ kinds) t [] ended line = ⊥
+IsRefusedAmong (kind ∷ kinds) t (text ∷ texts) ended line =
+    IsRefusedBy kind t text ended line ⊎ (IsOfKind kind t text × IsRefusedAmong kinds t texts ended line)

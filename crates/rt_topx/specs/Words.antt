@@ -1,0 +1,17 @@
+-- The words after the program's name, by position, and the command that they name.
+use Rattle.std.specs.Prelude.{◌≡◌, ℕ, List, [], ◌∷◌, codes}
+use Rattle.rt_topx.specs.declared.command.Command.{Command}
+use Rattle.rt_topx.specs.declared.command.Command.TheVariants as command
+
+-- the words name this command
+abbrev pub Names : List (List ℕ) → Command → Type 0
+Names words command.Run = (app board script : List ℕ) × (words ≡ codes "run" ∷ app ∷ board ∷ script ∷ [])
+Names words command.Audit = (app board trace : List ℕ) × (words ≡ codes "audit" ∷ app ∷ board ∷ trace ∷ [])
+
+-- the words name a command
+abbrev pub IsCommand : List (List ℕ) → Type 0
+IsCommand words = (c : Command) × Names words c
+
+-- the line for all other words
+abbrev pub usage_line : List ℕ
+usage_line = codes "usage: rticx run APP BOARD SCRIPT | audit APP BOARD TRACE\n"

@@ -1,0 +1,26 @@
+// The commands, and the words that name them.
+
+ghost use Rattle.std.specs.Prelude.{IfSome, IfNone};
+ghost use Rattle.rt_top.specs.Words.{texts};
+ghost use Rattle.rt_topx.specs.Words.{Names, IsCommand};
+
+/// A command.
+#[derive(Clone, Copy, PartialEq, Eq)]
+pub enum Command {
+    /// `run APP BOARD SCRIPT`
+    Run,
+    /// `audit APP BOARD TRACE`
+    Audit,
+}
+
+/// The command that the words name, None where they name none.
+pub(crate) fn command_of(words: &[&str]) -> Option<Command>
+    ensures some { IfSome result (λ c. Names (texts words.now) c) }
+    ensures none { IfNone result (¬ IsCommand (texts words.now)) }
+{
+    match words {
+        ["run", _, _, _] => Some(Command::Run),
+        ["audit", _, _, _] => Some(Command::Audit),
+        _ => None,
+    }
+}

@@ -1,0 +1,98 @@
+// From a command to what is done, text by text.
+
+ghost use Rattle.std.specs.Prelude.{ℕ, List, drop};
+ghost use Rattle.rt_app.specs.Accepted.{IsAccepted};
+ghost use Rattle.rt_app.specs.View.{app_of};
+ghost use Rattle.rt_build.specs.Accepted.{IsApplication};
+ghost use Rattle.rt_board.specs.Board.{AreInputs};
+ghost use Rattle.rt_board.specs.Reading.{IsBoardOf};
+ghost use Rattle.rt_top.specs.Defined.{inputs};
+ghost use Rattle.rt_top.specs.Inside.Using.{HasUse, No, Then};
+ghost use Rattle.rt_top.specs.Reads.{given_by};
+ghost use Rattle.rt_topx.specs.Inside.Decides.{Conducts};
+ghost use Rattle.rt_topx.specs.Kinds.{kinds_of};
+
+use crate::audit::audit;
+use crate::boards::read_board_of;
+use crate::command::Command;
+use crate::run::run;
+use rt_app::App;
+use rt_board::Board;
+use rt_ids::Status;
+use rt_outside::{Sink, Source};
+use rt_top::reading::read_accepted;
+use rt_top::reply::finish;
+use std::alloc::Global;
+
+/// Does what the command is, and answers the status that the program ends with. Each command begins with an
+/// application.
+pub(crate) fn decide<A: Source, B: Source, C: Source, K: Sink>(
+    alloc: Global,
+    command: Command,
+    first: &mut A,
+    second: &mut B,
+    third: &mut C,
+    out: &mut K,
+) -> Status
+    ensures { let a = given_by A.past first.old first.new in
+        let b = given_by B.past second.old second.new in
+        let c = given_by C.past third.old third.new in
+        Conducts command (kinds_of command) (inputs a b c)
+        (Then a (HasUse A.past A.left A.faults first.old first.new)
+        (Then b (HasUse B.past B.left B.faults second.old second.new)
+        (Then c (HasUse C.past C.left C.faults third.old third.new) No)))
+        (K.taken out.old) (K.taken out.new) (K.faults out.old) (K.faults out.new) result }
+{
+    match read_accepted(alloc, first) {
+        Ok(app) => decide_of(alloc, command, &app, second, third, out),
+        Err(reply) => finish(out, &reply),
+    }
+}
+
+/// Does what a command is of its application. Each command goes on with a board.
+fn decide_of<B: Source, C: Source, K: Sink>(
+    alloc: Global,
+    command: Command,
+    app: &App,
+    second: &mut B,
+    third: &mut C,
+    out: &mut K,
+) -> Status
+    requires { IsAccepted (app_of app.now) }
+    ensures { (first : List ℕ) → IsApplication first (app_of app.now) →
+        let b = given_by B.past second.old second.new in
+        let c = given_by C.past third.old third.new in
+        Conducts command (drop 1 (kinds_of command)) (inputs first b c)
+        (Then b (HasUse B.past B.left B.faults second.old second.new)
+        (Then c (HasUse C.past C.left C.faults third.old third.new) No))
+        (K.taken out.old) (K.taken out.new) (K.faults out.old) (K.faults out.new) result }
+{
+    match read_board_of(alloc, app, second) {
+        Ok(board) => decide_beside(alloc, command, app, &board, third, out),
+        Err(reply) => finish(out, &reply),
+    }
+}
+
+/// Does what a command is of its application and its board.
+fn decide_beside<C: Source, K: Sink>(
+    alloc: Global,
+    command: Command,
+    app: &App,
+    board: &Board,
+    third: &mut C,
+    out: &mut K,
+) -> Status
+    requires accepted { IsAccepted (app_of app.now) }
+    requires inputs { AreInputs (app_of app.now) board.now.inputs }
+    ensures { (first second : List ℕ) → IsApplication first (app_of app.now) →
+        IsBoardOf (app_of app.now) second board.now →
+        let c = given_by C.past third.old third.new in
+        Conducts command (drop 2 (kinds_of command)) (inputs first second c)
+        (Then c (HasUse C.past C.left C.faults third.old third.new) No)
+        (K.taken out.old) (K.taken out.new) (K.faults out.old) (K.faults out.new) result }
+{
+    match command {
+        Command::Run => run(alloc, app, board, third, out),
+        Command::Audit => finish(out, &audit(alloc, app, board, third)),
+    }
+}

@@ -1,0 +1,19 @@
+// The top call of the second program: from its words, sources and sink to its status.
+// Promises: bytes and status of each command, of the bytes that its reads gave.
+// Stands on: rt_lemmas, rt_ids, rt_outside, rt_lines, rt_app, rt_build, rt_code, rt_listing, rt_trace, rt_core,
+// rt_script, rt_sim, rt_board, rt_given, rt_inputs, rt_inputs_audit, rt_baker_moves, rt_baker, rt_top.
+// Read next: src/top.rt, then specs/Defined.antt and specs/Outputs.antt.
+#![tactic(auto)]
+
+mod audit;
+mod boards;
+pub mod command;
+mod decide;
+pub mod laws;
+mod run;
+mod start;
+pub mod top;
+
+pub use command::Command;
+pub use laws::{one_of_each_kind, one_status_is_due};
+pub use top::rticx;

@@ -1,0 +1,112 @@
+// The top call, with the promise of the program.
+
+ghost use Rattle.std.specs.Prelude.{◌≡◌, ◌≤◌, ◌⊎◌, [], length};
+ghost use Rattle.rt_outside.specs.Faults.{Rose};
+ghost use Rattle.rt_outside.specs.Bytes.{Took};
+ghost use Rattle.rt_top.specs.Words.{texts};
+ghost use Rattle.rt_top.specs.Defined.{inputs, IsAnswer};
+ghost use Rattle.rt_top.specs.Ends.{Wrote, IsKept};
+ghost use Rattle.rt_top.specs.Reads.{given_by, IsReadWithin};
+ghost use Rattle.rt_topx.specs.declared.command.Command.{Command};
+ghost use Rattle.rt_topx.specs.Words.{Names, IsCommand, usage_line};
+ghost use Rattle.rt_topx.specs.Kinds.{Kind, kinds_of, most_bytes};
+ghost use Rattle.rt_topx.specs.Defined.{IsDue, Skips, ComesTo, WroteAll, WrotePart};
+
+use crate::command::command_of;
+use crate::decide::decide;
+use rt_ids::Status;
+use rt_outside::{Sink, Source};
+use rt_top::reply::answer;
+use std::alloc::Global;
+
+/// The line for words that are no command.
+const USAGE: &[u8] = b"usage: rticx run APP BOARD SCRIPT | audit APP BOARD TRACE\n";
+
+/// Runs the command that the words name, and answers its status. `first` is the source of the application, `second`
+/// that of the board, `third` that of the script or the trace. All that is written goes to `out`. What is written is
+/// promised of the texts that the sources have given in this call, whatever they are: files, or memory. The statuses
+/// are those of `Status`, whose numbers are the exit statuses.
+pub fn rticx<A: Source, B: Source, C: Source, K: Sink>(
+    alloc: Global,
+    words: &[&str],
+    first: &mut A,
+    second: &mut B,
+    third: &mut C,
+    out: &mut K,
+) -> Status
+    // With an answer all that is defined for the texts that were given was written, and nothing else. What is defined
+    // is in specs/Outputs.antt: of an image that it is good beside the devices of the board, so for every list of
+    // events and words a run of Baker's machine beside devices.
+    ensures answered { (c : Command) → Names (texts words.now) c → IsAnswer result →
+        let t = inputs (given_by A.past first.old first.new) (given_by B.past second.old second.new)
+        (given_by C.past third.old third.new) in
+        WroteAll c t result (K.taken out.old) (K.taken out.new) }
+
+    // Where nothing failed, the status is the one that is due, or memory was wanted.
+    ensures complete { (c : Command) (due : Status) → Names (texts words.now) c →
+        let t = inputs (given_by A.past first.old first.new) (given_by B.past second.old second.new)
+        (given_by C.past third.old third.new) in
+        IsDue c t due →
+        ¬ Rose (A.faults first.old) (A.faults first.new) → ¬ Rose (B.faults second.old) (B.faults second.new) →
+        ¬ Rose (C.faults third.old) (C.faults third.new) → ¬ Rose (K.faults out.old) (K.faults out.new) →
+        (result ≡ due) ⊎ (result ≡ Status.Memory) }
+
+    // Words that are no command give the usage line.
+    ensures usage { ¬ IsCommand (texts words.now) →
+        Wrote (K.taken out.old) (K.taken out.new) (K.faults out.old) (K.faults out.new)
+        Status.Usage result usage_line }
+    ensures no_usage { result ≡ Status.Usage → ¬ IsCommand (texts words.now) }
+
+    // A source that the command does not come to gives nothing and keeps what it has, whatever the status.
+    ensures first_unread { let t = inputs (given_by A.past first.old first.new) (given_by B.past second.old second.new)
+        (given_by C.past third.old third.new) in
+        Skips 0 (texts words.now) t → IsKept A.past A.left A.faults first.old first.new }
+    ensures second_unread { let t = inputs (given_by A.past first.old first.new) (given_by B.past second.old second.new)
+        (given_by C.past third.old third.new) in
+        Skips 1 (texts words.now) t → IsKept B.past B.left B.faults second.old second.new }
+    ensures third_unread { let t = inputs (given_by A.past first.old first.new) (given_by B.past second.old second.new)
+        (given_by C.past third.old third.new) in
+        Skips 2 (texts words.now) t → IsKept C.past C.left C.faults third.old third.new }
+
+    // With an answer each source that the command comes to was read to its end, or up to one byte more than its text
+    // may have.
+    ensures first_read { (c : Command) (kind : Kind) → Names (texts words.now) c →
+        let t = inputs (given_by A.past first.old first.new) (given_by B.past second.old second.new)
+        (given_by C.past third.old third.new) in
+        ComesTo 0 c t kind → IsAnswer result → IsReadWithin (most_bytes kind) A.past A.left first.old first.new }
+    ensures second_read { (c : Command) (kind : Kind) → Names (texts words.now) c →
+        let t = inputs (given_by A.past first.old first.new) (given_by B.past second.old second.new)
+        (given_by C.past third.old third.new) in
+        ComesTo 1 c t kind → IsAnswer result → IsReadWithin (most_bytes kind) B.past B.left second.old second.new }
+    ensures third_read { (c : Command) (kind : Kind) → Names (texts words.now) c →
+        let t = inputs (given_by A.past first.old first.new) (given_by B.past second.old second.new)
+        (given_by C.past third.old third.new) in
+        ComesTo 2 c t kind → IsAnswer result → IsReadWithin (most_bytes kind) C.past C.left third.old third.new }
+
+    // A source that the command reads failed, and then no source after it was read and nothing was written.
+    ensures read { result ≡ Status.Read → (c : Command) × Names (texts words.now) c
+        × (((1 ≤ length (kinds_of c)) × Rose (A.faults first.old) (A.faults first.new)
+        × IsKept B.past B.left B.faults second.old second.new × IsKept C.past C.left C.faults third.old third.new)
+        ⊎ ((2 ≤ length (kinds_of c)) × Rose (B.faults second.old) (B.faults second.new)
+        × IsKept C.past C.left C.faults third.old third.new)
+        ⊎ ((3 ≤ length (kinds_of c)) × Rose (C.faults third.old) (C.faults third.new))) }
+    ensures silent { (result ≡ Status.Read) ⊎ (result ≡ Status.Memory) → Took (K.taken out.old) (K.taken out.new) [] }
+
+    // A fault is told: where one came, the status says so.
+    ensures first_heard { (A.faults first.new ≡ A.faults first.old) ⊎ (result ≡ Status.Read) }
+    ensures second_heard { (B.faults second.new ≡ B.faults second.old) ⊎ (result ≡ Status.Read) }
+    ensures third_heard { (C.faults third.new ≡ C.faults third.old) ⊎ (result ≡ Status.Read) }
+    ensures sink_heard { (K.faults out.new ≡ K.faults out.old) ⊎ (result ≡ Status.Write) }
+
+    // The sink failed, having taken a beginning of what is defined.
+    ensures write { result ≡ Status.Write → Rose (K.faults out.old) (K.faults out.new) }
+    ensures part { (c : Command) → Names (texts words.now) c → result ≡ Status.Write →
+        let t = inputs (given_by A.past first.old first.new) (given_by B.past second.old second.new)
+        (given_by C.past third.old third.new) in
+        WrotePart c t (K.taken out.old) (K.taken out.new) }
+{
+    match command_of(words) {
+        Some(command) => decide(alloc, command, first, second, third, out),
+        None => answer(out, USAGE, Status::Usage),
+    }
+}
