@@ -92,6 +92,8 @@ def compare(name, width, is_dark, found, console):
     compare_depths(view, items, found["depths"])
     marks = sum(words[0] in ("pend", "emit", "full", "cancel", "move") for _, words in items)
     expect(f"{view}: {marks} marks, not {found['counts']['marks']}", found["counts"]["marks"] == marks)
+    inputs = sum(words[0] == "input" for _, words in items)
+    expect(f"{view}: {inputs} inputs, not {found['counts']['inputs']}", found["counts"]["inputs"] == inputs)
     starts = sum(words[0] in ("start", "fire") for _, words in items)
     expect(f"{view}: arrows {found['counts']['arrows']}", found["counts"]["arrows"] == starts)
     expect(f"{view}: what has no effect: {found['hands']}", len(found["hands"]) == 13 and all(found["hands"].values()))

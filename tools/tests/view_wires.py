@@ -13,7 +13,7 @@ import tempfile
 
 TOOLS = os.path.dirname(os.path.dirname(os.path.abspath(__file__)))
 DATA = os.path.join(TOOLS, "tests", "view")
-RUNS = ("two", "pump", "four", "serial", "burst", "station", "names")
+RUNS = ("two", "pump", "four", "serial", "burst", "station", "names", "uart")
 THREAD = ("init", "idle", "the_thread")
 VARIABLE = re.compile(r"\$var (\w+) (\d+) (\S+) (\S+) \$end")
 sys.dont_write_bytecode = True

@@ -71,6 +71,13 @@ def counters_of(history):
         yield event("C", "stack", 0, step, args={"bytes": depth})
 
 
+def values_of(history):
+    """The values of inputs, a counter each."""
+    for name, track in history.inputs.items():
+        for step, value in track.changes():
+            yield event("C", name, track.row.number, step, args={"value": value})
+
+
 def all_events(history):
     """All events of a run."""
     shown = history.shown()
@@ -80,6 +87,7 @@ def all_events(history):
     yield from arrows_of(history)
     yield from marks_of(history, shown)
     yield from counters_of(history)
+    yield from values_of(history)
 
 
 def trace_events(history):

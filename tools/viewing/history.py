@@ -4,7 +4,7 @@ from array import array
 from .application import DISPATCHER, HARDWARE, SOFTWARE, THREAD, TIMER, WORD, Task
 from .messages import Messages
 from .reading import STEPS, bad_line, words_of
-from .rows import ARRIVAL, EMIT, MERGED, TRAP, Job, Lock, Row
+from .rows import ARRIVAL, EMIT, MERGED, TRAP, Job, Lock, Row, Track
 from .told import NOT_A_RUN, Told
 
 
@@ -13,7 +13,7 @@ class History(Messages):
 
     Flat lists: `marks` has step, row, kind and line of each mark; `arrows` has row, step, row, step, line; `stack` has
     step and bytes in use from there on; `ticks` and `alarms` have steps. `item_rows` has the row of each item, and
-    `never_left` the spans of sections that are open at the end.
+    `never_left` the spans of sections that are open at the end; `inputs` has what devices wrote, by names.
     """
 
     def __init__(self, output, application):
@@ -23,7 +23,7 @@ class History(Messages):
         priorities = {task.priority or 0 for task in application.tasks}
         self.ranks = {priority: rank for rank, priority in enumerate(sorted(priorities))}
         self.spent = [0] * len(priorities)
-        self.rows, self.threads, self.by_interrupt, self.by_task, self.locks = [], [], {}, {}, {}
+        self.rows, self.threads, self.by_interrupt, self.by_task, self.locks, self.inputs = [], [], {}, {}, {}, {}
         self.marks, self.arrows, self.ticks, self.alarms = [], [], [], []
         self.item_rows = array("H")
         self.never_left = set()
@@ -104,13 +104,15 @@ class History(Messages):
                 step = -1
             if not self.done <= step < limit or not text.isdigit() or text[0] == "0" and text != "0":
                 self.item = line - first
-                self.wrong_step(text, step, line)
+                self.other_step(entry[0], text, step, line)
             add(entry[0](step, entry[1], line))
         self.item = last - first
         self.close()
 
-    def wrong_step(self, text, step, line):
-        """Tells of a number of steps that is of no form, or is not where a run is."""
+    def other_step(self, call, text, step, line):
+        """Tells of a number of steps that is of no form, or is not where a run is; an input has that of its take."""
+        if call == self.see_input and step == self.done - 1 and text == str(step):
+            return
         if step < 0 or step >= STEPS or text != str(step):
             bad_line(self.output.name, line, self.output.lines[line])
         self.misfit(f"{self.done} core steps have been taken before it")
@@ -131,6 +133,8 @@ class History(Messages):
             subject = self.row_of_task(name)
         elif kind in ("arm", "cancel", "move"):
             subject = (self.row_of_task(name), *(int(word) for word in words[2:]))
+        elif kind == "input":
+            subject = (name, int(words[2]))
         elif kind == "end":
             subject = self.row_of_task(name) if name not in ("init", "idle") else name
         else:
@@ -315,6 +319,17 @@ class History(Messages):
         number = self.item_row(self.jobs[-1])
         self.marks += (step, number, EMIT, line)
         return number
+
+    def see_input(self, step, subject, line):
+        """The handler that was entered last finds a value that a device wrote."""
+        name, value = subject
+        job = self.jobs[-1]
+        track = self.inputs.setdefault(name, Track(name, job.row))
+        if len(self.jobs) == 1 or not job.begin == step == self.done - 1 or track.row is not job.row:
+            self.item = line - self.output.first
+            self.misfit("an input comes behind the take of the task that lists it, with the step of the take")
+        track.found += (step, value)
+        return self.item_row(job)
 
     def see_trap(self, step, kind, line):
         """The core traps, and stops."""

@@ -48,6 +48,12 @@ def lock_data(history):
     return [{"name": name, "ceiling": ceilings.get(name)} for name in history.locks]
 
 
+def input_data(history):
+    """The inputs, with the number of the row that finds their values."""
+    return [{"name": track.name, "row": track.row.number, "found": numbers(track.found)}
+            for track in history.inputs.values()]
+
+
 def page_data(history):
     """All that the page is told beside the text."""
     report, output = history.application.report, history.output
@@ -61,6 +67,7 @@ def page_data(history):
         "locks": lock_data(history), "marks": numbers(history.marks), "arrows": numbers(history.arrows),
         "stack": numbers(history.stack), "ticks": numbers(history.ticks), "alarms": numbers(history.alarms),
         "order": [row.number for row in history.shown()], "head": head(history),
+        "inputs": input_data(history),
         "itemRows": base64.b64encode(rows.tobytes()).decode("ascii"),
     }
 

@@ -11,7 +11,7 @@ WHAT = re.compile(
     rf"tick|alarm|set|(?:pend|ret|post|ok|full|ready|free|fire|end) {NAME}"
     rf"|take {NAME} {NUMBER}|enter (?:{NAME}|{SECTION})|leave (?:{NAME} {NUMBER}|{SECTION})"
     rf"|(?:emit|clock|trap) {NUMBER}|start {NAME}(?: {NUMBER}){{0,4}}"
-    rf"|arm {NAME} {NUMBER}|cancel {NAME} {NUMBER}|move {NAME} {NUMBER} {NUMBER}"
+    rf"|arm {NAME} {NUMBER}|cancel {NAME} {NUMBER}|move {NAME} {NUMBER} {NUMBER}|input {NAME} {NUMBER}"
 )
 TOTAL = re.compile(rf"total ({NUMBER})")
 UNREAD = re.compile(r"[A-Za-z0-9_.; -]*")
@@ -27,6 +27,7 @@ IN_PLACE = (
     (re.compile(r"script:\d+ \d "), "the script was refused", BAD_LINE),
     (re.compile(r"trace:\d+ \d "), "the trace was refused", BAD_LINE),
     (re.compile(r"limits:\d+ \d "), "the limits were refused", BAD_LINE),
+    (re.compile(r"board:\d+ \d "), "the board was refused", BAD_LINE),
     (re.compile(r"no \d+$"), "`audit` found the trace not right", NOT_A_RUN),
     (re.compile(r"no$"), "the application is not of the form of the command", NOT_A_RUN),
     (re.compile(r"runs \d+$"), "an output of `soak` has no items", BAD_LINE),

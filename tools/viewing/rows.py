@@ -131,6 +131,23 @@ class Lock:
             self.elapsed = elapsed
 
 
+class Track:
+    """An input of a row's task: the values that its handler found, as a flat list: step, value, step, value, .."""
+
+    def __init__(self, name, row):
+        self.name = name
+        self.row = row
+        self.found = []
+
+    def changes(self):
+        """The steps and values at which the value is another one than at the take before; the first one is."""
+        before = None
+        for step, value in zip(self.found[::2], self.found[1::2]):
+            if value != before:
+                yield step, value
+            before = value
+
+
 class Message:
     """A message on its way: the row and the step from which its arrow comes, when it was ready, and its handle."""
 

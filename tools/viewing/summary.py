@@ -15,6 +15,8 @@ def tables(history):
         found.append(messages(history))
     if history.locks:
         found.append(locks(history))
+    if history.inputs:
+        found.append(inputs(history))
     return found
 
 
@@ -81,6 +83,17 @@ def locks(history):
         lock = history.locks[name]
         held = (lock.held, lock.elapsed) if lock.times else (None, None)
         rows.append((name, ceilings.get(name), lock.times, *held))
+    return heads, rows
+
+
+def inputs(history):
+    """A row for each input: how often a handler found a value there, how often another one, and which."""
+    heads = ("input", "task", "found", "changes", "least", "greatest", "last")
+    rows = []
+    for name, track in history.inputs.items():
+        values = track.found[1::2]
+        changes = sum(1 for _ in track.changes()) - 1
+        rows.append((name, track.row.task.name, len(values), changes, min(values), max(values), values[-1]))
     return heads, rows
 
 

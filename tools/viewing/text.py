@@ -5,6 +5,7 @@ from .application import THREAD
 from .rows import ARRIVAL, MERGED
 
 SILENT, PENDING, PREEMPTED, RUNS, ENTERS, LEAVES, LOST = " -.=[]!"
+FOUND = "|"
 TENTHS = 10
 LEAST_COLUMNS = 20
 
@@ -81,6 +82,30 @@ class Strip:
             self.sign += 1
 
 
+class Values:
+    """The values of an input: each stands behind a stroke at the take that found it, where there is room for it."""
+
+    def __init__(self, track, steps):
+        self.found = track.found
+        self.steps = steps
+
+    def columns(self, begin, count):
+        """The marks of so many columns from a step on."""
+        marks = [SILENT] * count
+        end = begin + count * self.steps
+        for at in range(2 * bisect_left(self.found[::2], begin), len(self.found), 2):
+            step, value = self.found[at:at + 2]
+            if step >= end:
+                break
+            column = (step - begin) // self.steps
+            behind = self.found[at + 2] if at + 2 < len(self.found) else end
+            room = min((behind - begin) // self.steps, count) - column
+            words = FOUND + str(value)
+            words = words if len(words) <= room else FOUND
+            marks[column:column + len(words)] = words
+        return "".join(marks)
+
+
 def merged(one, other):
     """Two flat lists of spans that do not overlap, as one in order."""
     pairs = sorted(list(zip(one[::2], one[1::2])) + list(zip(other[::2], other[1::2])))
@@ -118,26 +143,27 @@ def ruler(begin, count, steps, width):
     return " " * width + "".join(parts).rstrip()
 
 
-def labels(shown, columns):
-    """The names of the rows with their interrupts; where these take over half of the columns, they are cut."""
+def labels(shown, inputs, columns):
+    """The names of rows with their interrupts, and of inputs; where they take over half of the columns they are cut."""
     found = [row.label() for row in shown]
     if max(map(len, found)) > columns // 2:
         found = [row.task.name[:columns // 2] for row in shown]
-    return found
+    return found + [name[:columns // 2] for name in inputs]
 
 
 def draw(history, steps, columns):
     """The picture in pieces of one block of steps.
 
-    A row with nothing in a piece is left out, and so are the pieces in which the thread alone runs.
+    A row with nothing in a piece is left out, and so are the pieces in which the thread alone runs. Inputs come last.
     """
     shown = history.shown()
     alone = next(row.task.name for row in shown if row.task.kind == THREAD)
-    names = labels(shown, columns)
+    names = labels(shown, history.inputs, columns)
     width = max(map(len, names)) + 1
     count = max(columns - width, LEAST_COLUMNS) // 10 * 10
     lost = lost_requests(history)
     strips = [Strip(history, row, steps, lost[row.number]) for row in shown]
+    strips += [Values(track, steps) for track in history.inputs.values()]
     before = 0
     for block in blocks(history, count * steps):
         begin = block * count * steps

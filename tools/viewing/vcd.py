@@ -4,8 +4,8 @@ A core step is 1 us. Items of one step number (requests, ticks, and at most one 
 other within it, one unit of the time scale apart, so that each has a time of its own and none is lost. Programs that
 know no string variables pass over that one: what they read in its place begins like no change of another.
 
-Some programs stop at a number of more than one bit. For these there are wires alone, and a core step is the unit: such
-a program keeps a sample for each unit.
+Some programs stop at a number of more than one bit. For these there are wires alone, one for each bit of an input that
+is ever 1, and a core step is the unit: such a program keeps a sample for each unit.
 """
 import heapq
 
@@ -131,22 +131,45 @@ def add_sections(signals, history, unit):
         signals.close()
 
 
+def add_inputs(signals, history):
+    """The inputs, each a vector of wires; before the first take they are 0. The answer is their short names."""
+    signals.scope("inputs")
+    shorts = {name: signals.add("wire", 32, name, "b0 ") for name in history.inputs}
+    signals.close()
+    return shorts
+
+
+def add_bits(signals, history):
+    """The bits of inputs, each a wire, up to the last one that is ever 1."""
+    signals.scope("inputs")
+    for name, track in history.inputs.items():
+        ends = track.found[2::2] + [history.end]
+        for bit in range(max(max(track.found[1::2]).bit_length(), 1)):
+            spans = [step for at, value in enumerate(track.found[1::2]) if value >> bit & 1
+                     for step in (track.found[2 * at], ends[at])]
+            signals.wire(f"{name}_{bit}", joined(spans), 1)
+    signals.close()
+
+
 def add_items(signals, history, moments):
-    """The items as words joined by colons, the emitted values, and the time in ticks."""
+    """The items as words joined by colons, the emitted values, inputs, and the time in ticks."""
+    inputs = add_inputs(signals, history)
     emit = signals.add("integer", 32, "emit", "b0 ")
     time = signals.add("integer", 32, "time", "b0 ")
     item = signals.add("string", 1, "item", "s- ", "item")
-    signals.streams.append(changes_of_items(history, moments, emit, time, item))
+    signals.streams.append(changes_of_items(history, moments, emit, time, item, inputs))
 
 
-def changes_of_items(history, moments, emit, time, item):
-    """The changes that items make, by the short names of three variables."""
+def changes_of_items(history, moments, emit, time, item, inputs):
+    """The changes that items make, by the short names of three variables and of the inputs."""
     ticks = 0
     for moment, line in zip(moments, history.output.lines[history.output.first:history.output.last]):
         words = line.split(" ")[1:]
         yield moment, "s" + ":".join(words) + " " + item
         if words[0] == "emit":
             yield moment, f"b{int(words[1]):b} {emit}"
+        elif words[0] == "input":
+            yield moment, f"b{int(words[2]):b} {inputs[words[1]]}"
         elif words[0] == "tick":
             ticks += 1
             yield moment, f"b{ticks:b} {time}"
@@ -162,6 +185,7 @@ def wires(history):
     for name, kind in HAPPENS:
         steps = sorted({min(step, history.end - 1) for step, each in zip(marks[::4], marks[2::4]) if each == kind})
         signals.wire(name, joined([step for first in steps for step in (first, first + 1)]), 1)
+    add_bits(signals, history)
     signals.close()
     yield from written(signals, STEPS_ALONE, history.end)
 

@@ -1,4 +1,4 @@
-// The picture: the overview, the ruler with ticks and alarms, rows, arrows, and the stack against its bound.
+// The picture: the overview, the ruler with ticks and alarms, rows, arrows, inputs, and the stack against its bound.
 
 const MANY_ARROWS = 700;
 const RULER = 22;
@@ -6,6 +6,7 @@ const CLOCK = 17;
 const STACK = 84;
 const STACK_ROOM = 1.24;
 const OVERVIEW = 26;
+const INPUT = 18;
 const layout = placeRows();
 const arrowReach = reachOf();
 let areArrowsShown = true;
@@ -165,6 +166,31 @@ function drawChosen(context, height) {
   }
 }
 
+/** The values of inputs: a stroke at each take that finds one, and the value where there is room before the next. */
+function drawInputs() {
+  const context = wiped(element("inputs"), inputs.length * INPUT);
+  inputs.forEach(({ found }, number) => {
+    const top = number * INPUT;
+    context.fillStyle = colours.line.text;
+    context.fillRect(0, top, sight.width, 1);
+    const last = firstAt(found, 2, 0, sight.begin + sight.steps);
+    const first = Math.max(firstAt(found, 2, 0, sight.begin) - 1, 0);
+    if (last - first > MANY_MARKS) return;
+    for (let at = first; at < last; at += 1) {
+      const place = placeOf(found[at * 2]);
+      const next = Math.min(at * 2 + 2 < found.length ? placeOf(found[at * 2 + 2]) : sight.width, sight.width);
+      const left = Math.max(place, 0) + 4;
+      const words = String(found[at * 2 + 1]);
+      context.fillStyle = colours.emit.text;
+      if (place >= 0) context.fillRect(wholePixel(place), top + 3, 1.4, INPUT - 5);
+      context.fillStyle = colours.ink.text;
+      if (next - left > context.measureText(words).width) context.fillText(words, left, top + INPUT / 2 + 0.5);
+      drawn.inputs += 1;
+    }
+  });
+  drawChosen(context, inputs.length * INPUT);
+}
+
 const BLOCK = 32;
 const stackBlocks = blocksOf();
 
@@ -253,6 +279,7 @@ function draw() {
   const begun = performance.now();
   drawRuler();
   drawRows();
+  drawInputs();
   drawStack();
   drawOverview();
   drawTime = performance.now() - begun;

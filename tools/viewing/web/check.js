@@ -92,9 +92,10 @@ function countDrawn() {
     }
   }
   lookWhole();
-  drawn.arrows = drawn.marks = 0;
+  drawn.arrows = drawn.marks = drawn.inputs = 0;
   drawRows();
-  return { jobs, arrows: drawn.arrows, marks: drawn.marks };
+  drawInputs();
+  return { jobs, arrows: drawn.arrows, marks: drawn.marks, inputs: drawn.inputs };
 }
 
 /** Ten items, spread over the run: a click where one stands, and the line that is shown then. */

@@ -66,6 +66,7 @@ const arrows = numbersOf(data.arrows);
 const stackChanges = numbersOf(data.stack);
 const ticks = numbersOf(data.ticks);
 const alarms = numbersOf(data.alarms);
+const inputs = data.inputs.map((input) => ({ ...input, found: numbersOf(input.found) }));
 const runEnd = Math.max(data.end, 1);
 
 /** The text of a line, counted from 0. */

@@ -76,7 +76,10 @@ function writeNames() {
     label(above + bar - 9, BAR + 18, row.name, more.filter(Boolean).join(", "));
   }
   const bound = data.bound !== null ? " of " + data.bound : "";
-  label(above + layout.height, STACK, "stack", data.deepest + bound + " bytes");
+  inputs.forEach(({ name, row }, number) => {
+    label(above + layout.height + number * INPUT, INPUT, name, "input of " + rows[row].name);
+  });
+  label(above + layout.height + inputs.length * INPUT, STACK, "stack", data.deepest + bound + " bytes");
 }
 
 /** An entry of the legend: a patch of a colour, or a sign in it, and what it means. */

@@ -8,7 +8,7 @@ const GAP = 7;
 const MANY_MARKS = 300;
 const MANY_JOBS = 400;
 const MERGED = 6;
-const drawn = { jobs: 0, marks: 0, arrows: 0, sections: 0 };
+const drawn = { jobs: 0, marks: 0, arrows: 0, sections: 0, inputs: 0 };
 const places = new Map();
 
 /** Where each row stands: its top, its bar's top, and the strips of its lanes. */

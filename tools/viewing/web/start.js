@@ -4,7 +4,7 @@
 function measure() {
   sight.width = Math.max(element("pictures").clientWidth, 50);
   sight.ratio = Math.min(window.devicePixelRatio || 1, 3);
-  for (const name of ["overview", "ruler", "rows", "stack"]) element(name).style.width = sight.width + "px";
+  for (const name of ["overview", "ruler", "rows", "inputs", "stack"]) element(name).style.width = sight.width + "px";
   draw();
   writeNames();
 }
@@ -147,7 +147,7 @@ writeLegend();
 rows.forEach(layersOf);
 lookWhole();
 measure();
-for (const name of ["rows", "ruler", "stack"]) followPointer(element(name));
+for (const name of ["rows", "ruler", "inputs", "stack"]) followPointer(element(name));
 followOverview();
 followKeys();
 followControls();
