@@ -13,7 +13,9 @@ PARTED = r"(?:[^\w\s]{1,3})"
 STOPS = re.compile(r"stop|cancel|abort|kill|withdraw|clear", re.IGNORECASE)
 LATER = re.compile(r"timer|timeout|later|after|delay|schedule", re.IGNORECASE)
 STATEMENTS = ("let", "if", "for", "lock", "emit", "pend", "spawn", "spawn_after", "cancel", "reschedule_after")
-OF_APP, NEAR = ("bits", "dispatchers", "fpu"), 0.75
+# the words after which a name is declared
+NAMING = ("app", "task", "let", "for", "with")
+OF_APP, NEAR, ALIKE = ("bits", "dispatchers", "fpu"), 0.75, 0.6
 
 
 def piece_of(syntax):
@@ -77,7 +79,7 @@ def handed(syntax, found):
         return f"`{first[0]}` is a task: `cancel {first[0]}(h);` withdraws its message with the handle h"
     if interrupt:
         return f"`{first[0]}` is a hardware task: `pend {interrupt};` makes it run"
-    if "resched" in name.text.lower():
+    if re.search("resched|restart|rearm|move|extend|postpone", name.text.lower()):
         return f"`{first[0]}` is a task: `reschedule_after(d) {first[0]}(h);` moves its message with the handle h"
     if LATER.search(name.text):
         return f"`{first[0]}` is a task: `spawn_after(d) {first[0]}(..);` sends it a message in d ticks"
@@ -111,13 +113,30 @@ def split_name(syntax, found):
     tokens = syntax.front + syntax.rest
     names = {behind.text for token, behind in zip(tokens, tokens[1:]) if behind.kind == "name" and token.text != "app"}
     whole = [last.text + sign + syntax.token.text for sign in ("", "_")]
-    return next((f"`{name}` is one word" for name in whole if name in names | WORDS), None)
+    return next((f"`{name}` is one word" for name in whole if name in names | WORDS
+                 and syntax.trials.is_further(last.at, syntax.token.end, name)), None)
+
+
+def two_names(syntax, found):
+    """Two names where one is due, side by side: they may be one, or one of them is too many."""
+    last, token = syntax.front[-1] if syntax.front else None, syntax.token
+    if last is None or last.kind != "name" or token.kind != "name" or "\n" in syntax.text[last.end : token.at]:
+        return None
+    texts = [one.text for one in syntax.front + syntax.rest]
+    if texts.count(last.text) > 1 or texts.count(token.text) > 1 or len(syntax.front) < 2:
+        return None
+    if syntax.front[-2].text not in NAMING or not syntax.trials.reads_on(last.at, token.end, last.text + token.text):
+        return None
+    whole = " or ".join(f"`{last.text}{sign}{token.text}`" for sign in ("", "_"))
+    return f"a name has no blank in it: write {whole}; or one of the two is too many"
 
 
 def no_let(syntax):
     """A variable that is declared by `:=`, as in Go, where nothing of its name is declared."""
     front = syntax.front
     if not front or front[-1].kind != "name" or not syntax.behind.startswith(": =") or not syntax.in_body:
+        return None
+    if len(front) > 1 and front[-2].text not in (";", "{", "}"):
         return None
     name, start = front[-1].text, piece_of(syntax).start
     own = [token for token in front[:-1] if token.at >= start and token.text == name]
@@ -131,6 +150,12 @@ def outside(syntax, found):
     behind = [token.text for token in syntax.rest[1:2]]
     if "task" not in found or "let" in found or syntax.depth or syntax.token.kind not in ("name", "word"):
         return None
-    if syntax.token.kind == "word" and syntax.token.text not in STATEMENTS or behind not in (["."], ["("], ["="]):
+    if syntax.token.kind == "word" and syntax.token.text not in STATEMENTS:
         return None
+    if syntax.token.kind == "name" and behind not in (["."], ["("], ["="]):
+        return None
+    if any(syntax.token.text.startswith(word) for word in found) or nearest(syntax.token.text, found, ALIKE):
+        return None
+    if syntax.token.kind == "name" and behind == ["("]:
+        return f"no declaration begins with `{syntax.token.text}`, and no statement comes between the declarations"
     return "no statement comes between the declarations: it goes into `init { .. }` or another body"

@@ -8,7 +8,8 @@ TAB = 8
 
 def unclosed(syntax, found):
     """A brace that is open at the end of the text, or where a task or a declaration begins."""
-    if syntax.token.kind != "end" and not (syntax.token.text in STARTS and "}" in found):
+    behind = [token.text for token in syntax.rest[1:2]]
+    if syntax.token.kind != "end" and not (syntax.token.text in STARTS and "}" in found and behind != ["="]):
         return None
     opened, pairs, last = [], [], None
     for token in syntax.front:

@@ -1,7 +1,7 @@
 """What people write where a message is sent, moved or withdrawn, or a task is to run: E03 at the call."""
 import re
 
-from .tokens import between, nearest
+from .tokens import all_near, between, nearest
 
 CALL_WORDS = ("spawn", "spawn_after", "cancel", "reschedule_after", "emit", "pend", "lock")
 NO_WORDS = ("spawn_at", "reschedule_at", "unlock", "unpend", "clock")
@@ -9,6 +9,7 @@ WITHDRAWS = ("unpend", "clear", "unset")
 STARTS = re.compile(r"send|put|post|push|give|notify|signal|queue|start|run|call|wake|resume|trigger|pend|raise", re.I)
 ENDS = re.compile(r"stop|cancel|abort|kill|withdraw|clear|suspend|delete", re.I)
 NEARLY, SURELY = 0.75, 0.85
+LATER = re.compile(r"^(?:after|later|every|defer|periodic|schedule)")
 FEW = 4
 
 
@@ -79,16 +80,33 @@ def without_handle(syntax, found):
     return f"a `{word[1]}` has the handle of the message in parentheses: `{form} {word[2]}(h);`"
 
 
+def delayed(syntax, found):
+    """An unknown word with parentheses, and the name of a task with its own behind them."""
+    rest = between(syntax.rest)[1] if syntax.token.text == "(" else []
+    if len(rest) < 2 or rest[0].text not in syntax.named.software or rest[1].text != "(" or not syntax.front:
+        return None
+    word, name = syntax.front[-1], rest[0].text
+    if word.kind != "name" or word.text in NO_WORDS or LATER.search(word.text):
+        return None
+    return (f"`{name}` is a task: `spawn_after(d) {name}(..);` sends it a message in d ticks, and "
+            f"`reschedule_after(d) {name}(h);` moves one")
+
+
 def called(syntax, found):
     """A task that is called as a function, or named alone."""
-    if not syntax.front or syntax.front[-1].text not in syntax.named.tasks or syntax.token.text not in ("(", ";"):
+    if not syntax.front or syntax.front[-1].text not in syntax.named.tasks or syntax.token.text not in ("(", ";", "}"):
         return None
     name = syntax.front[-1].text
+    if syntax.before.endswith(f"spawn {name}") and syntax.named.tasks[name]:
+        return f"`{name}` is a hardware task: `pend {syntax.named.tasks[name]};` makes it run"
     interrupt, first = syntax.named.tasks[name], [token.text for token in syntax.front[-4:-1]]
     if first[-1:] not in ([";"], ["{"], ["}"]) and syntax.token.text != "(":
         return None
     if interrupt:
         return f"`{name}` is a hardware task: `pend {interrupt};` makes it run"
+    behind = between(syntax.rest)[1] if syntax.token.text == "(" else []
+    if behind and behind[0].text in ("after", "in", "at", "later"):
+        return f"`{name}` is a task: `spawn_after(d) {name}(..);` sends it a message in d ticks"
     values = ".." if syntax.token.text == "(" and syntax.rest[1:2] and syntax.rest[1].text != ")" else ""
     if first[-1:] in ([";"], ["{"], ["}"]):
         withdrawn = f", and `cancel {name}(h);` withdraws one" * (name in syntax.named.armed)
@@ -105,6 +123,9 @@ def sent_by_sign(syntax, found):
     if name not in syntax.named.tasks or not re.match(r"< -|<<|! \w", syntax.behind) and not method:
         return None
     interrupt = syntax.named.tasks[name]
+    if method and method[1] in ("cancel", "reschedule_after") and not interrupt:
+        form = "cancel" if method[1] == "cancel" else "reschedule_after(d)"
+        return f"`{name}` is a task, and a message of it has a handle h: `{form} {name}(h);`"
     if method and (method[1] in CALL_WORDS or interrupt and not STARTS.search(method[1])):
         return None
     if interrupt:
@@ -129,7 +150,9 @@ def method(syntax):
     name = syntax.front[-1].text
     if syntax.front[-1].kind == "name" and not is_known(syntax, name):
         return f"nothing is called `{name}` here, and there are no methods: a body has numbers, and `emit N;` shows one"
-    return f"there are no methods: `{name}` is one number, and what `{found[1]}` calculates is written out"
+    if found[1] in CALL_WORDS:
+        return f"there are no methods, and the word comes first: `{found[1]} {name} ..`"
+    return f"there are no methods, and `{name}` is one number: what is to be done with it is written out"
 
 
 def unknown_word(syntax, found):
@@ -140,8 +163,11 @@ def unknown_word(syntax, found):
     behind = syntax.rest[1].text if len(syntax.rest) > 1 else ""
     if name in syntax.named.software and behind == "(" and (ENDS.search(word) or word in ("del", "drop", "remove")):
         return f"`{name}` is a task: `cancel {name}(h);` withdraws its message with the handle h"
+    if name in syntax.named.software and behind == "(" and word.startswith("resched"):
+        return f"`{name}` is a task: `reschedule_after(d) {name}(h);` moves its message with the handle h"
     if name in syntax.named.software and behind == "(" and not nearest(word, ("spawn", "cancel"), SURELY):
-        return f"`{name}` is a task: `spawn {name}(..);` sends it a message"
+        withdrawn = f", and `cancel {name}(h);` withdraws one" * (not STARTS.search(word))
+        return f"`{name}` is a task: `spawn {name}(..);` sends it a message{withdrawn}"
     if name in syntax.named.interrupts and behind in (";", "}") and word not in WITHDRAWS and not nearest(
             word, ("pend",), SURELY):
         return f"`{name}` is an interrupt: `pend {name};` requests it"
@@ -162,5 +188,6 @@ def nearly(syntax, found):
     for one in ("spawn", "cancel"):
         if word.removeprefix(one) in syntax.named.tasks:
             return f"a blank comes between two words: `{one} {word.removeprefix(one)}`"
-    near = nearest(word.lower(), words, NEARLY)
-    return f"`{word}` is no word of the language: `{near}` is" if near else None
+    last = syntax.front[-1]
+    near = [one for one in all_near(word.lower(), words, NEARLY) if syntax.trials.is_further(last.at, last.end, one)]
+    return f"`{word}` is no word of the language: `{near[0]}` is" if len(near) == 1 else None

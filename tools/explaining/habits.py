@@ -1,13 +1,15 @@
 """Habits of Rust, C and RTIC: what people write at the place of a refusal, and what is written for it here.
 
-Each row: the tokens before the place, the tokens from the place on, what is said. Tokens are joined by one space; the
-first pattern ends at the place, the second begins there. `<x>` is the group x of either, `@` in the first the sign
-after which a statement begins.
+Each row: the tokens before the place, the tokens from the place on, what is said, and perhaps its proof (trials.py):
+a row that can be meant otherwise is told only where that holds of the text. Tokens are joined by one space; the first
+pattern ends at the place, the second begins there. `<x>` is the group x of either, `@` in the first the sign after
+which a statement begins.
 """
 import re
 
 from .marks import BEGINS, COMMENT
-from .tokens import WORDS
+from .tokens import WORDS, tokens_of
+from .trials import is_glued, is_new, is_nothing, is_prefix, is_requested, is_strange, to
 
 OPPOSITE = {"==": "!=", "!=": "==", "<": ">=", ">=": "<", ">": "<=", "<=": ">"}
 OTHER_NAME = rf"(?!(?:{'|'.join(sorted(WORDS))})\b)[A-Za-z_]\w*"
@@ -51,6 +53,11 @@ BLOCKS = "what depends on an `if` goes in braces: `if a { .. } else { .. }`"
 RESOURCES = "resources are declared in `shared { a = 0 }` and `local { n = 0 }`"
 BY_NAME = "the values of a message have no names: write them in their order"
 DISPATCHERS = "interrupts for software tasks are named in the first declaration: `dispatchers = [SSI0]`"
+# a type of one word before a variable; of several, the place is behind the first
+FIRST_TYPES = [
+    r"(?:int|unsigned|u?int\d+_t|[ui]\d+|bool|char|long|short|float|double|var|const|static|volatile|auto|signed|uint"
+    r"|byte)"
+]
 C_TYPE = (
     r"(?:(?:volatile|static|extern|const|unsigned|signed|long|mut|pub|register) )*"
     r"(?:int|unsigned|u?int\d+_t|[ui](?:8|16|32)|bool|char|long|short|float|double|let|var|static|mut|auto)"
@@ -60,7 +67,7 @@ MASKS = (
     r"(?:_*(?:disable|enable)_(?:irq|interrupts?)|noInterrupts|interrupts|cli|sei|taskENTER_CRITICAL|taskEXIT_CRITICAL"
     r"|(?:enter|exit|begin|end)_critical\w*|critical_section|portDISABLE_INTERRUPTS|portENABLE_INTERRUPTS)"
 )
-UNITS = r"(?:nanos|micros|millis|secs|minutes|hours|Hz|kHz|MHz|ns|us|ms|s|hz|khz|mhz)"
+UNITS = r"(?:ticks|cycles|nanos|micros|millis|secs|minutes|hours|Hz|kHz|MHz|ns|us|ms|s|hz|khz|mhz)"
 CLOCKS = r"(?:millis|micros|HAL_GetTick|clock|get_?(?:tick|time|ticks)\w*|xTaskGetTickCount|time|ticks|now_ms)"
 REQUESTS = (
     r"(?:\w*irq_?(?:set_?)?pend\w*|\w*pend\w*irq\w*|NVIC_SetPendingIRQ|NVIC_SetPending|set_pending|trigger\w*|raise_irq"
@@ -107,8 +114,8 @@ GLUED = [
     (r"\b0+$", r"(?P<x>[0-9A-Fa-f]+)[hH]\b", HEXADECIMAL),
     (r"(?:^|(?<!_after \( ))\b(?P<x>\d+)$", r"[hH]\b", HEXADECIMAL),
     (r"\b(?P<n>\d+)$", r"(?P<x>[0-9A-Fa-f]*)[hH]\b", HEXADECIMAL.replace("<x>", "<n><x>")),
-    (r"_after \( [^;]*\b(?P<n>\d+)$", r"(?:ns|us|ms|s|sec|min|millis|secs)\b",
-     "a delay is a number of ticks: `spawn_after(<n>) ..`"),
+    (r"\b(?P<w>\w+_after) \( [^;]*\b(?P<n>\d+)$", r"(?:ns|us|ms|s|sec|min|millis|secs)\b",
+     "a delay is a number of ticks: `<w>(<n>) ..`"),
     (r"\b(?P<n>\d+)$", r"(?:ns|us|ms|s|sec|min|millis|secs)\b", "a number has no unit: write `<n>`"),
     (r"\b\d\w*$", r"_\w*|[bo]\d\w*|[xX]\w*|[eE]\d+", NUMERAL),
 ]
@@ -122,26 +129,27 @@ OTHER_TEXTS = [
 
 SYNTAX = [
     *OTHER_TEXTS,
-    (r"_after \( [^;]*\b(?P<n>\d+)$", r"(?:ns|us|ms|s|sec|min|millis|secs)\b",
-     "a delay is a number of ticks: `spawn_after(<n>) ..`"),
-    (r"\b(?P<n>\d+)$", r"(?:ns|us|ms|s|sec|min|millis|secs)\b", "a number has no unit: write `<n>`"),
+    (r"\b(?P<w>\w+_after) \( [^;]*\b(?P<n>\d+)$",
+     r"(?:[num]?s|secs?|min|milli\w*|micro\w*|seconds?|ticks?|cycles?|steps?)\b",
+     "a delay is a number of ticks: `<w>(<n>) ..`"),
+    (r"\b(?P<n>\d+)$", r"(?:[num]s|sec|min|millis|secs|ticks|cycles)\b", "a number has no unit: write `<n>`", to("")),
     (r"^$", r"(?:use|mod|extern|pub|fn|struct|const|static)\b",
      "Rust is not read here: an application begins with `app name(bits = 4);`"),
     *[(rf"(?<!\S){sign}$", rf"{sign}(?: |$)", f"`{sign}{sign}` is one sign, without a blank in it") for sign in "<>"],
-    *[(rf"& {word}$", r";", f"`&{word};` is `{sign}` as web pages have it: write the sign itself")
+    *[(rf"& {word}(?: ;)?$", r"(?:;|[\w(])", f"`&{word};` is `{sign}` as web pages have it: write the sign itself")
       for word, sign in (("gt", ">"), ("lt", "<"), ("amp", "&"))],
-    (r"<$", r">", NOT_EQUAL),
-    (r"!=$", r"=(?: |$)", NOT_EQUAL),
-    (r"(?:^| )(?P<s>[<>])$", r"=(?: |$)", "`<s>=` is one sign, without a blank in it"),
+    (r"<$", r">", NOT_EQUAL, to("!=", 1)),
+    (r"!=$", r"=(?: |$)", NOT_EQUAL, to("")),
+    (r"(?:^| )(?P<s>[<>])$", r"=(?: |$)", "`<s>=` is one sign, without a blank in it", to("<s>=", 1)),
     (r"(?:\bemit|\bpend|\bspawn|@ \w+ =) [^;{}]*[\w)]$", r"(?:if|unless|when)\b[^;{}]*;",
      "the condition comes first, and the statement in its block: `if a { .. }`"),
     (r"\bemit$", r"\[", "an `emit` has no brackets: `emit a;`"),
     (r"\b(?:shared|local) =$", r"& (?P<x>\w+)", "a list goes in brackets: `[&<x>]`"),
-    (r"\bif [^;{}]*$", r"/ =(?: |$)", NOT_EQUAL),
-    (r"\bif [^;{}]*$", r"= !", NOT_EQUAL),
-    (r"\b(?:if|emit) [^;{}]*$", r"= >", "greater or equal is `>=`"),
-    (r"\b(?:if|emit) [^;{}]*$", r"= <", "less or equal is `<=`"),
-    *[(rf"\b(?P<x>[A-Za-z_]\w*) [{sign}]$", rf"[{sign}] [;)]",
+    (r"\bif [^;{}]*$", r"/ =(?: |$)", NOT_EQUAL, to("!=")),
+    (r"\bif [^;{}]*$", r"= !(?: |$)", NOT_EQUAL, to("!=")),
+    (r"\b(?:if|emit) [^;{}]*$", r"= >(?: |$)", "greater or equal is `>=`", to(">=")),
+    (r"\b(?:if|emit) [^;{}]*$", r"= <(?: |$)", "less or equal is `<=`", to("<=")),
+    *[(rf"\b(?P<x>[A-Za-z_]\w*) [{sign}]$", rf"[{sign}] (?:[;),{{*/%&|^]|<<|>>|[=!<>]=|[<>])",
        f"there is no `{sign}{sign}`: write `<x> = <x> {sign} 1;`") for sign in "+-"],
     (r"\*$", r"\*", "there is no `**`: a power of 2 is `1 << n`"),
     (r"(?:\w|\))$", rf"as (?:u|i)8\b", "there are no types: the low 8 bits of a value are `value & 255`"),
@@ -167,8 +175,10 @@ SYNTAX = [
      "there are no functions: only `init`, `idle` and tasks have bodies"),
     (r"[;}]$", rf"{C_TYPE} (?P<x>[A-Za-z_]\w*) (?:[=;:]|$)", VARIABLE),
     (r"[;}]$", r"resources? \{", RESOURCES),
-    (r"[;}]$", rf"(?:handler|isr|ISR|irq|interrupt|IRQ_HANDLER|INTERRUPT) (?:\( )?(?P<x>{OTHER_NAME})",
-     "a task serves an interrupt: `task t(binds = <x>) { .. }`"),
+    (r"[;}]$", rf"(?:handler|isr|ISR|irq|interrupt|IRQ_HANDLER|INTERRUPT) (?:\( )?"
+     rf"(?P<x>{OTHER_NAME}?)(?:_vect|_IRQn|_IRQHandler|_irq)?\b(?! [=,;])",
+     "a task serves an interrupt: `task t(binds = <x>) { .. }`", is_requested),
+    (r"[;}]$", rf"(?:handler|isr|ISR|irq|interrupt|IRQ_HANDLER|INTERRUPT) (?:\( )?{OTHER_NAME}(?! [=,;])", SERVED),
     (r"@$", r"(?P<o>[+-]) (?P=o) (?P<x>[A-Za-z_]\w*)", "there is no `<o><o>`: write `<x> = <x> <o> 1;`"),
     (r"\bwith \w+(?: , \w+)*$", r"\(", "the options come before `with`: `task t(priority = 1) with x { .. }`"),
     (r"\bwith \w+ (?:, \w+ )*,$", r"(?P<w>binds|priority|capacity|shared|local) =",
@@ -182,12 +192,14 @@ SYNTAX = [
     (r"\b(?P<w>capacity|bits) =$", r"[A-Za-z_+-]", "`<w>` wants a number"),
     (r"\bbinds =$", r"(?P<n>\d+)",
      "an interrupt is named: `interrupts { I = <n> }` declares it, and `binds = I` takes it"),
-    (r"\b(?:interrupts|shared|local) \{(?: [^}]*,)?$", r"(?P<n>\d\w*) = (?P<x>\w+)",
-     "the name comes first: `<x> = <n>`"),
+    (r"\b(?:interrupts|shared|local) \{(?: [^}]*,)?$", r"(?P<n>\d+) = (?P<x>[A-Za-z_]\w*)",
+     "the name comes first: `<x> = <n>`", to("<x> = <n>", far=False)),
+    (r"\b(?:interrupts|shared|local) \{(?: [^}]*,)? (?:lock_free )?(?P<x>\w+)$", r"- (?P<y>\w+) =",
+     "names have letters, digits and `_`: write `<x>_<y>`"),
     (r"\bfor \w+ in \w+ \.\. \w+$", r"\.\.|,|step\b|by\b",
      "a loop counts by 1: `for i in 0..5 { .. }`, and inside it `i * 2`"),
     (r"\b[A-Z][A-Z0-9_]* -$", r">", NO_PINS),
-    (r"\w -$", r">", ONE_NUMBER),
+    (r"[A-Za-z_]\w* -$", r"> [A-Za-z_]", ONE_NUMBER, is_prefix),
     (r"@ (?P<w>unsafe|async|try|static|mut)$", r"\{", "there is no `<w>`: leave it out"),
     (r"(?:^|(?<!\w))(?:__)?asm(?:__)?$", r"\(|volatile\b",
      "no instruction of the processor can be written: bodies have the statements of the language alone"),
@@ -195,11 +207,12 @@ SYNTAX = [
     (r"\b(?:shared|local|dispatchers) =$", r"\( (?P<x>[A-Za-z_]\w*)", "a list goes in brackets: `[<x>]`"),
     (r"\bspawn (?P<x>\w+)$", r"= (?P<t>\w+) \(", "the variable comes first: `let <x> = spawn <t>(..);`"),
     (r"\bspawn \w+ \( (?:[^;]*, )?\w+$", r"=(?: |$)", BY_NAME),
-    (r"=$", r"\+ (?P<n>\w+)(?! \w)",
-     "there is no sign before a number: leave the `+` out, or write `x = x + <n>;` to add"),
+    (r"=$", r"\+ (?P<n>\w+)\b(?! \w)",
+     "there is no sign before a number: leave the `+` out, or write `x = x + <n>;` to add", is_glued),
     (r"^app [^;]*; interrupts$", r"[(\[]", "rows go in braces: `interrupts { .. }`"),
     *[(rf"(?:^|(?<!\w)){name}$", r"\(", sentence) for name, sentence in FUNCTIONS],
     (rf"@ {DELAYS}$", r"\w", NO_DELAY),
+    (r"@ (?:cout|cerr|clog|stdout)$", r"<<", "to show a number in the trace is `emit N;`"),
     (r"@ (?:print\w*|yield|echo|show|display|log|write|output|puts|trace)$", r"\w",
      "to show a number in the trace is `emit N;`"),
     (r"\binterrupts \{[^}]*=$", r"-", "an interrupt has a number from 0 to 495, without a sign"),
@@ -211,14 +224,15 @@ SYNTAX = [
      "a resource is declared by its name and its first value: leave `let` out"),
     (r"@$", r"with\b", "`with` names the arguments of a task; a lock is `lock a { .. }`"),
     (rf"(?<=[;{{}}] )(?P<x>(?!{OTHERS}\b){OTHER_NAME})$", r"(?P<w>pend|emit|lock|cancel|spawn)\b(?! =)",
-     "the word comes first: `<w> <x> ..`"),
+     "the word comes first: `<w> <x> ..`", to("<w> <x>", 1)),
     (r"@ \w+$", r"(?:, \w+ )+= ", "an assignment sets one variable: write several, with a `let` first to swap two"),
     (r"\bpend \w+$", r"(?:priority|capacity|binds|shared|local|with)\b(?! \w+ =)",
      "a pend has the interrupt alone: what belongs to its task is in the task's head"),
     (rf"(?<=[;{{}}] )(?P<x>{OTHER_NAME})$", r"(?P<y>(?:, \w+ )+)lock\b", "the word comes first: `lock a, b { .. }`"),
     (r"\bpend (?P<x>\w+)$", r"\(", "a pend has no parentheses: `pend <x>;`"),
     (r"\bfor (?:each|all|every|int|let|mut)$", r"[A-Za-z_]", "the form is `for i in 0..8 { .. }`"),
-    (rf"\blet (?!mut$)(?:{TYPE}|{C_TYPE})$", r"(?P<x>[A-Za-z_]\w*)", "there are no types: write `let <x> = ..;`"),
+    (rf"\blet (?!mut$)(?:{TYPE}|{C_TYPE})$", r"(?P<x>[A-Za-z_]\w*)", "there are no types: write `let <x> = ..;`",
+     is_new),
     (r"@ static$", r"let\b", "leave `static` out: a variable of a body that lasts is declared in `local { .. }`"),
     (r"@ (?:atomic\w*|critical\w*|synchronized|mutex\w*|guard\w*|exclusive|protected|locked|with_lock|interrupt_free)$",
      r"[({]", "a resource is held for a block: `lock a { .. }`"),
@@ -227,10 +241,12 @@ SYNTAX = [
     (r"@ unless$", r"[\w(]", "there is no `unless`: write `if a == 0 { .. }`"),
     (r"\b(?:shared|local) \{ [^}]*=$", r"\[", "a resource is one number, and there are no arrays"),
     (r"@ static$", rf"(?:mut )?(?:{C_TYPE} )?(?P<x>[A-Za-z_]\w*)", VARIABLE),
-    (r"\b(?:spawn|cancel) \w+$", r"\[", "the form is `spawn t(a, b);`"),
-    (r"", r"/ \*", COMMENT),
-    (r"/$", r"\*", COMMENT),
-    (r"(?P<x>\w+)$", r"(?P<o>\+|-|\*|/|%|&|\||\^|<<|>>) =(?: |$)", "there is no `<o>=`: write `<x> = <x> <o> ..;`"),
+    (r"\bspawn \w+$", r"\[", "the form is `spawn t(a, b);`"), (r"\bcancel \w+$", r"\[", "the form is `cancel t(h);`"),
+    (r"", r"/ \*", COMMENT, is_prefix),
+    (r"/$", r"\*", COMMENT, is_glued),
+    (r"(?P<x>\w+)$", r"(?P<o>\+|-|\*|/|%|&|\||\^|<<|>>) =(?: \w+ [;}]| [;}]|$)",
+     "there is no `<o>=`: write `<x> = <x> <o> ..;`"),
+    (r"(?P<x>\w+)$", r"(?P<o>\+|-|\*|/|%|&|\||\^|<<|>>) =(?: |$)", "there is no `<o>=`: write `<x> = <x> <o> (..);`"),
     (r"(?P<x>\w+)$", r"(?P<o>[+-]) (?P=o)", "there is no `<o><o>`: write `<x> = <x> <o> 1;`"),
     (r"let mut$", r"\w", "every variable can be assigned: leave `mut` out"),
     (r"\b(?:shared|local) \{ (?:[^}]*, )?mut$", r"\w", "every resource can be assigned: leave `mut` out"),
@@ -266,7 +282,9 @@ SYNTAX = [
     (r"[;}]$", r"(?:loop|main|setup|background|forever|super_?loop)\b",
      "what runs once at the beginning is `init { .. }`, and what runs while nothing else does `idle { .. }`"),
     (r"@ \w+$", r"< -", "to assign is `=`"),
-    (r"@ (?P<x>\w+)$", r"- > \w+", NO_PINS),
+    (r"@ [a-z_]\w*$", r"- > (?P<y>\w+)", "bodies get no context, and nothing has fields: write `<y>` alone",
+     is_strange),
+    (r"@ (?P<v>\w+)$", r"- > \w+", NO_PINS, is_strange),
     (r"\bpend \w+$", r",", "a `pend` names one interrupt: write two of them"),
     (r"\bemit (?:\( )?[^;{}(]*$", r", (?!\w+ =)", "an `emit` shows one number: write two of them"),
     (r"(?:^|@ )(?P<w>while|loop|do|until|repeat)$", r"[\w({]", NO_LOOP),
@@ -282,7 +300,8 @@ SYNTAX = [
      "a bound has no sign: count from 0, and take away `<n>` inside, which wraps"),
     (r"\bfor \w+ in(?: \w+ \.\.)?$", r"[A-Za-z_(]",
      "the bounds of a `for` are numbers; inside it an `if` can pass over what is too many"),
-    (r"\bfor (?P<x>\w+) in (?P<n>\w+)$", r"\{", "a loop has two bounds: `for <x> in 0..<n> { .. }`"),
+    (r"\bfor (?P<x>\w+) in (?P<n>[1-9]\w*)$", r"\{ (?!\.\.)", "a loop has two bounds: `for <x> in 0..<n> { .. }`"),
+    (r"\bfor (?P<x>\w+) in \w+$", r"\{", "a loop has two bounds: `for <x> in 0..8 { .. }`"),
     (r"\bshared = \[ (?:[^\]]*, )?(?P<x>\w+)$", r"& [,\]]", "the `&` comes before the name: `&<x>`"),
     (r"\bshared = \[[^\]]*&$", r"& (?P<x>\w+)", "one `&` lists a resource for reading: `&<x>`"),
     (r"&$", r"\^ (?P<x>\w+)", "there is no `&^`: write `& (<x> ^ 0xffffffff)`"),
@@ -291,12 +310,17 @@ SYNTAX = [
     (r"\block (?:\w+ , )*\w+$", r"(?:and|&|\+|with)(?: |$)", "commas separate the names: `lock a, b { .. }`"),
     (rf"\bwith (?:\w+ , )*(?:{TYPE}|{C_TYPE}|\w+_t)$", r"(?P<x>[A-Za-z_]\w*)", "there are no types: write `<x>` alone"),
     (r"\bwith (?:\w+ , )*\w+$", r"(?:and|&|\+)(?: |$)", "commas separate the names: `with x, y`"),
-    (r"(?:\w|\))$", r"(?P<w>and|AND|And)\b(?= [\w(])", COMPARED.replace("<o>", "&")),
-    (r"(?:\w|\))$", r"(?P<w>or|OR|Or)\b(?= [\w(])", COMPARED.replace("<o>", "|")),
+    (r"\bwith (?:\w+ , )*\w+$", r"- >", "a body hands back nothing: leave `-> ..` out"),
+    (r"\bwith (?:\w+ , )*\w+$", r"= \w+", "a value of a message has no first value: leave `= ..` out"),
+    (r"\blocal \{(?: [^}]*,)?$", r"lock_free\b",
+     "`lock_free` is said of shared resources: a local one is of one body, and needs no lock"),
+    (r"(?:\w|\))$", r"(?P<w>and|AND|And)\b(?= [\w(])", COMPARED.replace("<o>", "&"), to("&", far=False)),
+    (r"(?:\w|\))$", r"(?P<w>or|OR|Or)\b(?= [\w(])", COMPARED.replace("<o>", "|"), to("|", far=False)),
     *[(r"\bnot$", rf"(?P<a>[A-Za-z_]\w*) {sign} (?P<b>\w+)",
        f"there is no `not`: for `not <a> {sign} <b>` write `<a> {other} <b>`") for sign, other in OPPOSITE.items()],
-    (r"\bnot$", r"(?P<x>[A-Za-z_]\w*)", "there is no `not`: write `<x> == 0`"),
-    (r"\bnot$", r"[\w(]", "there is no `not`: write `a == 0`"),
+    (r"(?:\bif|\bemit|=) not$", r"(?P<x>[A-Za-z_]\w*) [{;]", "there is no `not`: write `<x> == 0`"),
+    (r"\bnot$", r"(?P<x>[A-Za-z_]\w*)", "there is no `not`: write `(<x> == 0)`"),
+    (r"\bnot$", r"[\w(]", "there is no `not`: write `(a == 0)`"),
     (r"\bspawn after \( (?P<d>[^;{}]*) \)$", r"(?P<t>[A-Za-z_]\w*)",
      "`spawn_after` is one word: `spawn_after(<d>) <t>(..);`"),
     (r"\breschedule$", r"after\b", "`reschedule_after` is one word: `reschedule_after(d) t(h);`"),
@@ -309,23 +333,35 @@ SYNTAX = [
      "`<w>` takes one handle: write two of them"),
     (r"\belse$", r"if\b", "there is no `else if`: write `else { if .. { .. } }`"),
     (r"@ (?P<w>elif|elsif|elseif)$", r"[\w(]", "there is no `<w>`: write `else { if .. { .. } }`"),
-    (r"\bif [^;{}]*$", r"=(?: |$)", "to compare is `==`"),
-    (r"@ \w+$", r"==", "to assign is `=`"),
-    (r"@ \w+ = [^;{}]*$", r"=(?: |$)", "an assignment has no value: write two of them"),
+    (r"\bif [^;{}]*$", r"=(?: |$)", "to compare is `==`", to("==")),
+    (r"@ \w+$", r"==", "to assign is `=`", to("=")),
+    (r"@ (?P<x>\w+) = (?P=x) (?P<o>\+|-|\*|/|%|&|\||\^|<<|>>)$", r"=(?: |$)",
+     "there is no `<o>=`: write `<x> = <x> <o> ..;`"),
+    (r"@ \w+ = (?:[^;{}]* )?[\w)]+$", r"=(?: |$)", "an assignment has no value: write two of them"),
     (r"\blet (?P<x>\w+) =$", r"lock\b(?: (?P<r>[A-Za-z_]\w*))?",
      "a lock has no value: assign the variable inside, `let <x> = 0; lock <r> { <x> = <r>; }`"),
+    (r"\b(?:let|for|with) (?P<x>\w+)$", r"- (?P<y>\w+)(?= =|$| in\b| \{| ,)",
+     "names have letters, digits and `_`: write `<x>_<y>`"),
+    (r"@ (?P<x>\w+) =$", r"lock (?P<r>[A-Za-z_]\w*) \{",
+     "a lock has no value: assign the variable inside, `lock <r> { <x> = <r>; }`"),
     (r"\blet (?P<x>\w+)$", r";", "a variable begins with a value: `let <x> = 0;`"),
     (r"\blet$", r"\( [^;]*= (?:\w+ : : )*\w*[Cc]hannel\w*\b|\( [^;]*= [^;]*\bsplit\b", NO_CHANNELS),
     (r"\blet$", r"\(", "a `let` declares one variable"),
-    (r"@ (?:const |volatile |static )?(?:unsigned |signed |long )?"
-     r"(?:int|unsigned|u?int\d+_t|[ui]\d+|bool|char|long|short|float|double|var|const|static|volatile|auto)$",
-     r"(?:int )?(?P<x>[A-Za-z_]\w*)", "there are no types: write `let <x> = ..;`"),
-    (r"@ (?P<w>return|break|continue|goto)$", r"[\w;(]",
+    *[(rf"@ {types}$", r"(?P<x>[A-Za-z_]\w*)", "there are no types: write `let <x> = ..;`", is_new,
+       to("let <x>", back, far=False)) for back, types in enumerate(FIRST_TYPES, 1)],
+    *[(rf"@ {types}$", r"(?P<x>[A-Za-z_]\w*) ;", "there are no types, and a variable begins with a value: "
+       "`let <x> = 0;`", is_new) for types in FIRST_TYPES],
+    *[(rf"@ {types}$", r"(?P<x>[A-Za-z_]\w*) =", "there are no types, and `<x>` is declared: write `<x> = ..;`",
+       to("<x> =", back)) for back, types in enumerate(FIRST_TYPES, 1)],
+    *[(rf"@ {types}$", r"[A-Za-z_]\w*", "there are no types: a variable is declared with `let`, and a value")
+      for types in FIRST_TYPES],
+    (r"@ (?P<w>return|break|continue|goto)$", r"[\w;(}]",
      "there is no `<w>`: put what is to be passed over into an `if`"),
     (r"(?:@|=) (?P<w>match|switch)$", r"[\w(]",
      "there is no `<w>`: write `if a == 1 { .. } else { if a == 2 { .. } }`"),
     (r"\bemit$", r"if\b", "an `if` has no value: `if a { emit b; } else { emit c; }`"),
     (r"=$", r"if\b", "an `if` has no value: `let x = 0; if a { x = b; } else { x = c; }`"),
+    (r"\block$", r"\( (?:& )?(?:mut )?(?P<x>\w+) ,", "a lock has no parentheses: `lock <x>, .. { .. }`"),
     (r"\block$", r"\( (?:& )?(?:mut )?(?P<x>\w+)", "a lock has no parentheses: `lock <x> { .. }`"),
     (r"\bpend$", r"\( (?P<x>\w+)", "a pend has no parentheses: `pend <x>;`"),
     (r"\bspawn$", r"\( (?P<x>[A-Za-z_]\w*) \)", "the task's name comes before the parentheses: `spawn <x>();`"),
@@ -333,7 +369,8 @@ SYNTAX = [
     (r"\bspawn$", r"\(", "a spawn names its task before the parentheses: `spawn t(..);`"),
     (r"@ (?:printf|println|print|puts|hprintln|log)$", r"\(", "to show a number in the trace is `emit N;`"),
     (rf"@ (?P<f>{OTHER_NAME})$", r"\(",
-     "there are no functions: write out here what `<f>` does, or make it a software task, `spawn <f>(..);`"),
+     "there are no functions: write out here what `<f>` does, or make it a software task, `spawn <f>(..);`",
+     is_nothing),
     (r"[(,]$", rf"(?:mut )?{CONTEXT} [:,)]", NO_CONTEXT),
     (r"[(,]$", r"(?:mut )?\w+ : (?:\w+ : : )*Context\b", NO_CONTEXT),
     (r"\b(?:idle|init) \((?: \w+ ,)*$", r"(?P<x>[A-Za-z_]\w*) [,)]",
@@ -361,10 +398,13 @@ SYNTAX = [
     (r"(?:[=(,+*/%|^<>-]|emit|if)$", rf"(?P<o>[*&]) (?:mut )?(?P<c>{CONTEXT}) \. (?P<k>\w+) \. (?P<x>\w+)",
      "bodies get no context: write `<x>` for `<o><c>.<k>.<x>`"),
     (r"(?:[=(,+*/%|^<>-]|emit|if)$", r"(?P<o>[*&]) (?:mut )?(?P<x>[A-Za-z_]\w*)",
-     "there are no pointers: write `<x>` for `<o><x>`"),
+     "there are no pointers: write `<x>` for `<o><x>`", is_prefix),
     (r"\b(?:spawn_after|reschedule_after) \($", r"-", "a delay has no sign: it is 0 or more ticks"),
-    (r"(?:[=(,+*/%&|^<>-]|emit|if)$", r"- (?P<n>\w+)",
-     "there is no sign before a number: write `0 - <n>`, which wraps"),
+    (r"(?:[=(,]|emit|if)$", r"(?P<o>[+-]) (?P=o) (?P<x>[A-Za-z_]\w*)",
+     "there is no `<o><o>`: write `<x> = <x> <o> 1;` before this"),
+    (r"(?:[=(,]|emit|if)$", r"- (?P<n>\w+)", "there is no sign before a number: write `0 - <n>`, which wraps"),
+    (r"[+*/%&|^<>-]$", r"- (?P<n>\w+)",
+     "there is no sign before a number: write `(0 - <n>)`, which wraps", is_prefix),
     (r"\block$", r"\| (?P<x>\w+)", "there are no closures: `lock <x> { .. }`"),
     (r"\block (?:\w+ , )*(?P<x>\w+)$", r"\(", "a lock has its block in braces: `lock <x> { .. }`"),
     (r"\block (?:\w+ , )*\w+$", r"; (?:\w+ [;,] )*\w+ \{", "commas separate the names: `lock a, b { .. }`"),
@@ -372,11 +412,11 @@ SYNTAX = [
     (r"\bbinds =$", r"\[", "`binds` names one interrupt: give each interrupt a task of its own"),
     (r"\bpend$", r"(?P<n>\d+)", "an interrupt is named, not numbered: `pend I;`"),
     (r"\bspawn (?P<t>\w+)$", r"[;}]",
-     "a spawn has parentheses, with the values in them if there are any: `spawn <t>();`"),
+     "a spawn has parentheses, with the values in them if there are any: `spawn <t>(..);`"),
     (r"\bcancel (?P<h>\w+)$", r"[;}]",
-     "a `cancel` names the task, and has the handle in parentheses: `cancel foo(<h>);`"),
+     "a `cancel` names the task, and has the handle in parentheses: `cancel t(<h>);`"),
     (r"\b(?P<w>spawn_after|reschedule_after)$", r"(?P<n>\w+) (?P<t>[A-Za-z_]\w*)",
-     "the delay goes in parentheses: `<w>(<n>) <t>();`"),
+     "the delay goes in parentheses: `<w>(<n>) <t>(..);`"),
     (r"\blet (?P<x>\w+) = now$", r"[-+*/%&|^<>]|[=!]=",
      "`now` is only the whole value of a `let`: write `let time = now;` before this"),
     (r"(?:[=(,+*/%&|^<>-]|emit|if)$", r"(?P<w>spawn|spawn_after|cancel|reschedule_after)\b",
@@ -412,8 +452,9 @@ SYNTAX = [
     (r"\bfpu =$", r"\w", "leave `fpu` out where the core has no floating-point extension"),
     (r"", r"(?:true|false)\b", "`true` is 1 and `false` is 0"),
     (r"\bfor$", r"\w+ \.\.", "a loop has a variable of its own: `for i in 0..8 { .. }`"),
-    (r"\b(?:app|task|let|lock|pend|with|for)$", r"\d", "a name begins with a letter or `_`"),
-    (r"\b(?:app|task) (?P<x>\w+)$", r"- (?P<y>\w+)", "names have letters, digits and `_`: write `<x>_<y>`"),
+    (r"\b(?:app|task|let|lock|pend|with)$", r"\d", "a name begins with a letter or `_`"),
+    (r"\bfor$", r"\d", "a loop is `for i in 0..8 { .. }`, with a name and two numbers"),
+    (r"\b(?:app|task) (?P<w>\w+)$", r"- (?P<v>\w+)", "names have letters, digits and `_`: write `<w>_<v>`"),
     (r"\binterrupts \{ (?:[^}]*, )?(?P<x>[A-Za-z_]\w*)$", r"[,}]",
      "an interrupt is declared with its number: `<x> = 5`"),
     (r"\b(?:shared|local) \{ (?:[^}]*, )?(?:lock_free )?(?P<x>[A-Za-z_]\w*)$", r"[,};]",
@@ -432,8 +473,10 @@ SYNTAX = [
 
 # what comes in the values of a body
 VALUES = [
-    *[(r"(?:\w|\))$", rf"{word}\b", f"there is no `{word}`: write `{sign}`") for word, sign in WORD_SIGNS.items()],
-    (rf"(?:^|(?<!\w))(?P<f>{OTHER_NAME})$", r"\(", "there are no functions: write here what `<f>` is to calculate"),
+    *[(r"(?:\w|\))$", rf"{word}\b", f"there is no `{word}`: write `{sign}`", to(sign))
+      for word, sign in WORD_SIGNS.items()],
+    (rf"(?:^|(?<!\w))(?P<f>{OTHER_NAME})$", r"\(", "there are no functions: write here what `<f>` is to calculate",
+     is_nothing),
 ]
 
 # what is likely where the program takes no small change
@@ -443,13 +486,14 @@ GUESSES = [
     (r"\b(?:interrupts|shared|local) \{[^}]*= \w+$", r"(?:lock_free )?[A-Za-z_]\w* =", "commas separate the rows"),
     (r"[(,] \w+ = (?:\w+|\[[^\]]*\])$", r"; \w+ =", "a `,` comes between two options"),
     (r"[;}] monotonic$", r"[={\w]", "the form is `monotonic(binds = I, priority = 3);`"),
-    (r"\blet [^;{}(]*$", r",", "a `let` declares one variable: write two of them"),
+    (r"\blet \w+$", r",", "a `let` declares one variable: write two of them"),
+    (r"\blet [^;{}(]*$", r",", "a `let` declares one variable, and has one value"),
     (r"\block [^{}]*\{[^{}]*\}$", r"else\b",
      "a lock never fails, and has no `else`: one comes after the block of an `if` alone"),
-    (r"\}$", r"else\b", "an `else` comes once, directly after the block of its `if`"),
-    (r"(?:[(,]|emit|if)$", r"\+ (?P<n>\w+)",
-     "there is no sign before a number: leave the `+` out, or write `x = x + <n>;` to add"),
-    (r"", r"now\b", "`now` is only the whole value of a `let`: `let x = now;`"),
+    (r"[;{}]$", r"else\b", "an `else` comes once, directly after the block of its `if`"),
+    (r"(?:[(,]|emit|if)$", r"\+ (?P<n>\w+)\b", "there is no sign before a number: leave the `+` out", is_prefix),
+    (r"(?<!\blet)(?<!\bfor)(?<!\btask)(?<!\bapp)(?<!\bwith)(?<!\block)(?<!\bpend)(?<!\bspawn)(?<![{\[,])$", r"now\b",
+     "`now` is only the whole value of a `let`: `let x = now;`"),
     (r"@ if [^;{}]*(?:\w|\w \))$", rf"{BEGINS}(?: |$)|[A-Za-z_]\w* (?:[.(]|: :)", BLOCKS),
     (r"\belse$", rf"(?!\}}){BEGINS}(?: |$)|[A-Za-z_]\w* [.(]",
      "what depends on an `else` goes in braces: `else { .. }`"),
@@ -458,12 +502,27 @@ GUESSES = [
 ]
 
 
-def looked_up(rows, before, behind):
-    """What the first row says that fits, or None."""
-    for front, at, sentence in rows:
-        left = re.search(front.replace("@", STATEMENT), before)
-        right = left and re.match(at, behind)
+# the groups that are names, and no words of the language
+OF_NAMES = "xyabtrh"
+
+
+def looked_up(rows, syntax):
+    """What the first row says that fits a place, and whose proof holds; or None."""
+    for front, at, sentence, *proofs in rows:
+        if "@" in front and "^" not in front and not syntax.in_body:
+            continue
+        left = re.search(front.replace("@", STATEMENT), syntax.before)
+        right = left and re.match(at, syntax.behind)
         if right:
             groups = {**left.groupdict(), **right.groupdict()}
-            return re.sub(r"<([a-z])>", lambda found: groups.get(found.group(1)) or "", sentence)
+            if any(groups.get(letter) in WORDS for letter in OF_NAMES):
+                continue
+            if all(holds(syntax, groups, len(right.group().split())) for holds in proofs):
+                return re.sub(r"<([a-z])>", lambda found: groups.get(found.group(1)) or "", sentence)
     return None
+
+
+def what_it_is(text):
+    """What a text is that is no application, by its beginning; or None."""
+    beginning = " ".join(token.text for token in list(tokens_of(text))[:2])
+    return next((sentence for _, at, sentence in OTHER_TEXTS if re.match(at, beginning)), None)

@@ -30,8 +30,10 @@ def behind(syntax, count=1):
 
 def named_otherwise(syntax, found):
     """An option by the name that another system has for it."""
-    option = option_of(syntax.token.text) if syntax.token.kind in ("name", "word") else None
+    option, token = option_of(syntax.token.text) if syntax.token.kind in ("name", "word") else None, syntax.token
     if option not in found or ")" not in found or behind(syntax) != "=":
+        return None
+    if not syntax.trials.is_further(token.at, token.end, option):
         return None
     return f"`{syntax.token.text}` is `{option}` here: `{option} = ..`"
 
@@ -100,7 +102,7 @@ def no_item(syntax, found):
 def lone_block(syntax, found):
     """A block where a statement begins."""
     if syntax.token.text == "{" and "let" in found:
-        return "no block stands alone: it is that of an `if`, a `for` or a `lock`"
+        return "no block stands alone: it is that of an `if`, an `else`, a `for` or a `lock`"
     return None
 
 

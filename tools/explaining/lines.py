@@ -1,12 +1,12 @@
 """`--all`: the refused lines of a script, limits or a trace behind the first one."""
 import re
 
-LINE_REFUSAL = re.compile(r"(script|trace|limits|image):(\d+) (\d) ([^\n]*)\n")
+LINE_REFUSAL = re.compile(r"(script|board|trace|limits|image):(\d+) (\d) ([^\n]*)\n")
 MOST = 100
 # a line of no form at the end: no script is run while there are others, and no trace is judged
 LAST = "?"
 COMMENT = "#"
-ENDING = {("script", 1), ("script", 4), ("trace", 1), ("limits", 1)}
+ENDING = {("script", 1), ("script", 4), ("board", 1), ("trace", 1), ("limits", 1)}
 
 
 def refused_lines(program, words, place, text):

@@ -6,7 +6,7 @@ import stat
 import subprocess
 import traceback
 
-from . import audits, every, forms, images, limits, scripts, words as wording
+from . import audits, boards, every, forms, images, limits, pages, scripts, words as wording
 from .lines import LINE_REFUSAL, refused_lines
 from .refusals import NOT_ASKED, REFUSAL, Refusal, Telling
 from .report import Report, shown
@@ -29,6 +29,7 @@ class Explained:
 
     def __init__(self, program, words, is_all):
         self.program, self.words, self.is_all = program, words, is_all
+        self.is_beside = wording.is_of_beside(words)
         self.names = [shown(name) for name in words[1:]]
         files = wording.files_of(words)
         self.paths = [self.kept(number, name) for number, name in enumerate(files)]
@@ -70,14 +71,18 @@ class Explained:
             self.refused(Refusal(self.text(1 if found[1] else 0), found))
         elif status == USAGE:
             self.command_line()
+            self.page(pages.COMMANDS)
         elif status == BAD_LINE and (found := LINE_REFUSAL.match(front.decode("latin-1"))):
             self.bad_lines(found[1], int(found[2]), int(found[3]), found[4])
         elif status == NO and self.words[0] == "verify":
             self.broken_rule(int(front[3:]))
+            self.page(pages.VERIFY)
         elif status == NO and front.startswith(b"no "):
             self.wrong_item(int(front[3:]))
+            self.page(pages.AUDITS)
         elif status == NO and front == b"no\n":
             self.other_form()
+            self.page(pages.OF_FORMS[self.words[0]])
         elif status == UNREAD:
             self.report.line(shown(wording.of_files(wording.files_of(self.words))))
 
@@ -85,7 +90,8 @@ class Explained:
 
     def command_line(self):
         """The words with a caret under the wrong one."""
-        words = ["rtic"] + [shown(word) for word in self.words]
+        words = [shown(word) for word in self.words]
+        words = words[0].split(" ") + words[1:] if self.is_beside else ["rtic"] + words
         wrong = wording.wrong_word(self.words) + 1
         self.report.line(" ".join(words))
         start = len(" ".join(words[:wrong])) + 1
@@ -150,8 +156,8 @@ class Explained:
 
     def bad_lines(self, which, line, number, words):
         """A refused line, or with `--all` each."""
-        place = {"verify": 0, "pair": 2}.get(self.words[0], 1)
-        if not self.is_all or which == "image" or not self.program.answers:
+        place = {"verify": 0, "pair": 2}.get(self.words[0], 2 if self.is_beside and which != "board" else 1)
+        if not self.is_all or which == "image" or self.is_beside or not self.program.answers:
             return self.bad_line(which, line, number, words, place)
         found = list(refused_lines(self.program, self.handed, place, self.text(place)))
         for line, number, words in found:
@@ -164,6 +170,10 @@ class Explained:
         if which == "image":
             text = self.text(0)
             said = images.image_line(number, lines, line, text[:FRONT], text.endswith("\n"), size, self.table)
+        elif which == "board":
+            said = boards.board_line(tree_of(self.text(0)), number, source, lines, size, self.table)
+        elif said := self.beside_board(which, number, source):
+            pass
         elif which == "script":
             said = scripts.script_line(tree_of(self.text(0)), number, source, lines, size, self.table)
         elif which == "limits":
@@ -173,6 +183,18 @@ class Explained:
         self.report.head(self.names[place], line, said.start + 1, f"{which} {number} {words}")
         self.report.rows([(line, source)], said.start, said.length, "")
         self.report.sentences([("cause", said.cause)] + [("help", one) for one in said.helps])
+        self.page(pages.OF_LINES[which])
+
+    def page(self, section):
+        """The section of the documents that says more."""
+        self.report.say("page", pages.named(section))
+
+    def beside_board(self, which, number, source):
+        """What is said of a line that is one beside a board alone, or None."""
+        if not self.is_beside:
+            return None
+        of_line = boards.given_line if which == "script" else boards.shown_line
+        return of_line(tree_of(self.text(0)), self.text(1).splitlines(), number, source, self.table)
 
     def broken_rule(self, number):
         """The least rule that an image breaks, and where."""
@@ -208,6 +230,8 @@ class Explained:
 
     def wrong_item(self, number):
         """The item that is the first wrong one, and what `audit` takes in its place."""
+        if self.is_beside:
+            return self.wrong_line(number)
         wrong, report = number - 1, self.report
         trace = audits.Trace(self.paths[1], wrong)
         in_total = wrong == len(trace.items)
@@ -224,6 +248,22 @@ class Explained:
         asked = audits.Asked(app, audits.Audit(self.program, self.paths[0], trace, wrong), trace, wrong, self.bound())
         return self.report.sentences(audits.told_total(asked) if in_total else audits.told_item(asked))
 
+    def wrong_line(self, number):
+        """The line that is the first wrong one of a trace beside devices, and the input that is due there, if any."""
+        wrong, report = number - 1, self.report
+        trace = audits.Trace(self.paths[2], wrong)
+        right = [line for _, line in trace.items[:wrong]]
+        due = boards.due_input(tree_of(self.text(0)), self.text(1).splitlines(), right)
+        if wrong < len(trace.items):
+            at, label = trace.items[wrong][0], f"line {number} of the trace is the first that is wrong"
+        else:
+            at = trace.total[0] if trace.total else len(trace.lines)
+            label = f"all {wrong} lines are right, and what comes behind them is not"
+        report.head(self.names[2], at, 1, f"no {number}")
+        lines = [(one, trace.lines[one - 1]) for one in range(max(at - 1, 1), at + 1)]
+        report.rows(lines, 0, len(lines[-1][1]), label)
+        return report.say("cause", due) if due else None
+
     def bound(self):
         """The stack bound, as `check` prints it."""
         _, output = self.program.ask("check", self.paths[0])
@@ -233,7 +273,7 @@ class Explained:
 
 def explained_call(program, words):
     """Runs the words, and answers the program's status and the report of what more is said."""
-    explained = Explained(program, *wording.without_all(words))
+    explained = Explained(program, *wording.without_all(wording.joined(words)))
     status, front = program.run(explained.handed)
     try:
         explained.explain(status, front)

@@ -5,6 +5,7 @@ from .tokens import place_of
 
 BEGINS = r"(?:let|if|for|lock|emit|pend|spawn|spawn_after|cancel|reschedule_after|\}|\w+ =(?!=))"
 COMMENT = "a comment begins with `//` and ends with its line"
+PROSE = "no statement and no declaration is a sentence of words; if this is a comment, it begins with `//`"
 LISTS = ("shared", "local", "dispatchers")
 AFTER_LIST = ("binds", "priority", "capacity", "shared", "local", "bits", "fpu", "with")
 OPTIONS = ("binds", "priority", "capacity", "shared", "local", "dispatchers", "fpu")
@@ -13,6 +14,10 @@ CLOSED = {"{": "}", "(": ")", "[": "]"}
 STATEMENTS = "`let`, `if`, `for`, `lock`, `emit`, `pend` or a spawn"
 ENDS = (";", "{", "}", ",", "[", "(")
 WORDS_OF_PROSE = 3
+TYPES = (
+    "int", "unsigned", "let", "mut", "var", "static", "const", "bool", "u8", "u16", "u32", "i32", "volatile", "pub",
+    "and", "the", "a", "an", "uint32_t", "irq", "IRQ", "interrupt", "resource",
+)
 DIGITS = str.maketrans("lIOo", "1100")
 OPERATORS = ("|", "^", "&", "<<", ">>", "+", "-", "*", "/", "%", "==", "!=", "<", "<=", ">", ">=")
 
@@ -41,6 +46,8 @@ def unclosed_list(syntax, found):
     if last.kind != "name":
         return None
     sign = "])" if token.text in ("{", ";", "with") else "]" if has_comma or token.text == ")" else "],"
+    if not syntax.trials.is_further(last.end, last.end, sign):
+        return None
     return f"the list of `{name}` is not closed: write `{sign}` after `{last.text}`"
 
 
@@ -49,6 +56,8 @@ def stroke(syntax, found):
     before = syntax.front[-1].text if syntax.front else ";"
     starts_line = not syntax.text[syntax.text.rfind("\n", 0, syntax.at) + 1 : syntax.at].strip()
     doubled = syntax.text.startswith(("--", "/*", "<!--"), syntax.at)
+    if re.match(r"--\w+ *;", syntax.text[syntax.at :]):
+        return None
     if syntax.token.text == "/" or doubled:
         if before in ENDS or starts_line and before == ")":
             return COMMENT
@@ -86,7 +95,8 @@ def unnamed_option(syntax, found):
 
 def no_comma(syntax, found):
     """An option directly after another one."""
-    if {",", ")"} <= found and syntax.token.text in OPTIONS and syntax.front[-1].text != ",":
+    is_two = {",", ")"} <= found and syntax.token.text in OPTIONS and syntax.front[-1].text != ","
+    if is_two and syntax.trials.is_further(syntax.at, syntax.at, ","):
         return f"a `,` comes between two options: write one after `{syntax.front[-1].text}`"
     return None
 
@@ -96,9 +106,17 @@ def typed(syntax, found):
     behind = syntax.rest[1].text if len(syntax.rest) > 1 else ""
     is_row = found == {"="} and syntax.token.kind == "name" and behind == "="
     if is_row and syntax.front[-2].text in ("{", ",", "lock_free"):
-        if not syntax.in_body:
-            return f"a row is `{syntax.token.text} = ..`, with one name: leave `{syntax.front[-1].text}` out"
+        if not syntax.in_body and syntax.trials.is_further(syntax.front[-1].at, syntax.front[-1].end, ""):
+            return one_name(syntax.front[-1], syntax.token)
     return None
+
+
+def one_name(first, second):
+    """What is said of two names of a row, of which one is a type or a word, or which are one name."""
+    if first.text in TYPES or first.text == second.text:
+        return f"a row is `{second.text} = ..`, with one name: leave `{first.text}` out"
+    joined = f"`{first.text}{second.text}` or `{first.text}_{second.text}`"
+    return f"a row has one name, without a blank in it: write {joined}, or leave one of the two out"
 
 
 def other_end(syntax, found):
@@ -119,7 +137,8 @@ def other_end(syntax, found):
 def no_operand(syntax, found):
     """An operator where an expression begins."""
     before = syntax.front[-1].text if syntax.front else ""
-    if syntax.token.text in OPERATORS and before in ("emit", "=", "(", ",", "if") and "a number" in found:
+    begins = ("emit", "=", "(", ",", "if", *OPERATORS)
+    if syntax.token.text in OPERATORS and before in begins and "a number" in found:
         return left_out(syntax, found)
     return None
 
@@ -155,11 +174,22 @@ def no_statement(syntax, found):
         return None
     name, first = syntax.front[-1].text, syntax.front[-2].text if len(syntax.front) > 1 else ""
     if not syntax.in_body or first not in (";", "{", "}"):
-        return "write `=` here" if syntax.token.kind in ("sign", "foreign") else None
+        is_sign = syntax.token.kind in ("sign", "foreign")
+        return "write `=` here" if is_sign and syntax.trials.reads_on(syntax.at, sign_end(syntax), "=") else None
     if syntax.begins_unknown and syntax.token.text not in OPERATORS:
         return f"no statement begins with `{name}`: one begins with {STATEMENTS}, or assigns"
     told = "no body has a value: " if syntax.token.text in OPERATORS else ""
     return f"{told}a statement is `{name} = ..;`, or begins with {STATEMENTS}"
+
+
+def sign_end(syntax):
+    """Where the signs end that begin at the place without a blank between them, as `<-`; names and numbers are none."""
+    end = syntax.token.end
+    for token in syntax.rest[1:]:
+        if token.at != end or token.kind not in ("sign", "foreign") or token.text in CLOSED:
+            break
+        end = token.end
+    return end
 
 
 def ended_early(syntax, found):
@@ -191,6 +221,18 @@ def no_operator(syntax, found):
         return None
     return (f"an operator or a sign is missing between `{last.text}` and `{syntax.token.text}`, "
             "or one of them is too much")
+
+
+def uncalled(syntax, found):
+    """Parentheses directly behind a value, of which nobody knows whether a sign is missing."""
+    last = syntax.front[-1] if syntax.front else None
+    if syntax.token.text != "(" or not {"+"} <= found or last is None or last.kind not in ("name", "number"):
+        return None
+    if syntax.rest[1:2] and syntax.rest[1].text == ")":
+        told = "leave `()` out" if last.kind == "name" else "`()` is too much, or a value is missing in it"
+        return f"`{last.text}` is a number and no function: {told}"
+    return (f"`{last.text}` is a number and no function: an operator is missing before the `(`, or the parentheses are "
+            "too much")
 
 
 def unopened(syntax, found):
@@ -247,7 +289,9 @@ def line_of(syntax):
 def pasted(syntax, found):
     """What comes along where a line is pasted: its number, or the prompt of a terminal."""
     line, is_first = line_of(syntax)
-    if is_first and re.match(r"\s*\d+ ?([:.|)]|\s)\s*[A-Za-z}{\[/]", line):
+    if syntax.depth and not syntax.in_body:
+        return None
+    if is_first and re.match(r"\s*\d+ ?([:|)]\s*|\.?\s+)[A-Za-z}{\[/]", line):
         return f"this looks like the number of a line: take `{line.split()[0]}` out"
     if is_first and re.match(r"\s*[$%>] ?\S+ \S+ ?\S*\s*$", line) and "=" not in line:
         return "this looks like a line of a terminal: take it out"
@@ -255,7 +299,8 @@ def pasted(syntax, found):
 
 
 def prose(syntax, found):
-    """A line of words without signs, where a declaration or a statement is due: a comment that has no mark."""
+    """A line of words without signs, where a declaration or a statement is due: a comment that has no mark, or what is
+    said in words that the language does not have."""
     at = syntax.at
     if "task" in found and re.match(r"\{[^;={}()]*[A-Za-z][^;={}()]*\}|\(\*", syntax.text[at:]):
         return COMMENT
@@ -267,7 +312,7 @@ def prose(syntax, found):
     line = syntax.text[at:].split("\n", 1)[0].strip("; \t\r").removesuffix("//").strip()
     if syntax.text[start:at].strip() or not re.fullmatch(r"[A-Za-z][A-Za-z0-9 ,.'-]*", line):
         return None
-    return COMMENT if len(re.findall(r"[A-Za-z]+", line)) >= WORDS_OF_PROSE else None
+    return PROSE if len(re.findall(r"[A-Za-z]+", line)) >= WORDS_OF_PROSE else None
 
 
 def in_brackets(syntax, found):

@@ -21,6 +21,8 @@ ANY = None
 MOST_WORDS, NEARLY, FEW = 8, 0.7, 3
 EXACT, CLEANED, NEAR, OTHER_ORDER, LEFT_OUT, PUT_IN = 0, 1, 2, 2, 1, 3
 TOO_FAR = 6
+# a number with a sign, a moment, and a time, of which nobody knows how many steps it is
+SENSELESS = re.compile(r"-\d|\b(?:at|after|from|until) \d|\d ?(?:[num]?s|secs?|seconds?|milli\w*|micros?|minutes?)\b")
 
 
 def plain(word):
@@ -72,10 +74,11 @@ def filled(slots, words, in_order=True):
     return min(found, key=lambda one: one[1], default=None)
 
 
-def readings(words, own):
+def readings(words, own, of_forms):
     """The words, and the words without those that say nothing: each with what it leaves out. A word of the forms, or a
-    name, says something, but where it comes twice."""
-    idle = [place for place, word in enumerate(words) if word in SIGNS or word == words[place - 1] and place
+    name, says something, but where a word of the forms comes twice."""
+    idle = [place for place, word in enumerate(words) if word in SIGNS
+            or place and word == words[place - 1] and word in of_forms
             or word.lower() in IDLE and (word not in own or word in words[:place])]
     for count in range(len(idle) + 1):
         for left in itertools.combinations(idle, count):
@@ -84,16 +87,16 @@ def readings(words, own):
 
 def line_of(source, forms, names):
     """The line of one of the forms that was meant by a line, or None; `names` are those of each letter of a form that
-    is no number's. A number with a sign and a moment are told by no form."""
+    is no number's. A number with a sign, a moment and a time are told by no form."""
     forms = list(forms)
     found, own = {}, {word for form in forms for word in form.split(" ") if not word.isupper()}
     words = WORD.findall(re.sub(rf"\b({'|'.join(map(re.escape, own))})(?=\d)", r"\1 ", source))
-    if not 0 < len(words) <= MOST_WORDS or re.search(r"-\d|\b(?:at|after|from|until) \d", source):
+    if not 0 < len(words) <= MOST_WORDS or SENSELESS.search(source):
         return None
     said = own.union(*(some for some in names.values() if some is not ANY))
     for form in forms:
         slots = [Slot(letter, names) for letter in form.split(" ")]
-        for some, cost in readings(words, said):
+        for some, cost in readings(words, said, own):
             made = filled(slots, some) if abs(len(some) - len(slots)) < FEW else None
             if made and made[1] + cost < TOO_FAR:
                 line = " ".join(made[0])

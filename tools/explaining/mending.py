@@ -1,7 +1,8 @@
 """One slip of the hand put right: changes at the place of an E03 that the program itself tries.
 
-A change is told only where the program then takes the text, or reads on as far as another declaration or task. So what
-is told is true of the text, whether or not it is what was meant: where two changes are as likely, both are told.
+A change is told only where the program then takes the text, or reads on as far as another declaration or task, and
+where nothing is lost with it that says something: a sign, a word that comes twice, or one that the text has nowhere
+else. Of changes that go as far two are told, and of more none.
 """
 import functools
 import re
@@ -9,19 +10,22 @@ from dataclasses import dataclass
 
 from .expected import END, NAME, NUMBER
 from .pieces import pieces_of
-from .tokens import SIGNS, WORDS, offset_of, tokens_of
+from .tokens import SIGNS, WORDS, nearest, offset_of, tokens_of
 
 PUT = [";", ",", ")", "]", "}", "{", "=", "(", "["]
 # a sign that is often typed for another one
 LIKE = {
-    ";": [",", ":"], ",": [";"], "=": ["=="], "==": ["="], "(": ["[", "{"], ")": ["]", "}"], "[": ["(", "{"],
+    ";": [",", ":"], ",": [";"], "=": ["=="], "==": ["="], "(": ["[", "{"], ")": ["]", "}", "("], "[": ["(", "{"],
     "]": [")", "}"], "{": ["(", "["], "}": [")", "]"], "..": [","], "*": ["&"], "-": ["="], "+": ["="],
     ":": ["=", ";", ","], ".": [",", ";", ".."], "\\": ["/"], "#": [],
 }
 CLOSED = {"{": "}", "(": ")", "[": "]"}
 ENDS = (";", "{", "}")
 BEGINS = ("let", "if", "for", "lock", "emit", "pend", "spawn", "spawn_after", "cancel", "reschedule_after")
+VALUE_SIGNS = ("+", "-", "*", "/", "%", "&", "|", "^", "<<", ">>", "==", "!=", "<", "<=", ">", ">=")
 RUN, AHEAD, FEW = 6, 8, 3
+# how alike a name is to a word that is due, with which it does not count as one too many
+ALIKE = 0.6
 # how far a change goes: a sign put in, two tokens that change places, a sign for another one; a sign taken out; more
 LITTLE, MORE, MUCH = 1, 2, 3
 TAKEN, ELSEWHERE, REFUSED_THEN, READ_ON = 0, 1, 2, 3
@@ -98,10 +102,19 @@ def taken_out(syntax, found):
         yield Change("with this `{` and its `}` taken out", syntax.at, close.end, inner, LITTLE)
 
 
+def is_value_alone(syntax, found):
+    """Whether a statement of a body is a value, or an equal sign is in one: more than a sign may be missing."""
+    if "+" in found and syntax.token.text == "=":
+        return True
+    return found == {"="} and syntax.in_body and syntax.token.text in VALUE_SIGNS and (
+        len(syntax.front) > 1 and syntax.front[-2].text in ENDS)
+
+
 def in_place(syntax, found):
     """A sign for the one at the place, and for the one that closes it; or for the one before the place."""
     token, rest = syntax.token, syntax.rest
-    for sign in [sign for sign in SIGNS if sign in found and token.kind in ("sign", "foreign")]:
+    signs = [] if is_value_alone(syntax, found) else SIGNS
+    for sign in [sign for sign in signs if sign in found and token.kind in ("sign", "foreign")]:
         cost = LITTLE if sign in LIKE.get(token.text, []) else MUCH
         yield Change(f"with `{sign}` in place of `{token.text}`", syntax.at, token.end, f"{sign} ", cost)
         close = closing(rest) if sign in CLOSED and token.text in CLOSED else None
@@ -160,6 +173,9 @@ def begun(syntax, found):
         return
     first, rest = syntax.front[-1], syntax.rest[: AHEAD + 1]
     last = next((number for number, token in enumerate(rest) if token.text in ENDS), len(rest))
+    is_alone = syntax.token.text in (";", "}") and first.text not in syntax.named.interrupts
+    if is_alone or is_value_alone(syntax, found) and [token.text for token in rest[last : last + 1]] != ["{"]:
+        return
     word = next((token for token in rest[:last] if token.text in BEGINS), None)
     if word:
         put = f"{word.text} {syntax.text[first.at : word.at]}"
@@ -180,6 +196,34 @@ def place_in(text, output):
     return offset_of(text, int(found[1]), int(found[2])), int(found[1]), found[3]
 
 
+def is_idle(token, syntax, found):
+    """Whether a token says nothing: a sign, what comes twice, or a name that is nowhere else and is like no word that
+    is due."""
+    others = [one for one in syntax.front + syntax.rest if one.text == token.text and one.at != token.at]
+    if token.kind in ("sign", "foreign"):
+        return True
+    beside = [one for one in (syntax.front[-1:] + syntax.rest[:2]) if one.at != token.at]
+    if any(one.text == token.text for one in beside):
+        return True
+    if token.kind != "name":
+        return token.kind == "number" and any(one.kind == "number" for one in beside) or token.text in ("in", "with")
+    words = [word for word in found if word in WORDS]
+    return not others and not nearest(token.text.lower(), words, ALIKE) and not any(
+        token.text.startswith(word) for word in words)
+
+
+def loses_nothing(row, verdict, syntax, found):
+    """Whether a change takes out only what says nothing; or one word, without which the program takes the text."""
+    if row.put or row.start == row.stop:
+        return True
+    taken = [token for token in syntax.front[-1:] + syntax.rest[:RUN] if row.start <= token.at < row.stop]
+    if len(taken) > 1 and any(token.text in VALUE_SIGNS for token in taken):
+        return False
+    if verdict == TAKEN and [token.kind for token in taken] == ["word"]:
+        return True
+    return all(is_idle(token, syntax, found) for token in taken)
+
+
 def judged(program, syntax, rows):
     """Each change with the verdict of the program, and what is to be said of it: those that the program takes, or reads
     on behind."""
@@ -190,7 +234,8 @@ def judged(program, syntax, rows):
             status, output = program.ask("check", program.file("mended", text))
             told = "" if status == 0 else refused_then(syntax, text, output)
             verdict = TAKEN if status == 0 else REFUSED_THEN if told else ELSEWHERE
-            yield row, verdict, f"the whole text is read{told}"
+            if told is not None:
+                yield row, verdict, f"the whole text is read{told}"
         else:
             at, line, _ = place_in(text, output)
             if at > stop + len(text) - len(syntax.text):
@@ -202,6 +247,8 @@ def refused_then(syntax, text, output):
     at, line, words = place_in(text, output)
     piece = next(piece for piece in reversed(pieces_of(text)) if piece.start <= at)
     is_near = piece.start <= syntax.at < piece.stop or words.startswith("E05")
+    if is_near and at <= syntax.at:
+        return None
     return f", and then line {line} is refused: {words}" * is_near
 
 
@@ -215,7 +262,8 @@ class Mending:
     def rows(self):
         """The changes that the program takes or reads on behind, the best first."""
         tried = judged(self.program, self.syntax, changes(self.syntax, self.found))
-        return sorted(tried, key=lambda row: (row[1], row[0].cost))
+        kept = (row for row in tried if loses_nothing(row[0], row[1], self.syntax, self.found))
+        return sorted(kept, key=lambda row: (row[1], row[0].cost))
 
     def slip(self, syntax, found):
         """What is said of a change that goes little far and that the program takes, or of two; where it takes none, of
@@ -225,21 +273,17 @@ class Mending:
         least = [row for row in likely if row[0].cost == likely[0][0].cost]
         if syntax.token.text in (",", ";") and any(row.is_plain for row, _, _ in least):
             least = [row for row in least if row[0].is_plain]
-        if not least or len(least) > 2:
-            return None
-        others = [row.told for row, _, _ in least[1:] if tokens_in(row, syntax) != tokens_in(least[0][0], syntax)]
-        return f"{least[0][0].told}{f', or {others[0]},' if others else ''} {least[0][2]}"
+        return told_of(least, syntax)
 
     def whole(self, syntax, found):
         """What is said of the best change with which the program takes the text."""
-        return f"{self.rows[0][0].told} {self.rows[0][2]}" if self.rows and self.rows[0][1] <= ELSEWHERE else None
+        return told_of([row for row in self.rows if row[1] == TAKEN and row[0].cost == self.rows[0][0].cost], syntax)
 
     def rest(self, syntax, found):
-        """What is said of the best change; where the text is refused then, only of a sign more or less."""
-        most = MORE if "+" in found else MUCH + 1
+        """What is said of the best changes; where the text is refused then, only of a sign more or less."""
         rows = [row for row in self.rows
-                if row[1] <= ELSEWHERE and row[0].cost <= most or row[0].is_plain and row[0].cost == LITTLE]
-        return f"{rows[0][0].told} {rows[0][2]}" if rows else None
+                if row[1] <= ELSEWHERE and row[0].cost <= MORE or row[0].is_plain and row[0].cost == LITTLE]
+        return told_of([row for row in rows if (row[1], row[0].cost) == (rows[0][1], rows[0][0].cost)], syntax)
 
     def takes_without(self, token):
         """Whether the program takes the text without the token before the place."""
@@ -250,10 +294,27 @@ class Mending:
         return any(row.start == self.syntax.at and not row.put and row.stop == self.syntax.token.end
                    and verdict == TAKEN for row, verdict, _ in self.rows)
 
+    def takes_other(self):
+        """Whether the program takes the text with another sign at the place."""
+        return any(row.start == self.syntax.at and row.put and row.stop > row.start and row.cost == LITTLE
+                   and verdict == TAKEN for row, verdict, _ in self.rows)
+
     def takes(self, text, most=READ_ON):
         """Whether the program reads on with a sign put before the place, or does no worse than this."""
         return any(row.put.strip() == text and row.start == row.stop and verdict <= most
                    for row, verdict, _ in self.rows)
+
+
+def told_of(rows, syntax):
+    """What is said of changes that go as far: of one or of two; of more that make other texts, and of none, nothing."""
+    texts = []
+    for row in rows:
+        if tokens_in(row[0], syntax) not in [text for text, _ in texts]:
+            texts.append((tokens_in(row[0], syntax), row))
+    if not 0 < len(texts) <= 2:
+        return None
+    first, others = texts[0][1], [row[0].told for _, row in texts[1:]]
+    return f"{first[0].told}{f', or {others[0]},' if others else ''} {first[2]}"
 
 
 def tokens_in(row, syntax):

@@ -6,12 +6,15 @@ import subprocess
 import tempfile
 import time
 
+from .words import is_of_beside
+
 ROOT = pathlib.Path(__file__).resolve().parents[2]
 LAUNCHER = ROOT / "rtic"
-BUILT = ROOT / "crates" / "rtic" / "out" / "rtic"
 KEPT = 4096
 ASKS_AT_ONCE = 4
 WRITE_FAILED = 6
+# the second program, where it is called by name, and what names another one
+BESIDE, OTHER_BESIDE = ROOT / "rticx", "RTICX"
 
 
 def handed_on(piece):
@@ -35,12 +38,14 @@ def newest_source():
     return newest
 
 
-def asked_program():
-    """The program that answers at once: that of RTIC, or the proved one where it is built and no source is newer."""
-    if os.environ.get("RTIC"):
-        return os.environ["RTIC"]
-    if os.access(BUILT, os.X_OK) and newest_source() <= BUILT.stat().st_mtime:
-        return str(BUILT)
+def asked_program(name="rtic"):
+    """The program that answers at once: that of RTIC, or of RTICX for the second one, or the proved one where it is
+    built and no source is newer."""
+    if os.environ.get(name.upper()):
+        return os.environ[name.upper()]
+    built = ROOT / "crates" / name / "out" / name
+    if os.access(built, os.X_OK) and newest_source() <= built.stat().st_mtime:
+        return str(built)
     return None
 
 
@@ -57,10 +62,13 @@ class Program:
         """Runs the words, hands the bytes on, and answers the status and a beginning of the bytes."""
         environment = dict(os.environ, RTIC_EXPLAINED="1")
         begun = time.monotonic()
+        path = self.path
+        if is_of_beside(words):
+            path, words = os.environ.get(OTHER_BESIDE) or str(BESIDE), words[0].split(" ")[1:] + words[1:]
         try:
-            child = subprocess.Popen([self.path] + words, stdout=subprocess.PIPE, env=environment)
+            child = subprocess.Popen([path] + words, stdout=subprocess.PIPE, env=environment)
         except OSError as fault:
-            raise SystemExit(f"tools/explain: {self.path}: {fault.strerror}") from None
+            raise SystemExit(f"tools/explain: {path}: {fault.strerror}") from None
         front, failed = b"", False
         while not failed and (piece := os.read(child.stdout.fileno(), 1 << 16)):
             front += piece[: KEPT - len(front)]

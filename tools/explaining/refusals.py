@@ -1,7 +1,7 @@
 """Status 1: what is said of one refusal of an application's text."""
 import re
 
-from . import texts
+from . import pages, texts
 from .expected import may_stand, met, told
 from .rules import Rules
 from .tokens import offset_of
@@ -42,11 +42,11 @@ class Telling:
             self.report.picture(text, at, 1)
             self.report.sentences([("cause", cause), ("help", mending)])
         elif number == 2:
-            label, mending, length = texts.foreign(texts.Syntax(text, at), self.program, self.table)
+            label, mending, length = texts.foreign(texts.Syntax(text, at, self.program), self.program, self.table)
             self.report.picture(text, at, length, label)
             self.report.say("help", mending)
         elif number == 3:
-            self.syntax(texts.Syntax(text, at))
+            self.syntax(texts.Syntax(text, at, self.program))
         elif number == 4:
             syntax = texts.Syntax(text, at)
             self.report.picture(text, at, len(syntax.token.text))
@@ -54,6 +54,12 @@ class Telling:
             self.report.sentences([("cause", cause), ("help", mending)])
         else:
             self.rule(text, at, number)
+        self.page(text, at, number)
+
+    def page(self, text, at, number):
+        """The section of the documents that says what the refusal is about."""
+        in_body = number in (2, 3) and texts.Syntax(text, at).in_body
+        self.report.say("page", pages.named(pages.of_refusal(number, in_body)))
 
     def syntax(self, syntax):
         """What may come there, what is there, and how to mend it."""
@@ -69,8 +75,23 @@ class Telling:
         if not self.program.answers:
             self.report.say("note", NOT_ASKED)
 
+    def stands_for(self, text, at):
+        """Whether the program goes on behind the name at a place with another one there, or refuses that for another
+        reason; or None, where no program answers."""
+        if not self.program.answers:
+            return None
+        token = texts.Syntax(text, at).token
+
+        def stands(name):
+            made = f"{text[: token.at]}{name}{text[token.end :]}"
+            status, output = self.program.ask("check", self.program.file("named", made))
+            refusal = refusal_of(made, output)
+            return status == 0 or refusal is not None and (refusal.at > at or refusal.at == at and refusal.number != 5)
+
+        return stands
+
     def rule(self, text, at, number):
-        rules = Rules(tree_of(text), at)
+        rules = Rules(tree_of(text), at, self.stands_for(text, at))
         syntax = texts.Syntax(text, at)
         self.report.picture(text, at, len(syntax.token.text))
         getattr(rules, f"e{number:02}")(self.table)

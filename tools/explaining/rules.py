@@ -3,7 +3,7 @@ import re
 
 from .costs import MOST_CODE, MOST_STEPS, Costs, armed_tasks, sizes_before
 from .table import Phrase
-from .tokens import Token, nearest
+from .tokens import Token, all_near
 from .tree import CALLS, Call
 from .walk import Round, statements_of, uses_of, value_uses
 
@@ -34,9 +34,10 @@ def counted(number, one, many=None):
 class Rules:
     """One application of the grammar, and the place at which it is refused."""
 
-    def __init__(self, app, at):
+    def __init__(self, app, at, stands=None):
         self.app = app
         self.at = at
+        self.stands = stands
         self.causes = []
         self.notes = []
         self.helps = []
@@ -144,7 +145,7 @@ class Rules:
             rows = [(name.text, "argument") for name in body.arguments] + [(name.text, "local") for name in body.local]
             rows += [(row.name.text, "resource") for row in body.shared]
             rows += [(one.token.text, "variable") for one in uses_of(body) if one.role == "bind"]
-            left = [row for row in rows if row[0] not in used]
+            left = [row for row in rows if row[0] not in used and (self.stands is None or self.stands(row[0]))]
             if len(left) == 1:
                 self.help(f"the {left[0][1]} `{left[0][0]}` is not used: it may be meant")
 
@@ -193,10 +194,13 @@ class Rules:
         rows = [(other, found) for other in self.app.bodies for found in uses_of(other)
                 if found.role in ("bind", "loop", "argument") and found.token.text == name]
         own = [found for other, found in rows if other is body]
-        if not rows:
+        scoped = [one for scope in use.around.scopes for one in scope]
+        if not rows or not own and any(one.lower() == name.lower() for one in scoped):
             return False
         before = [found for found in own if found.token.at < self.at and self.closed(found)]
         key = "E05 ended" if before else "E05 later" if own else "E05 elsewhere"
+        if key == "E05 later" and own[0].role == "bind" and own[0].token.at < self.at:
+            key = "E05 itself"
         if before and before[-1].role == "loop":
             key = "E05 ended loop"
         self.row(table, key, N=name)
@@ -269,13 +273,13 @@ class Rules:
             return self.help(f"an interrupt is named as it is declared: `{bare}`")
         variables = [one for scope in use.around.scopes for one in scope] if use and wanted == "value" else []
         same = next((one for one in names + variables if one.lower() == name.lower()), None)
-        near = nearest(name, names + variables, 0.7)
-        if same:
+        near = [one for one in all_near(name, names + variables, 0.7) if self.stands is None or self.stands(one)]
+        if same and (self.stands is None or self.stands(same)):
             told = "is declared" if same in names else "is a variable here"
-            self.help(f"small letters and capitals are told apart: `{same}` {told}")
-        elif near:
-            kind = KINDS["variable"] if near not in names else "a resource" if wanted == "value" else KINDS[wanted]
-            self.help(f"{kind} of a similar name is `{near}`")
+            return self.help(f"small letters and capitals are told apart: `{same}` {told}")
+        for one in near[:2]:
+            kind = KINDS["variable"] if one not in names else "a resource" if wanted == "value" else KINDS[wanted]
+            self.help(f"{kind} of a similar name is `{one}`")
         return None
 
     def e06(self, table):
@@ -307,6 +311,8 @@ class Rules:
         elif use.role == "bind" and isinstance(use.node.value, (Call, Token)):
             word = use.node.value.word if isinstance(use.node.value, Call) else use.node.value
             self.row(table, "E06 answer", N=name, C=word.text)
+        elif any(one.role == "loop" and one.token.text == name for one in uses_of(body)):
+            self.row(table, "E06 loop", N=name)
         else:
             self.row(table, "E06 variable", N=name)
         first = taken[0][1] if taken else use.around.variable(name)[0]

@@ -15,11 +15,16 @@ MEANING = {"take": ", with the bytes of stack in use after the entry", "enter": 
 UNITS = "a number has no unit: `step` counts core steps, and `tick` ticks of the timer"
 HASH = "a comment begins with `#`, and has a line of its own"
 EVENTS, SCRIPT_BYTES, LARGEST = 1_000_000, 1_048_576, 4_294_967_295
+MOST_DIGITS = 9
 NUMERAL = re.compile(r"[0-9]+")
+UNIT = re.compile(r"(?:[num]?s|secs?|seconds?|milli\w*|micro\w*|minutes?|[kM]?[hH]z|cycles?|steps?|ticks?)")
+TIMES = ("at", "after", "when", "time", "t", "@")
 SECTION = re.compile(r"(free|ready|timer)\.")
 WORDS = ("step", "tick", "pend", "device")
 NUMBERS = ("V", "H", "DEPTH", "K")
 LINES = ("step N", "tick N", "pend I", "pend I N", "device DEVICE pend I", "device DEVICE pend I N")
+# how many of the lines name no device
+OF_THE_CORE = 4
 ROWS = ("image", "cell", "irq", "body", "code")
 
 
@@ -29,9 +34,9 @@ def plain_number(word):
     if re.fullmatch(r"0[xX][0-9a-fA-F]+", bare):
         return f"numbers are decimal: write `{int(bare, 16)}`"
     joined = re.sub(r"(?<=\d)[_,'](?=\d)", "", bare)
-    if NUMERAL.fullmatch(joined):
+    if NUMERAL.fullmatch(joined) and joined != word and len(joined) <= MOST_DIGITS:
         return f"write `{joined}`, with no other sign in it or after it"
-    return UNITS if re.fullmatch(r"\d+[A-Za-z]+", bare) else None
+    return UNITS if UNIT.fullmatch(bare.lstrip("0123456789")) and bare[0].isdigit() else None
 
 
 class Line:
@@ -63,7 +68,11 @@ def script_line(app, number, source, lines, size, table):
         said.helps = [table.mending("script 1")]
     elif number == 2:
         bad_line(app, said, words, table)
-        write(said, LINES, {"I": [row[0].text for row in app.interrupts]})
+        # a number before a name may be a moment, and one after `every` a distance
+        is_moment = NUMERAL.fullmatch(words[0] if words else "") and not set(words) & set(WORDS)
+        if not is_moment and not {"every", "each", "per"} & set(words):
+            forms = LINES if re.search("dev", source, re.IGNORECASE) else LINES[:OF_THE_CORE]
+            write(said, forms, {"I": [row[0].text for row in app.interrupts]})
     elif number == 3:
         unknown_interrupt(app, said, words[words.index("pend") + 1], table)
     elif number == 4:
@@ -116,7 +125,7 @@ def bad_line(app, said, words, table):
             said.helps = [f"write `{near}`", forms]
         elif words[0] in ("repeat", "loop", "for", "while", "times", "end", "done"):
             said.helps = ["a script has no loops: `pend I N` requests N times, and `step N` takes N steps"]
-        elif NUMERAL.fullmatch(words[0]) and words[1:] and words[1] in WORDS:
+        elif (NUMERAL.fullmatch(words[0]) or words[0].lower() in TIMES) and any(word in WORDS for word in words[1:]):
             said.helps = ["a line has no time in front: `step N` before it lets N core steps pass"]
         elif words[0].startswith(("spawn", "cancel", "reschedule", "emit")):
             said.helps = ["a script requests interrupts alone: `pend I`, and the task that binds I sends the message"]
@@ -145,6 +154,8 @@ def similar_word(word):
 def short_words(app, said, words):
     """What is wrong after the first word."""
     if words[0] in ("step", "tick"):
+        if len(words) == 3 and UNIT.fullmatch(words[2]):
+            said.helps = [UNITS]
         if len(words) != 2:
             return said.at(words[-1] if len(words) == 1 else words[2], f"`{words[0]}` wants one number after it")
         return said.at(words[1], f"`{words[1]}` is no number of one to nine digits")
@@ -155,14 +166,14 @@ def short_words(app, said, words):
             return said.at(words[-1], "a device requests an interrupt: `device D pend I`")
         words = words[2:]
     if len(words) == 1 or not re.fullmatch(r"[A-Za-z_]\w*", words[1]):
-        said.at(words[-1] if len(words) == 1 else words[1],
-                f"`pend` wants the name of an interrupt, and `{words[1] if len(words) > 1 else ''}` is none")
+        met = f", and `{words[1]}` is none" if len(words) > 1 else " after it"
+        said.at(words[-1] if len(words) == 1 else words[1], f"`pend` wants the name of an interrupt{met}")
         rows = [row[0].text for row in app.interrupts if len(words) > 1 and words[1] == str(row[1].value)]
         said.helps = [f"the interrupt of number {words[1]} is `{rows[0]}`"] if rows else []
         if len(words) == 3 and NUMERAL.fullmatch(words[1]) and re.fullmatch(r"[A-Za-z_]\w*", words[2]):
             said.helps = [f"the interrupt comes first: `pend {words[2]} {words[1]}`"]
         return ended_with_sign(said, words[1] if len(words) > 1 else "", words[2:])
-    if re.fullmatch(r"[A-Za-z_]\w*", words[2]) and words[2] not in WORDS:
+    if words[2] in [row[0].text for row in app.interrupts]:
         said.helps = ["a line requests one interrupt: write a line for each"]
     if len(words) > 3:
         return said.at(words[3], "at most one number comes after `pend I`")

@@ -13,7 +13,7 @@ def rows_of(page):
     """The rows of the table: a key, a cause, and how to mend it."""
     for line in page.splitlines():
         cells = [cell.strip().replace("\\|", "|") for cell in re.split(r"(?<!\\)\|", line)[1:-1]]
-        if len(cells) == 3 and re.match(r"(E\d\d|script|trace|limits|image|verify)\b", cells[0]):
+        if len(cells) == 3 and re.match(r"(E\d\d|script|board|trace|limits|image|verify)\b", cells[0]):
             yield cells[0], cells[1], cells[2]
 
 

@@ -2,23 +2,24 @@
 import functools
 import re
 
-from .bodies import endless, handed, no_let, other_option, outside, split_name, values_in_head
+from .bodies import endless, handed, no_let, other_option, outside, split_name, two_names, values_in_head
 from .braces import unclosed
-from .calls import Named, called, is_known, method, nearly, sent_by_sign, unknown_word
+from .calls import Named, called, delayed, is_known, method, nearly, sent_by_sign, unknown_word
 from .calls import without_handle, without_task
 from .expected import may_stand
 from .foreign import FOREIGN, FOREIGN_GUESSES
-from .habits import GLUED, GUESSES, OTHER_TEXTS, SYNTAX, VALUES, looked_up
+from .habits import GLUED, GUESSES, SYNTAX, VALUES, looked_up, what_it_is
 from .heads import lone_block, named_otherwise, no_item, outside_head, spawned_nothing, typed_values
 from .heads import without_parentheses
 from .marks import comma_for_end, cut_off, ended_early, glued, grouped, in_brackets, last_comma, left_out, lettered
 from .marks import lone_number, merge_marks, no_comma, no_operand, no_operator, no_statement, open_parentheses
-from .marks import other_end, pasted, prose, stroke, typed, unclosed_list, unnamed_option, unopened
+from .marks import other_end, pasted, prose, stroke, typed, uncalled, unclosed_list, unnamed_option, unopened
 from .mending import TAKEN, Mending
 from .pieces import pieces_of
 from .signs import is_hidden, sign_at, sign_help
 from .table import Phrase
-from .tokens import NAME, WORDS, Token, nearest, place_of, skipped_bytes, tokens_of
+from .tokens import NAME, WORDS, Token, all_near, place_of, skipped_bytes, tokens_of
+from .trials import Trials
 
 AROUND = 400
 DIGITS = 30
@@ -52,9 +53,10 @@ DECLARED = ("app", "interrupts", "monotonic", "shared", "local", "init", "idle",
 class Syntax:
     """A place in a text at which it is refused, with the tokens on both sides."""
 
-    def __init__(self, text, at):
+    def __init__(self, text, at, program=None):
         self.text = text
         self.at = at
+        self.trials = Trials(text, at, program)
         self.front = list(tokens_of(text, 0, at))
         self.token = next(tokens_of(text, at), Token("end", "", len(text)))
         self.before = " ".join(token.text for token in self.front[-AROUND:])
@@ -102,8 +104,7 @@ class Syntax:
 def too_long(text, table):
     """The cause and the mending of a text that is too long."""
     cause = table.cause("E01", A=Phrase(f"{len(text):,}"))
-    sentence = looked_up(OTHER_TEXTS, "", " ".join(token.text for token in list(tokens_of(text[:AROUND]))[:2]))
-    return cause, sentence or table.mending("E01", M=Phrase(f"{skipped_bytes(text):,}"))
+    return cause, what_it_is(text[:AROUND]) or table.mending("E01", M=Phrase(f"{skipped_bytes(text):,}"))
 
 
 def foreign(syntax, program, table):
@@ -118,12 +119,18 @@ def foreign(syntax, program, table):
 def foreign_help(sign, syntax, size, program, table):
     """How to mend a byte that no token begins with."""
     help_ = pasted(syntax, None) or sign_help(sign, syntax, size) or no_let(syntax)
-    help_ = help_ or sent_by_sign(syntax, None) or looked_up(FOREIGN, syntax.before, syntax.behind) or method(syntax)
+    if not ends_line(syntax, size):
+        help_ = help_ or sent_by_sign(syntax, None) or looked_up(FOREIGN, syntax) or method(syntax)
     if not help_ and size == 1 and program.answers:
         found = may_stand(program, syntax.text[: syntax.at]) or set()
         mending = Mending(syntax, found, program)
         help_ = mending.slip(syntax, found) or sign == ":" and mending.whole(syntax, found)
-    return help_ or looked_up(FOREIGN_GUESSES, syntax.before, syntax.behind) or table.mending("E02")
+    return help_ or looked_up(FOREIGN_GUESSES, syntax) or table.mending("E02")
+
+
+def ends_line(syntax, size):
+    """Whether a dot has a blank behind it or ends its line, so that what comes then is no method of what is before."""
+    return syntax.text[syntax.at] == "." and not syntax.text[syntax.at + size :][:1].strip()
 
 
 def syntax_help(syntax, found, program, table):
@@ -132,14 +139,15 @@ def syntax_help(syntax, found, program, table):
     ways = [*OF_CALLS, *OF_MARKS, *[habits_of(GLUED)] * syntax.is_glued, habits_of(SYNTAX)]
     ways += [*[habits_of(VALUES)] * syntax.in_body, *OF_PLACE]
     if found:
-        ways += [functools.partial(one, mending) for one in (missing, other_type, no_end, no_first)] + [mending.slip]
+        ways += [functools.partial(one, mending) for one in (missing, other_type, no_end, no_first)]
+        ways += [two_names, mending.slip]
     ways += [habits_of(GUESSES), *IN_DOUBT] + [mending.rest] * bool(found) + [*LAST]
     return next(filter(None, (way(syntax, found) for way in ways)), None)
 
 
 def habits_of(rows):
     """What the first row of a table says that fits."""
-    return lambda syntax, found: looked_up(rows, syntax.before, syntax.behind)
+    return lambda syntax, found: looked_up(rows, syntax)
 
 
 def form(syntax, found):
@@ -174,11 +182,12 @@ def misspelt(syntax, found):
     if glue := grown(syntax, name.text, words):
         return glue
     is_assigned = len(syntax.rest) > 1 and syntax.rest[1].text == "=" and is_known(syntax, syntax.token.text)
-    if found == {"="} and syntax.in_body and is_assigned:
+    if found == {"="} and syntax.in_body and is_assigned and name.text.lower() not in words:
         return None
     ratio = OF_ONE if len(found) == 1 and len(name.text) >= SHORT else OF_MANY
-    near = nearest(name.text.lower(), words, ratio)
-    return f"`{name.text}` is no word of the language: `{near}` is" if near else None
+    holds = syntax.trials.is_further if name is syntax.token else syntax.trials.reads_on
+    near = [word for word in all_near(name.text.lower(), words, ratio) if holds(name.at, name.end, word)]
+    return f"`{name.text}` is no word of the language: `{near[0]}` is" if len(near) == 1 else None
 
 
 def grown(syntax, name, words):
@@ -186,7 +195,11 @@ def grown(syntax, name, words):
     known = {*syntax.named.tasks, *syntax.named.interrupts, *syntax.named.resources}
     for word in words:
         rest = name.removeprefix(word)
-        if rest != name and (rest in known or word == "task" and NAME.fullmatch(rest) and len(rest) >= SHORT):
+        if rest == name or not NAME.fullmatch(rest):
+            continue
+        start = syntax.at if syntax.token.text == name else syntax.front[-1].at
+        is_longer = word in ("task", "with") and len(rest) >= SHORT
+        if (rest in known or is_longer) and syntax.trials.is_further(start, start + len(name), f"{word} {rest}"):
             return f"a blank comes between two words: `{word} {rest}`"
     return None
 
@@ -224,7 +237,7 @@ def missing(mending, syntax, found):
         return None
     last = syntax.front[-1]
     new_line = "\n" in syntax.text[last.end : syntax.at]
-    if not mending.takes(";") and not new_line and syntax.token.text in CALLS:
+    if not mending.takes(";") and not syntax.trials.is_further(last.end, syntax.at, ";"):
         return None
     if syntax.token.kind == "word" or syntax.token.text == "}" or new_line and syntax.token.kind == "name":
         line, between = place_of(syntax.text, last.at)[0], syntax.text[last.end : syntax.at]
@@ -243,7 +256,9 @@ def other_type(mending, syntax, found):
 def no_end(mending, syntax, found):
     """An operator, and behind it the end of the expression, which is not one sign too much."""
     told = cut_off(syntax, found)
-    return told if told and not mending.takes_less() else None
+    if not told or mending.takes_less() or mending.takes_other():
+        return None
+    return f"{told}, or `{syntax.front[-1].text}` is one too many"
 
 
 def no_first(mending, syntax, found):
@@ -251,7 +266,8 @@ def no_first(mending, syntax, found):
     before, sign = syntax.front[-1].text if syntax.front else "", syntax.token.text
     if not no_operand(syntax, found) or not mending.rows or not mending.rows[0][0].told == f"with `{sign}` taken out":
         return None
-    return f"a value is missing between `{before}` and `{sign}`, or `{sign}` is one too many"
+    which = "one of the two is" if mending.takes_without(syntax.front[-1]) else f"`{sign}` is one"
+    return f"a value is missing between `{before}` and `{sign}`, or {which} too many"
 
 
 def again(syntax, found):
@@ -274,7 +290,7 @@ def no_name(syntax, found):
     if path := re.match(r"\w+ : : (?:\w+ : : )*(\w+)", syntax.behind):
         return f"there are no paths: write `{path[1]}` alone"
     if syntax.token.kind == "word":
-        return f"`{syntax.token.text}` is a word of the language and names nothing: use another name"
+        return f"`{syntax.token.text}` is a word of the language and names nothing, and a name is due here"
     return "a name begins with a letter or `_`" if syntax.token.kind == "number" else None
 
 
@@ -287,8 +303,14 @@ def chained(syntax, found):
 def no_interrupts(syntax, found):
     if found == {"app"} and syntax.token.kind == "name" and [token.text for token in syntax.rest[1:2]] != ["app"]:
         return "the first declaration is `app a(bits = 4);`, with the name of the application"
+    if found == {"app"} and syntax.token.text in DECLARED:
+        return f"{ORDER}; the first one is `app a(bits = 4);`"
+    if found == {"interrupts"} and syntax.token.text == "app":
+        return "`app` comes once: it is the first declaration"
     if found == {"interrupts"} and any(token.text == "interrupts" for token in syntax.rest):
         return ORDER if syntax.token.text in DECLARED else None
+    if found == {"interrupts"} and syntax.token.kind == "name" and [one.text for one in syntax.rest[1:2]] == ["{"]:
+        return "the interrupts are declared next: `interrupts { I = 5 }`"
     if found == {"interrupts"}:
         return "each application declares its interrupts, `interrupts {}` where it has none"
     return None
@@ -309,7 +331,7 @@ def limit(syntax, which, table):
 
 
 # The ways to help, in the order in which they are asked. What begins a call, and marks that are other ones:
-OF_CALLS = (without_task, without_handle, called, sent_by_sign, unknown_word, nearly, spawned_nothing)
+OF_CALLS = (without_task, without_handle, called, sent_by_sign, unknown_word, nearly, delayed, spawned_nothing)
 OF_MARKS = (
     again, pasted, merge_marks, unclosed_list, stroke, grouped, unopened, lettered, unnamed_option, values_in_head,
     ended_early, endless, handed, other_option, named_otherwise, typed_values, without_parentheses, lone_number, prose,
@@ -317,7 +339,7 @@ OF_MARKS = (
 )
 # what the place tells, before the program tries changes; and what is likely where it takes none that goes little far
 OF_PLACE = (
-    returns, outside_head, unclosed, split_name, misspelt, declared, twice, no_comma, chained, no_interrupts,
+    returns, uncalled, outside_head, unclosed, split_name, misspelt, declared, twice, no_comma, chained, no_interrupts,
     last_comma, no_item, open_parentheses, glued, in_brackets,
 )
 IN_DOUBT = (no_name, typed, no_operand, no_operator, left_out, outside)

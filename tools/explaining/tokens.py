@@ -82,6 +82,12 @@ def between(tokens):
     return tokens[1:], []
 
 
+def all_near(name, names, ratio):
+    """Those of some names that have the same letters in another order, or few others; the nearest first, and few."""
+    same = [one for one in names if sorted(one) == sorted(name)]
+    return same + [one for one in difflib.get_close_matches(name, names, 3, ratio) if one not in same]
+
+
 def nearest(name, names, ratio):
     """The one of some names that has the same letters in another order, or few others; or None."""
     same = next((one for one in names if sorted(one) == sorted(name)), None)

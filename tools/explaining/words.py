@@ -8,6 +8,10 @@ COMMANDS = {
     "live": ("APP", "SCRIPT"), "soak": ("APP", "NUMBER", "COUNT", "WORKERS"), "demo": ("N",), "deepest": ("APP",),
     "times": ("APP", "LIMITS"), "verify": ("IMAGE",), "pair": ("APP1", "APP2", "SCRIPT"),
 }
+# the second program's name, and its commands, each behind that name
+BESIDE = "rticx"
+COMMANDS_BESIDE = {"rticx run": ("APP", "BOARD", "SCRIPT"), "rticx audit": ("APP", "BOARD", "TRACE")}
+TAKEN = {**COMMANDS, **COMMANDS_BESIDE}
 RANGES = {"NUMBER": (0, (1 << 64) - 1), "COUNT": (1, 10_000), "WORKERS": (1, 64), "N": (1, 48)}
 ALL = "--all"
 OPTIONS = "the options are `--help`, `-h` and `--version`, and each comes alone"
@@ -18,18 +22,38 @@ FORMS = {
                "at most 900,000",
     "times": "`times` is for hardware tasks alone, without a monotonic and without a `pend`",
 }
-LISTED = [f"`{' '.join((name,) + words)}`" for name, words in COMMANDS.items()]
-BUILT = f"the commands are {', '.join(LISTED[:-1])} and {LISTED[-1]}"
+
+
+def listed(commands):
+    """The sentence that lists commands with their words."""
+    forms = [f"`{' '.join((name,) + words)}`" for name, words in commands.items()]
+    return f"the commands are {', '.join(forms[:-1])} and {forms[-1]}"
+
+
+BUILT, BUILT_BESIDE = listed(COMMANDS), listed(COMMANDS_BESIDE)
+
+
+def joined(words):
+    """The words with a command of the second program as one: its name and the word behind it."""
+    place = int(words[:1] == [ALL])
+    if words[place:place + 1] != [BESIDE]:
+        return words
+    return words[:place] + [" ".join(words[place:place + 2])] + words[place + 2:]
+
+
+def is_of_beside(words):
+    """Whether joined words are those of the second program."""
+    return bool(words) and words[0].split(" ")[0] == BESIDE
 
 
 def files_of(words):
     """Those of the words after a command that name its files."""
-    return [word for word, kind in zip(words[1:], COMMANDS.get(words[0] if words else "", ())) if kind not in RANGES]
+    return [word for word, kind in zip(words[1:], TAKEN.get(words[0] if words else "", ())) if kind not in RANGES]
 
 
 def inputs_of(words):
     """The positions of the files that are standard input, where the words are as many as their command takes."""
-    if not words or len(words) != 1 + len(COMMANDS.get(words[0], ())):
+    if not words or len(words) != 1 + len(TAKEN.get(words[0], ())):
         return []
     return [place for place, name in enumerate(files_of(words), 1) if name == INPUT]
 
@@ -44,7 +68,7 @@ def is_in_range(word, kind):
 
 def is_command(words):
     """Whether the words are a command."""
-    wanted = COMMANDS.get(words[0] if words else "")
+    wanted = TAKEN.get(words[0] if words else "")
     return wanted is not None and len(words) - 1 == len(wanted) and all(map(is_in_range, words[1:], wanted))
 
 
@@ -59,11 +83,11 @@ def without_all(words):
 
 def wrong_word(words):
     """The position of the word that is wrong, or after the last where one is missing."""
-    if not words or words[0] not in COMMANDS:
+    if not words or words[0] not in TAKEN:
         return 0
     if len(inputs := inputs_of(words)) > 1:
         return inputs[1]
-    wanted = COMMANDS[words[0]]
+    wanted = TAKEN[words[0]]
     if len(words) - 1 == len(wanted):
         for place, (word, kind) in enumerate(zip(words[1:], wanted)):
             if not is_in_range(word, kind):
@@ -73,7 +97,7 @@ def wrong_word(words):
 
 def of_command(words):
     """The sentence on words that begin with a command."""
-    wanted, given = COMMANDS[words[0]], len(words) - 1
+    wanted, given = TAKEN[words[0]], len(words) - 1
     if len(inputs_of(words)) > 1:
         return ONE_INPUT
     if given == len(wanted):
@@ -91,12 +115,18 @@ def of_words(words):
     if not words:
         return [("help", BUILT)]
     name = words[0]
-    if name in COMMANDS:
-        return [("cause", of_command(words))]
+    if name in TAKEN:
+        beside = f"{BESIDE} {name}"
+        is_beside = len(words) == 4 and beside in COMMANDS_BESIDE
+        more = [("help", f"with a board it is the second program's: `{' '.join([beside, *words[1:]])}`")]
+        return [("cause", of_command(words))] + more * is_beside
+    built = BUILT_BESIDE if is_of_beside(words) else BUILT
+    if name == BESIDE:
+        return [("help", built)]
     if name.startswith("-"):
-        return [("cause", OPTIONS), ("help", BUILT)]
-    near = difflib.get_close_matches(name, COMMANDS, 1, 0.6)
-    told = f"a command of a similar name is `{near[0]}`" if near else BUILT
+        return [("cause", OPTIONS), ("help", built)]
+    near = difflib.get_close_matches(name, COMMANDS_BESIDE if is_of_beside(words) else COMMANDS, 1, 0.6)
+    told = f"a command of a similar name is `{near[0]}`" if near else built
     return [("cause", f"there is no command `{name}`"), ("help", told)]
 
 

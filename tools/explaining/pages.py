@@ -1,0 +1,35 @@
+"""The section of the documents that says what a refusal is about: each answer ends with one."""
+GRAMMAR, FORMS = ("LANGUAGE", "Applications"), ("LANGUAGE", "Each form by an example")
+NAMES, USERS = ("LANGUAGE", "What names mean"), ("LANGUAGE", "Who may use a resource")
+REFUSALS = ("LANGUAGE", "Refusals")
+OF_RULES = {
+    5: NAMES, 6: NAMES, 7: USERS, 8: USERS, 9: USERS, 10: USERS, 11: USERS, 12: FORMS, 13: USERS, 14: USERS, 15: USERS,
+    16: ("LANGUAGE", "Messages that wait"), 17: ("BOUNDS", "Costs: core steps of a run that is not interrupted"),
+    18: USERS,
+}
+OF_LINES = {
+    "script": ("LANGUAGE", "Scripts"), "limits": ("LANGUAGE", "Limits"), "trace": ("LANGUAGE", "Traces"),
+    "image": ("LANGUAGE", "Listings"), "board": ("RTICX", "A board, a script and a trace"),
+}
+AUDITS, COMMANDS = ("LANGUAGE", "Audits"), ("LANGUAGE", "What each command takes")
+OF_FORMS = {"times": ("TIMES", "For which applications"), "deepest": ("DEEPEST", "For which applications")}
+VERIFY = ("VERIFY", "The seven rules")
+
+
+def of_refusal(number, in_body):
+    """The section on a refusal of this number, in a body or outside of all."""
+    if number in (1, 4):
+        return REFUSALS
+    return OF_RULES.get(number) or (FORMS if in_body else GRAMMAR)
+
+
+def named(section):
+    """A section as it is told."""
+    page, heading = section
+    return f'docs/{page}.md, "{heading}"'
+
+
+def all_sections():
+    """Every section that is told of."""
+    rows = [GRAMMAR, FORMS, REFUSALS, AUDITS, COMMANDS, VERIFY]
+    return rows + [row for table in (OF_RULES, OF_LINES, OF_FORMS) for row in table.values()]

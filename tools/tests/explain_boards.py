@@ -1,0 +1,177 @@
+#!/usr/bin/env python3
+"""What tools/explain says of the second program's answers: refused boards, scripts and traces beside them, wrong lines,
+and words. A stub stands for the program, which writes the answer of a row; where the second program is built, or RTICX
+names it, the answers are compared with its own."""
+import os
+import pathlib
+import re
+import subprocess
+import sys
+import tempfile
+
+HERE = pathlib.Path(__file__).resolve().parent
+sys.path.insert(0, str(HERE.parent))
+sys.dont_write_bytecode = True
+
+from explaining.main import explained_call
+from explaining.program import Program, asked_program
+
+STUB = """#!/bin/sh
+printf '%s\\n' "$ANSWER"
+exit "$STATUS"
+"""
+APP = """\
+app uart(bits = 4, dispatchers = [D]);
+interrupts { UART0 = 5, PIN = 6, D = 7 }
+shared { lost = 0 }
+local { received = 0, level = 0, crc = 0, turns = 0 }
+idle(local = [turns]) { turns = turns + 1; }
+task rx(binds = UART0, priority = 2, local = [received]) { spawn digest(received); }
+task pin(binds = PIN, priority = 2, local = [level], shared = [lost]) { lock lost { lost = level; } }
+task digest(priority = 1, local = [crc]) with value { crc = crc ^ value; }
+"""
+BOARD = "input rx received\ninput pin level\n"
+# A row: a board, the third text or none where a right one is meant, the answer, and sentences that must come.
+BOARDS = (
+    ("in rx received", "1 2 bad line", "no line of a board begins with `in`", "write `input rx received`"),
+    ("Input rx received", "1 2 bad line", "no line of a board begins with `Input`", "write `input rx received`"),
+    ("// the line", "1 2 bad line", "a comment begins with `#`, and has a line of its own"),
+    ("give received 5", "1 2 bad line", "this looks like a script; the board comes first, then the script"),
+    ("app a(bits = 4);", "1 2 bad line", "this looks like an application; the application comes first, then the board"),
+    ("input received", "1 2 bad line", "the form is `input T R`, with a task and its local resource",
+     "write `input rx received`"),
+    ("input rx received 0", "1 2 bad line", "the form is `input T R`, with a task and its local resource"),
+    ("input rx.received", "1 2 bad line", "write `input rx received`"),
+    ("input rx received;", "1 2 bad line",
+     "`input` wants the names of a task and of its local resource, and `received;` is none"),
+    (" input rx received", "1 2 bad line", "a blank comes before the first word, or after the last"),
+    ("input\trx received", "1 2 bad line", "words are separated by spaces, and this is a tab"),
+    ("input uart received", "1 3 unknown task", "no task `uart` is declared", "hardware tasks are `rx`, `pin`"),
+    ("input UART0 received", "1 3 unknown task", "`UART0` is an interrupt, and the task `rx` binds it"),
+    ("input received rx", "1 3 unknown task", "the task comes first: `input rx received`"),
+    ("input idle turns", "1 3 unknown task", "`idle` is no task, and no interrupt lets it begin"),
+    ("input digest crc", "1 4 software task", "`digest` is a software task, whose values come with its messages",
+     "a hardware task takes a device's value over, and sends it: these are `rx`, `pin`"),
+    ("input rx recieved", "1 5 unknown local", "no local resource `recieved` is declared", "`rx` lists `received`",
+     "a local resource of a similar name is `received`"),
+    ("input pin lost", "1 5 unknown local",
+     "`lost` is a shared resource: a device writes a local one, and the task takes it over"),
+    ("input pin received", "1 6 local of another", "`pin` does not list `received`: `rx` lists it",
+     "write `input rx received`"),
+    ("input rx turns", "1 6 local of another", "`rx` does not list `turns`: `idle` lists it",
+     "a device writes a local resource of the task whose interrupt it requests"),
+    ("# two\ninput rx received\n\ninput rx received", "4 7 named twice", "`received` is an input already, by line 2",
+     "take one of the two lines out"),
+    ("#" * (1 << 20) + "\n", "1 1 too long", "the board has 1,048,577 bytes, and 1,048,576 is the most"),
+)
+SCRIPTS = (
+    ("give recieved 5", "1 6 unknown input", "the board has no input `recieved`", "its inputs are `received`, `level`",
+     "an input of a similar name is `received`"),
+    ("give crc 5", "1 6 unknown input", "the board has no input `crc`"),
+    ("give received", "1 2 bad line", "the form is `give R V`, with an input and its value"),
+    ("give received 5 6", "1 2 bad line", "the form is `give R V`, with an input and its value"),
+    ("give 5 received", "1 2 bad line", "the input comes first", "write `give received 5`"),
+    ("give received 0x41", "1 2 bad line", "numbers are decimal: write `65`"),
+    ("give received 'A'", "1 2 bad line", "a value is a number: write `65`"),
+    ("give received -2", "1 2 bad line", "a value has no sign: in two's complement it is `4294967294`"),
+    ("give received 007", "1 2 bad line", "write `7`"),
+    ("give received 4294967296", "1 2 bad line",
+     "`4294967296` is no number of 32 bits, which is at most 4,294,967,295 and has no leading zero"),
+    ("set received 5", "1 2 bad line", "no line of a script begins with `set`",
+     "write `give`: `give R V` gives the device of the input R the value V"),
+    ("step x", "1 2 bad line", "`x` is no number of one to nine digits"),
+    ("pend UART", "1 3 unknown interrupt", "no interrupt `UART` is declared"),
+)
+START = "0 pend UART0\n0 end init\n1 take UART0 168\n"
+TRACES = (
+    (START + "1 input received", "4 2 bad line", "the form is `input R V`, with an input of the board and its value"),
+    (START + "1 input crc 5", "4 4 unknown input", "the board has no input `crc`",
+     "its inputs are `received`, `level`"),
+    (START + "1 input received 4294967296", "4 2 bad line",
+     "`4294967296` is no number of 32 bits, which is at most 4,294,967,295 and has no leading zero"),
+    (START + "1 inputs received 5", "4 2 bad line", "no item is called `inputs`"),
+)
+WRONG = (
+    (START + "2 enter free.digest\ntotal 5\n", 4,
+     "behind the take come the inputs of `rx`, here `1 input received V` with a value V"),
+    (START, 4, "behind the take come the inputs of `rx`, here `1 input received V` with a value V",
+     "all 3 lines are right, and what comes behind them is not"),
+    (START + "1 input received 5\n1 input received 5\n", 5, "line 5 of the trace is the first that is wrong"),
+)
+WORDS = (
+    (["rticx"], "the commands are `rticx run APP BOARD SCRIPT` and `rticx audit APP BOARD TRACE`"),
+    (["rticx", "run", "app", "board"], "`rticx run` takes 3 files, APP, BOARD and SCRIPT, and 2 are here"),
+    (["rticx", "rum", "app"], "a command of a similar name is `rticx run`"),
+    (["run", "app", "board", "script"], "with a board it is the second program's: `rticx run app board script`"),
+)
+
+
+def plain(line):
+    """A line without its margin."""
+    return re.sub(r"^\s*(\|\s*\^+|=|(cause|help|note):)\s*", "", re.sub(r"^\s*=\s*", "", line)).strip()
+
+
+def said(words, status, answer):
+    """What is said where the stub answers so."""
+    os.environ.update(STATUS=str(status), ANSWER=answer)
+    program = Program(lambda piece: True)
+    got, report = explained_call(program, words)
+    program.folder.cleanup()
+    return got, [plain(line) for line in report.lines], "\n".join(report.lines)
+
+
+def rows():
+    """Each row: the command, the board, the third text, the status, the answer, and the sentences."""
+    for board, answer, *sentences in BOARDS:
+        yield "run", board, "step 1\n", 3, f"board:{answer}", sentences
+    for script, answer, *sentences in SCRIPTS:
+        yield "run", BOARD, script, 3, f"script:{answer}", sentences
+    for trace, answer, *sentences in TRACES:
+        yield "audit", BOARD, trace, 3, f"trace:{answer}", sentences
+    for trace, number, *sentences in WRONG:
+        yield "audit", BOARD, trace, 4, f"no {number}", sentences
+
+
+def compare(folder, program):
+    """The faults of all rows; the program is the second one, or none."""
+    paths = [str(folder / name) for name in ("app", "board", "third")]
+    faults = []
+    for command, board, third, status, answer, sentences in rows():
+        for path, text in zip(paths, (APP, board, third)):
+            pathlib.Path(path).write_text(text, encoding="ascii")
+        name = f"{answer} of {(third if board == BOARD else board)[:40]!r}"
+        if program:
+            done = subprocess.run([program, command, *paths], capture_output=True, check=False)
+            if (done.returncode, done.stdout.decode("latin-1")) != (status, answer + "\n"):
+                faults.append(f"{name}: the program answers {done.returncode} {done.stdout[:60]}")
+        got, lines, whole = said(["rticx", command, *paths], status, answer)
+        faults += [f"{name}: not said: {one}\n{whole}" for one in sentences if one not in lines]
+        faults += [f"{name}: status {got}"] * (got != status)
+        faults += [f"{name}: tools/explain failed"] * ("fault of tools/explain" in whole)
+    for words, sentence in WORDS:
+        _, lines, whole = said(words, 2, "usage: ")
+        faults += [f"{words}: not said: {sentence}\n{whole}"] * (sentence not in lines)
+    return faults
+
+
+def main():
+    """Ends with 1 where a row is not as it is to be."""
+    program = asked_program("rticx")
+    with tempfile.TemporaryDirectory() as name:
+        folder = pathlib.Path(name)
+        stub = folder / "stub"
+        stub.write_text(STUB, encoding="ascii")
+        stub.chmod(0o755)
+        os.environ["RTIC"] = os.environ["RTICX"] = str(stub)
+        faults = compare(folder, program)
+    for fault in faults:
+        print("explain_boards: wrong:", fault)
+    if program is None:
+        missing = "the second program is not built (./build makes it), and RTICX names no other"
+        print(f"explain_boards: skipped in part: {missing}")
+    print(f"explain_boards: {len(list(rows())) + len(WORDS)} answers,", "wrong" if faults else "as expected")
+    return 1 if faults else 0
+
+
+if __name__ == "__main__":
+    sys.exit(main())
