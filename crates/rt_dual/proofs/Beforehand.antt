@@ -76,15 +76,12 @@ module _ {place : Place} {made : List ℕ} {share : Share} {head : List ℕ} {ro
     still_placed : side.line.value ≡ placed_line place row made side.line.value.calls
     still_placed = ended_line ∙ ap (placed_line place row made) (sym own_calls)
 
-    rows_are : side.rows.items ≡ map empty_row (declared_irqs m.image.names)
-    rows_are = run.ended.rows ∙ run.before.rows
-
     pub rows_irqs : irqs_of side.rows.items ≡ declared_irqs m.image.names
-    rows_irqs = ap irqs_of rows_are ∙ irqs_empty (declared_irqs m.image.names)
+    rows_irqs = ap irqs_of (run.ended.rows ∙ run.before.rows) ∙ irqs_empty (declared_irqs m.image.names)
 
     still_empty : AreEmpty side.rows.items
     still_empty = record {
-      empty = rows_are ∙ ap (map empty_row) (sym rows_irqs);
+      empty = run.ended.rows ∙ run.before.rows ∙ ap (map empty_row) (sym rows_irqs);
       bits = subst (AllByRecursion (λ irq. irq < IRQ_NUMBERS)) (sym rows_irqs) run.before.bits;
     }
 

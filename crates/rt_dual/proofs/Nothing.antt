@@ -3,7 +3,7 @@ use Rattle.rt_live.proofs.Vocabulary.{AllByRecursion, Arrive, Asks as Pends, Cal
 use Rattle.rt_live.proofs.Vocabulary.{IsAnswered, IsEmptyLook, IsWholeLook, Latch, Latches, LeavesWords, Line, List}
 use Rattle.rt_live.proofs.Vocabulary.{Looks, Names, None, Option, Pend, Pended, Request, Some, Step, Turn, What, []}
 use Rattle.rt_live.proofs.Vocabulary.{after, all_append, all_map, all_weaker, ap, append_assoc, arith, arrivals_from}
-use Rattle.rt_live.proofs.Vocabulary.{core_after, interleaving, items_of, length, look_arrivals, look_calls_from}
+use Rattle.rt_live.proofs.Vocabulary.{core_after, interleaving, items_of, length, look_calls_from}
 use Rattle.rt_live.proofs.Vocabulary.{look_requests, looks, map, part, part_all, refl, replicate, request_of, reset}
 use Rattle.rt_live.proofs.Vocabulary.{routed, set, step, subst, suc, sym, turn_requests, zero, zeros_at as zeros, ℕ}
 use Rattle.rt_live.proofs.Vocabulary.{ℕ_discrete, ◌++◌, ◌∙◌, ◌∷◌, ◌≡◌}
@@ -29,11 +29,6 @@ empty_words : (k : ℕ) (words : List ℕ) → AllByRecursion IsEmpty (map reque
 empty_words k [] all = refl
 empty_words k (word ∷ words) all = ap (λ w. w ∷ words) all.0 ∙ ap (λ ws. 0 ∷ ws) (empty_words (suc k) words all.1)
 
-nothing_arrives : (here : ℕ) (words : List ℕ) → AllByRecursion IsEmpty (look_requests here words)
-    → look_arrivals words ≡ []
-nothing_arrives here words all =
-    ap (map Arrive) (ap (arrivals_from 0) (empty_words _ words all) ∙ zeros_arrive 0 (length words))
-
 -- with such looks turns come to their events alone
 alone : (here : ℕ) (ts : List Turn) (found : List (List ℕ)) → length found ≡ looks ts
     → AllByRecursion (λ ws. AllByRecursion IsEmpty (look_requests here ws)) found
@@ -42,7 +37,8 @@ alone here [] found many all = refl
 alone here (Happens e ∷ ts) found many all = ap (λ us. e ∷ us) (alone here ts found many all)
 alone here (Looks ∷ ts) [] many all = absurd (omega (arith, many))
 alone here (Looks ∷ ts) (ws ∷ found) many all =
-    ap (λ us. us ++ interleaving ts found) (nothing_arrives here ws all.0)
+    ap (λ us. us ++ interleaving ts found)
+    (ap (map Arrive) (ap (arrivals_from 0) (empty_words _ ws all.0) ∙ zeros_arrive 0 (length ws)))
     ∙ alone here ts found (omega (arith, many)) all.1
 
 -- what holds of all items holds of what a step among the labels shows

@@ -11,7 +11,7 @@ use Rattle.rt_dual.proofs.Vocabulary.{IsCourse, IsPairText, Place, forward, turn
 use Rattle.std.proofs.{Common.◌&&◌, lemmas.List.Sums.sum_by_push}
 use Rattle.rt_lemmas.proofs.Lists.{all_unmap, append_none_left}
 use Rattle.rt_live.proofs.Onward.{part_on, led_apart}
-use Rattle.rt_dual.specs.{Laws.IsOrdered, Laws.LooksPrecedePosts, Laws.PairsAreOrdered}
+use Rattle.rt_dual.specs.{Laws.IsOrdered, Laws.LooksPrecedePosts}
 use Rattle.rt_dual.proofs.{Posted.Within, Posted.asks_within, Posted.posted, Routing.forwards_declared}
 
 -- a call of a line in a history
@@ -165,8 +165,8 @@ module _ (first second : Image) (script : List Line) (bytes : List ℕ) (p : IsP
       two_lines test before (λ n ne other. append_none_left (part before n) (part behind n)
       (sym (ap (λ (h : List Entry). part h n) same ∙ part_on before behind n) ∙ p.others n ne other))
 
-  pub ordered_pair : IsOrdered first second script p.one p.two p.history
-  ordered_pair = record {
+  pub ordered : IsOrdered first second script p.one p.two p.history
+  ordered = record {
     one_finds = finds p.is_one p.is_two.bits 254 p.left p.legal (omega arith) (λ e. absurd (omega (arith, e))) counted;
     two_finds =
         finds p.is_two p.is_one.bits 255 p.left p.legal (omega arith) (λ e. absurd (omega (arith, e)))
@@ -174,6 +174,3 @@ module _ (first second : Image) (script : List Line) (bytes : List ℕ) (p : IsP
     one_posts = precede p.is_one;
     two_posts = precede p.is_two;
   }
-
-pub ordered : PairsAreOrdered
-ordered = ordered_pair

@@ -76,9 +76,6 @@ module _ (route : ℕ → Option ℕ) (here there : ℕ) (img : Image) where
       look_within (suc k) words (omega (arith, least)) (omega (arith, most)),
     )
 
-    whole_within : (words : List ℕ) → IsWholeLook words → AllByRecursion (Within here there) (look_requests here words)
-    whole_within words whole = look_within (word_in_row here 0) words (omega arith) (omega (arith, whole))
-
     post_within : (shown : Option What) → AllByRecursion (Within here there) (post_requests route there shown)
     post_within shown = by (routed route shown) refl
       where
@@ -100,8 +97,8 @@ module _ (route : ℕ → Option ℕ) (here there : ℕ) (img : Image) where
     asks_within c (Looks ∷ ts) [] whole = tt
     asks_within c (Looks ∷ ts) (ws ∷ found) whole =
         let d : Core = core_after img c (look_arrivals ws) in
-        all_append (Within here there) (look_requests here ws) (asks d ts found) (whole_within ws whole.0)
-        (asks_within d ts found whole.1)
+        all_append (Within here there) (look_requests here ws) (asks d ts found) (look_within (word_in_row here 0) ws
+        (omega arith) (omega (arith, whole.0))) (asks_within d ts found whole.1)
 
   -- what is so of all that turns ask for is so of the requests of each of their looks
   pub looks_in : (P : Request → Type 0) (c : Core) (ts : List Turn) (found : List (List ℕ)) → length found ≡ looks ts
