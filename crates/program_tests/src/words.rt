@@ -46,8 +46,9 @@ fn latch_often(words: &Words, mut line: Line, k: u8, times: u32) -> Line
     requires word { word_in_row line.here k < count words.now }
     ensures { result ≡ record line { calls = result.calls } }
 {
+    let first = line.first_word();
     for _ in 0..times {
-        line.latch(words, k);
+        line.latch(words, first, k);
     }
     line
 }
@@ -125,10 +126,11 @@ fn pends_of_one_line(alloc: Global, irq: Irq) -> Result<([u32; 2], [Pended; 3], 
 {
     let (words, mut first) = Words::make(alloc, ROW_WORDS, only(1, irq), 1)?;
     let mut second = first.split(&words, 254, 1, 0);
-    let before = second.latch(&words, 0);
+    let start = second.first_word();
+    let before = second.latch(&words, start, 0);
     let one = first.pend(&words, irq);
     let two = first.pend(&words, irq);
-    let found = second.latch(&words, 0);
+    let found = second.latch(&words, start, 0);
     let three = first.pend(&words, irq);
     let tally = first.gather(&words, second);
     let left = words.close(first);

@@ -44,6 +44,7 @@ impl Between {
 }
 
 /// The interrupts whose bits a word holds arrive, the lowest first.
+#[inline(never)]
 fn arrive_word<K: Sink>(
     core: &mut Core,
     word: u8,
@@ -88,8 +89,9 @@ pub(crate) fn look<K: Sink>(
     ensures cause { HasCause (K.faults out.old) (K.faults out.new) result }
     ensures quiet { OnOk result (K.faults out.new ≡ K.faults out.old) }
 {
+    let first = line.first_word();
     for k in 0..CORE_WORDS {
-        let found = line.latch(words, k);
+        let found = line.latch(words, first, k);
         if found == 0 {
             continue;
         }

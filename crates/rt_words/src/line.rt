@@ -2,16 +2,19 @@
 
 ghost use Rattle.std.specs.Prelude.{◌≡◌, ◌≢◌, ℕ, ◌+◌, ◌-◌, ◌*◌, ◌^◌, ◌<◌, ◌++◌, ◌∷◌, [], length, Contains};
 ghost use Rattle.std.specs.Int.{bit_at};
+ghost use mathlib.Core.Option.{none};
+ghost use Rattle.atomic_table.specs.Table.{step};
 ghost use Rattle.rt_words.specs.Row.{bit_in_row, word_in_row};
 ghost use Rattle.rt_words.specs.Object.{IsPending};
 ghost use Rattle.rt_words.specs.Account.{IsTally};
 ghost use Rattle.rt_words.specs.Lines.{count, new_line, numbers};
-ghost use Rattle.rt_words.specs.Inside.Steps.{view_after_split, view_of_new};
+ghost use Rattle.rt_words.specs.Inside.Seats.{IsLive};
+ghost use Rattle.rt_words.specs.Inside.Steps.{latch_step, view_after_split, view_of_new};
 ghost use Rattle.rt_words.specs.declared.call.Call.{Call};
 
 use crate::call::Pended;
 use crate::row::CORE_WORDS;
-use crate::rule::{Gather, Latch, Look, Numbered, Pend, SplitOff};
+use crate::rule::{Gather, Glance, Latch, Look, Numbered, Pend, SplitOff};
 use crate::tally::{Tally, count_bits};
 use crate::view::View;
 use crate::words::Words;
@@ -67,6 +70,24 @@ fn split_off<N: Numbered>(words: &Words, seat: &mut Seat<(), View>, number: u8) 
     words.table.shared.split_seat::<SplitOff<N>>(seat)
 }
 
+// Latches a word of the row. A load that finds 0 is such a latch, since that leaves the word as it is. A load that
+// finds anything else is no call, and a fetch_and with 0 latches.
+#[inline(always)]
+fn latch_word(words: &Words, seat: &mut Seat<(), View>, word: usize) -> u64
+    requires table { seat.old.table_id ≡ words.now.table }
+    requires live { IsLive seat.old.id seat.old.me.0 }
+    requires word { word < count words.now }
+    ensures id { seat.new.id ≡ seat.old.id }
+    ensures table { seat.new.table_id ≡ seat.old.table_id }
+    ensures latched { latch_step (step 0 word 0 0 none) seat.old.me result seat.new.me }
+{
+    let glance = words.table.shared.load::<Glance>(seat, word);
+    if glance == 0 {
+        return 0;
+    }
+    words.table.shared.fetch_and::<Latch>(seat, word, 0)
+}
+
 impl Line {
     /// Pends an interrupt by one fetch_or. Merged exactly where its bit stood at that moment.
     pub fn pend(&mut self, words: &Words, irq: Irq) -> Pended
@@ -93,8 +114,19 @@ impl Line {
         }
     }
 
-    /// Latches word `k` of its core by one fetch_and with 0: answers the word that stood, and leaves 0.
-    pub fn latch(&mut self, words: &Words, k: u8) -> u32
+    /// The number in the row of word 0 of its core.
+    #[inline(always)]
+    pub fn first_word(&self) -> usize
+        ensures { result ≡ word_in_row self.now.here 0 }
+    {
+        usize::from(CORE_WORDS * self.here)
+    }
+
+    /// Latches word `k` of its core, whose first word is `first`: answers the word that stood, and leaves 0. An empty
+    /// word costs a load alone.
+    #[inline(always)]
+    pub fn latch(&mut self, words: &Words, first: usize, k: u8) -> u32
+        requires first { first ≡ word_in_row self.old.here 0 }
         requires words { self.old.words ≡ words.now }
         requires room { length self.old.calls < 2 ^ 32 - 1 }
         requires core { k < CORE_WORDS }
@@ -104,11 +136,8 @@ impl Line {
         ensures may { (bit : ℕ) → bit < 32 → bit_at result bit ≡ 1
             → IsPending words.now.may (32 * word_in_row self.old.here k + bit) }
     {
-        let word = usize::from(CORE_WORDS * self.here) + usize::from(k);
-        let found = words
-            .table
-            .shared
-            .fetch_and::<Latch>(&mut self.seat, word, 0);
+        let word = first + usize::from(k);
+        let found = latch_word(words, &mut self.seat, word);
         let bits = found as u32;
         count_bits(&mut self.tally.latched, k, bits);
         bits

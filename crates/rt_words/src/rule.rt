@@ -32,6 +32,15 @@ impl Play<(), View> for Latch {
     ghost then = { latch_step };
 }
 
+// A line looks at a word before it latches it.
+pub(crate) struct Glance;
+
+impl Play<(), View> for Glance {
+    ghost use Rattle.rt_words.specs.Inside.Steps.{glance_step};
+
+    ghost then = { glance_step };
+}
+
 // The number of the line that is being made. Each call of a program picks it.
 pub(crate) trait Numbered {
     ghost use Rattle.std.specs.Prelude.{ℕ};

@@ -1,5 +1,6 @@
 -- What each step does to the view of the seat that takes it.
-use Rattle.std.specs.Prelude.{◌≡◌, ℕ, ◌*◌, ◌+◌, ◌^◌, ◌<◌, ◌==◌, if◌then◌else◌, List, [], ◌∷◌, ◌++◌, length, Contains}
+use Rattle.std.specs.Prelude.{◌≡◌, ◌≢◌, ℕ, ◌*◌, ◌+◌, ◌^◌, ◌<◌, ◌==◌, if◌then◌else◌, List, [], ◌∷◌, ◌++◌, length}
+use Rattle.std.specs.Prelude.{Contains}
 use Rattle.std.specs.Int.{bit_at}
 use mathlib.Core.List.{IsPrefix}
 use Rattle.atomic_table.specs.Table.{Step}
@@ -45,6 +46,10 @@ abbrev pub latch_step : Step (Unit {0}) → Seat → ℕ → Seat → Type 0
 latch_step s me found after = (seen : List Entry) × (after ≡ (view_after_call me.0 seen (Latch s.word found), me.1))
     × Extends me.0.seen me.0.line (Latch s.word found) seen × (found < 2 ^ 32)
     × ((bit : ℕ) → bit < 32 → bit_at found bit ≡ 1 → IsPending me.0.may (32 * s.word + bit))
+
+-- a load before a latch: where it finds 0 it is itself the latch, else the seat knows what it knew
+abbrev pub glance_step : Step (Unit {0}) → Seat → ℕ → Seat → Type 0
+glance_step s me found after = (found ≡ 0 → latch_step s me 0 after) × (found ≢ 0 → after ≡ me)
 
 -- the first line makes another of this number
 abbrev pub view_after_split : ℕ → View → View

@@ -10,6 +10,10 @@ loop-k-init g c = record { run = looked_none c.args.line.now c.args.core.now _; 
 pub latch-found-requires-clause-words : goal.latch-found-requires-clause-words
 latch-found-requires-clause-words g c = ap (λ (l : Line). l.words) c.loop-k.invariant.run.same ∙ c.requires.able.words
 
+pub latch-found-requires-clause-first : goal.latch-found-requires-clause-first
+latch-found-requires-clause-first g c =
+    omega (arith, ap (λ (l : Line). l.here) c.loop-k.invariant.run.same, c.first_word-first.ensures)
+
 pub latch-found-requires-clause-room : goal.latch-found-requires-clause-room
 latch-found-requires-clause-room g c = omega (arith, looked_calls c.loop-k.invariant.run, c.requires.room)
 
