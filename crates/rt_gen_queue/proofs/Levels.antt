@@ -1,13 +1,13 @@
 -- The ready queue of a level, as a plan has it in its tables.
 use Rattle.rt_gen_queue.proofs.Vocabulary.{App, Bool, Ceilings, Contains, IsAccepted, IsPlan, Layout, List, None, Plan}
-use Rattle.rt_gen_queue.proofs.Vocabulary.{Some, Task, [], accepted_are_sound, ap, app_of, arith, ceiling, cond}
+use Rattle.rt_gen_queue.proofs.Vocabulary.{IsSome, Some, Task, [], accepted_are_sound, ap, app_of, arith, ceiling, cond}
 use Rattle.rt_gen_queue.proofs.Vocabulary.{eqb-true, false, filter, get_or, guard_of_ceiling, if◌then◌else◌, inl, inr}
 use Rattle.rt_gen_queue.proofs.Vocabulary.{irq_number, is_of_level, is_some, length, levels, ltb-true, map, mapped_at}
 use Rattle.rt_gen_queue.proofs.Vocabulary.{nat_lt, option_map, or_zero, position, queue_at, ready_at, refl, slice_get}
 use Rattle.rt_gen_queue.proofs.Vocabulary.{slice_get-get_or, slice_index, suc, sum_by, sum_by-cons, task_of, then_from}
 use Rattle.rt_gen_queue.proofs.Vocabulary.{true, ℕ, ◌+◌, ◌<◌, ◌==◌, ◌^◌, ◌∙◌, ◌∷◌, ◌≡◌, ◌≤◌}
 use Rattle.rt_gen_queue.proofs.Vocabulary.{AllByRecursion, all_at, le-ltb, length-map, list_any, lt-ltb, none-some}
-use Rattle.rt_gen_queue.proofs.Vocabulary.{same_Some, slice_get_within, subst, zero, ◌-◌}
+use Rattle.rt_gen_queue.proofs.Vocabulary.{same_Some, slice_get_within, subst, sym, zero, ◌-◌}
 use Rattle.rt_app.specs.declared.costs.TheConstants.{PRIORITIES}
 use Rattle.rt_app.proofs.Rising.{IsRising, above, those_rise}
 use Rattle.std.{proofs.lemmas.Bool.cases_Bool, proofs.lemmas.List.Sums.passes_at_first, specs.List.position_or_len}
@@ -59,6 +59,18 @@ position_there app p ps is =
         let less : k < length ps = ltb-true k (length ps) within in
         slice_get-get_or ps k 0 less ∙ ap Some (eqb-true (get_or ps k 0) p (passes_at_first (λ q. q == p) ps 0 less))
     go false within some = absurd cc
+
+pub row_there : (app : App) (p : ℕ) (ps : List ℕ) → Contains ps p
+    → IsSome (position (λ r. r.level == p) (map (row app) ps))
+row_there app p ps is =
+    subst (λ o. IsSome o) (sym (position-map (row app) (λ r. r.level == p) ps))
+    (is_some-position (λ q. q == p) ps ∙ any_contained p ps is)
+
+-- an index at which there is something is one of the list
+some_within : {A B : Type 0} (f : A → B) (xs : List A) (k : ℕ) → IsSome (option_map f (slice_get xs k)) → k < length xs
+some_within f [] k some = absurd cc
+some_within f (x ∷ xs) zero some = omega arith
+some_within f (x ∷ xs) (suc k) some = omega (arith, some_within f xs k some)
 
 -- what is made of the levels, at the index of a level
 pub made_at_level : (app : App) (p : ℕ) (f : ℕ → ℕ) (ps : List ℕ) → Contains ps p
@@ -134,6 +146,25 @@ module _ (plan : Plan) (p : ℕ) (planned : IsPlan plan) (level : Contains (leve
       let within = slice_get_within (levels of_plan) (place_in (map (row of_plan) (levels of_plan)) p) p
       (position_there of_plan p (levels of_plan) level) in
       rw listed (omega (arith, within, length-map (levels of_plan) (row of_plan)))
+
+  pub place_some : IsSome (position (λ r. r.level == p) plan.ceil.ready)
+  place_some = rw listed (row_there of_plan p (levels of_plan) level)
+
+  pub cell_there : place_in plan.ceil.ready p < length plan.lay.ready
+  cell_there =
+      let rows = ap (λ (qs : List ReadyCeiling). length qs) listed in
+      let cells = ap (λ (l : Layout). length l.ready) planned.layout in
+      let all = length-map (levels of_plan) (row of_plan) in
+      omega (arith, place_there, rows, all, cells, length-map (levels of_plan) (ready_at of_plan))
+
+  -- a dispatcher serves the level
+  pub dispatcher_there : IsAccepted of_plan
+      → length plan.ceil.ready - 1 - place_in plan.ceil.ready p < length of_plan.dispatchers
+  dispatcher_there accepted =
+      let rising = those_rise (λ q. list_any (is_of_level q) of_plan.tasks) PRIORITIES in
+      let behind = above_is of_plan p (levels of_plan) rising level in
+      let served = (accepted_are_sound of_plan accepted).dispatched p level in
+      rw listed (omega (arith, behind, some_within (λ d. d.irq) of_plan.dispatchers (above p (levels of_plan)) served))
 
   -- what is read of the plan's tables is the queue of the level
   pub queue_made : queue_read plan p ≡ queue_at of_plan p

@@ -41,6 +41,12 @@ number_at test at n (u ∷ ts) zero t there passes =
 number_at test at n (u ∷ ts) (suc i) t there passes =
     let e : n + 1 + i ≡ n + suc i = omega arith in number_at test at (n + 1) ts i t there passes ∙ ap at e
 
+-- there is a number for each task
+numbers_long : (test : Task → Bool) (at : ℕ → ℕ) (n : ℕ) (ts : List Task)
+    → length (numbers_of test at n ts) ≡ length ts
+numbers_long test at n [] = refl
+numbers_long test at n (t ∷ ts) = ap suc (numbers_long test at (n + 1) ts)
+
 -- Where the arguments of a task's places lie, as the layout tells it: a task that takes none has no cell there.
 module _ (app : App) (n : ℕ) {t : Task} (there : slice_get app.tasks n ≡ Some t) (software : is_software t ≡ true) where
   input_is : 0 < t.args → slice_index (layout app).inputs n ≡ inputs_at app n
@@ -99,6 +105,20 @@ module _ {plan : Plan} (task : ℕ) {t : Task} (accepted : IsAccepted (app_of pl
 
   pub few_planned : t.args ≤ 4
   few_planned = few_arguments of_plan task t facts
+
+  -- the layout has a row for the task
+  task_there : task < length of_plan.tasks
+  task_there = slice_get_within of_plan.tasks task t there
+
+  pub free_there : task < length plan.lay.free
+  free_there =
+      let cells = ap (λ (l : Layout). length l.free) planned.layout in
+      omega (arith, cells, numbers_long is_software (free_at of_plan) 0 of_plan.tasks, task_there)
+
+  pub inputs_there : task < length plan.lay.inputs
+  inputs_there =
+      let starts = ap (λ (l : Layout). length l.inputs) planned.layout in
+      omega (arith, starts, numbers_long has_inputs (inputs_at of_plan) 0 of_plan.tasks, task_there)
 
   -- what is read of the plan's tables
   abbrev pub target_read : Target

@@ -1,7 +1,7 @@
 // The queues of tasks and levels, as code finds them.
 
 ghost use Rattle.std.specs.Prelude.{◌≡◌, ◌<◌, ◌≤◌, ◌==◌, if◌then◌else◌, length, map, filter, position};
-ghost use Rattle.std.specs.Prelude.{sum_by, slice_get, slice_index, option_map, Contains};
+ghost use Rattle.std.specs.Prelude.{sum_by, slice_get, slice_index, option_map, Contains, Some, IsSome};
 ghost use Rattle.rt_ids.specs.Lists.{or_zero, then_from};
 ghost use Rattle.rt_ids.specs.declared.limits.TheConstants.{TASKS};
 ghost use Rattle.rt_app.specs.Accepted.{IsAccepted};
@@ -29,14 +29,12 @@ pub struct ReadyQueue {
     pub irq: Irq,
 }
 
-/// The cell of a table at an index, and 0 where there is none.
+/// The cell of a table at an index.
 pub fn cell_at(cells: &[u16], index: usize) -> u16
+    requires { index < length cells.now }
     ensures { result ≡ slice_index cells.now index }
 {
-    match cells.get(index) {
-        Some(cell) => *cell,
-        None => 0,
-    }
+    cells[index]
 }
 
 /// The index of a level among those of the ready queues.
@@ -46,24 +44,23 @@ fn find_level(queues: &[ReadyCeiling], level: u8) -> Option<usize>
     queues.iter().position(|queue| queue.level == level)
 }
 
-/// The same, and 0 where it is none of them.
+/// The same, of a level that is one of them.
 fn index_of(queues: &[ReadyCeiling], level: u8) -> usize
-    ensures { result ≡ or_zero (position (λ r. r.level == level) queues.now) }
+    requires { IsSome (position (λ r. r.level == level) queues.now) }
+    ensures { position (λ r. r.level == level) queues.now ≡ Some result }
 {
-    match find_level(queues, level) {
-        Some(index) => index,
-        None => 0,
-    }
+    let Some(index) = find_level(queues, level) else {
+        unreachable!()
+    };
+    index
 }
 
-/// The ceiling of the ready queue at an index, and 0 where there is none.
+/// The ceiling of the ready queue at an index.
 fn ceiling_at(queues: &[ReadyCeiling], index: usize) -> u8
-    ensures { result ≡ or_zero (option_map (λ r. r.ceiling) (slice_get queues.now index)) }
+    requires { index < length queues.now }
+    ensures { option_map (λ r. r.ceiling) (slice_get queues.now index) ≡ Some result }
 {
-    match queues.get(index) {
-        Some(queue) => queue.ceiling,
-        None => 0,
-    }
+    queues[index].ceiling
 }
 
 /// The number of an interrupt that is not declared.
@@ -83,15 +80,13 @@ pub fn irq_number(irqs: &[IrqDecl], irq: u8) -> Irq
     }
 }
 
-/// The number of the interrupt of a dispatcher, by its index, and 0 where there is none.
+/// The number of the interrupt of a dispatcher, by its index.
 fn dispatcher_number(app: &App, index: usize) -> Irq
+    requires { index < length (app_of app.now).dispatchers }
     ensures { result ≡ or_zero (then_from (option_map (λ d. d.irq) (slice_get (app_of app.now).dispatchers index))
         (handlers.irq_number (app_of app.now))) }
 {
-    match app.dispatchers.get(index) {
-        Some(dispatcher) => irq_number(&app.irqs, dispatcher.irq),
-        None => no_number(),
-    }
+    irq_number(&app.irqs, app.dispatchers[index].irq)
 }
 
 /// The capacity of a task, where it is one of a level.

@@ -1,7 +1,17 @@
 use Rattle.rt_gen_queue.proofs.Vocabulary.{Plan, ap, ◌∙◌}
-use Rattle.rt_gen_queue.proofs.Planned.{few_planned, top_small}
+use Rattle.rt_gen_queue.proofs.Planned.{few_planned, free_there, inputs_there, top_small}
 use Rattle.rt_gen_disp.proofs.Generated.{called_made}
 use Rattle.rt_gen_disp.proofs.called.callee_of.Goals as goal
+
+pub cell_at-free-requires : goal.cell_at-free-requires
+cell_at-free-requires c =
+    let cells = c.deref.ensures.value ∙ ap (λ (p : Plan). p.lay.free) c.plan.view_is in
+    rw cells (free_there c.args.number c.requires.accepted c.requires.planned c.requires.task c.requires.software)
+
+pub cell_at-inputs-requires : goal.cell_at-inputs-requires
+cell_at-inputs-requires c =
+    let starts = c.deref-2.ensures.value ∙ ap (λ (p : Plan). p.lay.inputs) c.plan.view_is in
+    rw starts (inputs_there c.args.number c.requires.accepted c.requires.planned c.requires.task c.requires.software)
 
 pub of-requires-clause-greatest : goal.of-requires-clause-greatest
 of-requires-clause-greatest c =

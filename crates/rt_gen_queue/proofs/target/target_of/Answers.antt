@@ -1,6 +1,19 @@
 use Rattle.rt_gen_queue.proofs.Vocabulary.{Plan, ap, app_of, task_of, ◌∙◌}
-use Rattle.rt_gen_queue.proofs.{Facts.known, Planned.facts, Planned.few_planned, Planned.target_made, Planned.top_small}
+use Rattle.rt_gen_queue.proofs.Facts.{known}
+use Rattle.rt_gen_queue.proofs.Planned.{facts, few_planned, free_there, inputs_there, target_made, top_small}
 use Rattle.rt_gen_queue.proofs.target.target_of.Goals as goal
+
+pub cell_at-free-requires : goal.cell_at-free-requires
+cell_at-free-requires c =
+    let cells = c.deref.ensures.value ∙ ap (λ (p : Plan). p.lay.free) c.plan.view_is in
+    rw (c.from-place.ensures ∙ c.task.view_is, cells)
+    (free_there c.args.task c.requires.accepted c.requires.planned c.requires.is_there c.requires.software)
+
+pub cell_at-inputs-requires : goal.cell_at-inputs-requires
+cell_at-inputs-requires c =
+    let starts = c.deref-2.ensures.value ∙ ap (λ (p : Plan). p.lay.inputs) c.plan.view_is in
+    rw (c.from-place.ensures ∙ c.task.view_is, starts)
+    (inputs_there c.args.task c.requires.accepted c.requires.planned c.requires.is_there c.requires.software)
 
 pub of-requires-clause-greatest : goal.of-requires-clause-greatest
 of-requires-clause-greatest c =
