@@ -35,6 +35,12 @@ module _ (plan : Plan) (planned : IsPlan plan) (mono : Mono) (timed : plan.app.n
       ap (λ (c : Ceilings). or_zero c.timer) planned.ceilings
       ∙ ap (λ o. or_zero (option_map (λ (m : Mono). ceiling of_plan section.Timer) o)) timed
 
+  pub top_there : IsSome plan.ceil.timer
+  top_there =
+      subst (λ o. IsSome o)
+      (sym (ap (λ (c : Ceilings). c.timer) planned.ceilings
+      ∙ ap (λ o. option_map (λ (m : Mono). ceiling of_plan section.Timer) o) timed)) refl
+
   pub irq_planned : or_zero (irq_number of_plan mono.irq) ≡ or_zero (storage of_plan).timer
   unfolding storage
   irq_planned = sym (ap (λ o. or_zero (then_from o (λ (m : Mono). irq_number of_plan m.irq))) timed)

@@ -1,7 +1,6 @@
 // The timer queue, as code finds it.
 
-ghost use Rattle.std.specs.Prelude.{◌≡◌, ◌≤◌, ◌*◌};
-ghost use Rattle.rt_ids.specs.Lists.{or_zero};
+ghost use Rattle.std.specs.Prelude.{◌≡◌, ◌≤◌, ◌*◌, Some, IsSome};
 ghost use Rattle.rt_ids.specs.declared.limits.TheConstants.{CAPACITY, TASKS};
 ghost use Rattle.rt_app.specs.Accepted.{IsAccepted};
 ghost use Rattle.rt_app.specs.Plan.{IsPlan};
@@ -27,14 +26,18 @@ pub struct TimerQueue {
     pub irq: Irq,
 }
 
-/// The ceiling of the timer queue, and 0 where there is none.
+/// The ceiling of the timer queue of an application with a monotonic.
 fn top_of(ceilings: &Ceilings) -> u8
-    ensures { result ≡ or_zero ceilings.now.timer }
+    requires timed { IsSome ceilings.now.timer }
+    ensures { ceilings.now.timer ≡ Some result }
 {
-    ceilings.timer.unwrap_or(0)
+    let Some(ceiling) = ceilings.timer else {
+        unreachable!()
+    };
+    ceiling
 }
 
-/// The first cell of the timer queue, and 0 where there is none.
+/// The first cell of the timer queue.
 fn first_cell(layout: &Layout) -> u16
     ensures { result ≡ layout.now.timer }
 {
