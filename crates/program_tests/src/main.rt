@@ -1,8 +1,8 @@
 // Tests of what commands do not show: sources and sinks with each call that fails, the bounds of types, and pending
-// words in threads. Cases stand in data/, and each has a line: its name, and `ok` or what differs. What the bounds are,
-// and what became of pends, is printed itself.
+// words and mailboxes in threads. Cases stand in data/, and each has a line: its name, and `ok` or what differs. What
+// the bounds are, and what became of pends and of words, is printed itself.
 // Promises: nothing: it is a program of tests.
-// Stands on: test_tables, rt_ids, rt_outside, rt_words.
+// Stands on: test_tables, rt_ids, rt_outside, rt_words, rt_values.
 // Read next: data.
 #![tactic(auto)]
 
@@ -10,6 +10,7 @@ mod bounds;
 mod part;
 mod sinks;
 mod sources;
+mod values;
 mod words;
 
 use anyhow::{Result, bail};
@@ -99,5 +100,6 @@ fn main(rt: HostRuntime) -> Result<()> {
     run_file(&rt, Table::Sinks)?;
     print_through_sink(&rt)?;
     bounds::print_bounds(&rt)?;
-    words::print_pends(&rt)
+    words::print_pends(&rt)?;
+    values::print_words(&rt)
 }

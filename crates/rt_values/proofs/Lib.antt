@@ -1,0 +1,10 @@
+pub mod Histories
+pub mod Views
+pub mod Giving
+pub mod Taking
+pub mod Meeting
+pub mod Ending
+pub mod Counting
+pub mod Latest
+pub mod Worked
+pub mod Blind

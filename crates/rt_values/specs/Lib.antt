@@ -1,0 +1,6 @@
+pub mod Object
+pub mod History
+pub mod Account
+pub mod Sides
+pub mod Latest
+pub mod Inside
