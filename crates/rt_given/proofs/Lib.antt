@@ -1,1 +1,4 @@
+pub mod Declared
 pub mod Told
+pub mod Only
+pub mod Sources

@@ -1,14 +1,15 @@
 -- What the lines of a text tell: lines of a script, and words for inputs of the board.
-use Rattle.std.proofs.Common.{◌≡◌, ◌<◌, ◌^◌, ◌+◌, ◌||◌, ◌&&◌, ℕ, Bool, Contains, List, [], ◌∷◌, ◌++◌, map, find}
+use Rattle.std.proofs.Common.{◌≡◌, ◌<◌, ◌^◌, ◌+◌, ◌||◌, ◌&&◌, ℕ, Bool, Contains, List, [], ◌∷◌, ◌++◌, map, find, filter}
 use Rattle.std.proofs.Common.{bytes_eq, codes, nat_le, nat_lt, slice_get, Option, Some, None}
 use Rattle.std.proofs.Common.{Result, Ok, Err, IfOk, IfSome, sym, ap, subst, ◌∙◌, append-nil}
+use Rattle.std.specs.List.{AllByRecursion}
 use Rattle.std.specs.Option.{ok_or}
 use Rattle.std.specs.Str.Parse.{digits_value}
 use Rattle.std.proofs.lemmas.Bool.{cond_both, ltb-true}
 use Rattle.std.proofs.lemmas.Grind.{flat_map-append}
 use Rattle.rt_lemmas.proofs.Bools.{and_right}
 use Rattle.rt_lemmas.proofs.Lists.{mapped_at}
-use Rattle.rt_lemmas.proofs.Membership.{all_append}
+use Rattle.rt_lemmas.proofs.Membership.{all_append, all_from_members, contains_at}
 use Rattle.rt_lemmas.proofs.Options.{if_some-map}
 use Rattle.rt_ids.specs.Lists.{is_some_and}
 use Rattle.rt_ids.specs.Names.{Names}
@@ -33,12 +34,14 @@ use Rattle.rt_app.proofs.Different.{contained}
 use Rattle.rt_board.specs.Board.{Board}
 use Rattle.rt_board.specs.Wording.{is_named}
 use Rattle.rt_board.specs.declared.board.Input.{Input}
-use Rattle.rt_given.specs.Given.{asks, asked, asked_line, count_of, HasDeviceInRange, GivesInput, GiveInputs}
+use Rattle.rt_given.specs.Given.{asks, asked, asked_line, count_of, is_for, HasDeviceInRange, GivesInput, GiveInputs}
 use Rattle.rt_given.specs.Wording.{asked_or_wrong, asked_of, word_of, input_named, input_at, given, give_of, words_ask}
-use Rattle.rt_given.specs.Wording.{line_of}
+use Rattle.rt_given.specs.Wording.{line_of, only_local, only_input, giving, device_line, device_words, DeviceWords}
+use Rattle.rt_given.specs.Wording.{asked_device}
+use Rattle.rt_given.proofs.Declared.{device_right}
 use Rattle.rt_given.specs.Reading.{with_said, given_reader}
 use Rattle.rt_given.specs.declared.line.GivenLine.{GivenLine}
-use Rattle.rt_given.specs.declared.line.GivenLine.TheVariants.{Gives}
+use Rattle.rt_given.specs.declared.line.GivenLine.TheVariants.{Counts, Draws, Gives}
 use Rattle.rt_given.specs.declared.refusal.Cause.TheVariants as cause
 
 -- a number that is read is below its bound
@@ -49,6 +52,14 @@ below_bound bound word =
     (λ is. ltb-true (digits_value 10 word) bound
     (and_right (are_digits 10 word && has_no_leading_zero word) (nat_lt (digits_value 10 word) bound) is))
     (λ _. tt)
+
+-- what holds of all holds of those that pass a test
+all_filtered : {X : Type 0} (P : X → Type 0) (test : X → Bool) (xs : List X) → AllByRecursion P xs
+    → AllByRecursion P (filter test xs)
+all_filtered P test [] all = tt
+all_filtered P test (x ∷ xs) all =
+    cond_both (test x) (x ∷ filter test xs) (filter test xs) (AllByRecursion P)
+    (λ _. (all.0, all_filtered P test xs all.1)) (λ _. all_filtered P test xs all.1)
 
 module _ (names : Names) (app : App) (board : Board) where
   -- the script's line, where it is one, requests a declared interrupt; its device is one that there is; and a word is
@@ -111,12 +122,52 @@ module _ (names : Names) (app : App) (board : Board) where
       by (Ok (Some line)) right = asks_right line right
       by (Err w) right = tt
 
+  only_right : (inputs : List Input) → AllByRecursion (λ input. IsInputLocal input.local) inputs
+      → IfOk (only_local inputs) IsInputLocal
+  only_right [] all = tt
+  only_right (input ∷ []) all = all.0
+  only_right (input ∷ other ∷ more) all = tt
+
+  input_of_irq : (irq : ℕ) → IfOk (only_local (filter (is_for app irq) board.inputs)) IsInputLocal
+  input_of_irq irq =
+      only_right (filter (is_for app irq) board.inputs)
+      (all_filtered (λ (input : Input). IsInputLocal input.local) (is_for app irq) board.inputs
+      (all_from_members (λ (input : Input). IsInputLocal input.local) board.inputs
+      (λ input there. let place = contains_at board.inputs input there in
+      contained (map (λ (i : Input). i.local) board.inputs) place.0 input.local
+      (mapped_at (λ (i : Input). i.local) board.inputs place.0 input place.1))))
+
+  giving_right : (how : List ℕ) (number : ℕ) (asked : Line) → number < 2 ^ 32
+      → HasName names asked × scripts_lines.HasDeviceInRange asked
+      → IfOk (and_make (only_input names app board asked) (λ local. Some (giving how number local asked))) AllRight
+  giving_right how number (Steps n) short right = tt
+  giving_right how number (Ticks n) short right = tt
+  giving_right how number (Pends irq n) short right = tt
+  giving_right how number (Device d irq n) short right =
+      if_ok_make AllRight (only_local (filter (is_for app irq) board.inputs))
+      (λ local. Some (giving how number local (Device d irq n))) IsInputLocal (input_of_irq irq)
+      (λ local is. cond_both (bytes_eq how (codes "from")) (Counts d irq n local number) (Draws d irq n local number)
+      IsRight (λ _. record { named = (right.0, tt); device = right.1; gives = (is, short) })
+      (λ _. record { named = (right.0, tt); device = right.1; gives = (is, short) }))
+
+  device_line_right : (line : List ℕ) (told : Option DeviceWords)
+      → IfOk (device_line names app board line told) AllRight
+  device_line_right line None = asked_right line
+  device_line_right line (Some w) =
+      if_ok_then AllRight (word_of w.number) _ (λ word. word < 2 ^ 32)
+      (if_ok_or (number_below (2 ^ 32) w.number) cause.BadLine (λ word. word < 2 ^ 32) (below_bound (2 ^ 32) w.number))
+      (λ number short. if_ok_then AllRight (asked_device names w) _
+      (λ asked. HasName names asked × scripts_lines.HasDeviceInRange asked) (device_right names w)
+      (λ asked right. giving_right w.how number asked short right))
+
   words_right : (line : List ℕ) (words : List (List ℕ))
       → IfOk (words_ask names app board line words) AllRight
   words_right line [] = asked_right line
   words_right line (first ∷ words) =
-      if_ok_chosen (bytes_eq first (codes "give")) (give_of app board words) (asked_of names line) AllRight
-      (λ _. give_right words) (asked_right line)
+      if_ok_chosen (bytes_eq first (codes "give")) (give_of app board words) _ AllRight
+      (λ _. give_right words)
+      (if_ok_chosen (bytes_eq first (codes "device")) (device_line names app board line (device_words words))
+      (asked_of names line) AllRight (λ _. device_line_right line (device_words words)) (asked_right line))
 
   pub said_right : (line : List ℕ) → IfOk (line_of names app board line) AllRight
   said_right line =

@@ -1,4 +1,5 @@
 pub mod Given
 pub mod Wording
+pub mod Words
 pub mod Reading
 pub mod Text

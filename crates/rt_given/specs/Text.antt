@@ -16,6 +16,8 @@ words cause.UnknownInterrupt = codes "3 unknown interrupt"
 words cause.TooManyEvents = codes "4 too many events"
 words cause.TooManyDevices = codes "5 too many devices"
 words cause.UnknownInput = codes "6 unknown input"
+words cause.NoInput = codes "7 no input"
+words cause.ManyInputs = codes "8 many inputs"
 
 -- the line that is printed
 abbrev pub refusal_text : ℕ → Cause → List ℕ

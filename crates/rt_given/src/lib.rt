@@ -4,16 +4,21 @@
 // Read next: specs/Given.antt and specs/Wording.antt, then src/reading.rt.
 #![tactic(auto)]
 
+mod device;
+mod input;
 pub mod laws;
 pub mod line;
 mod reading;
 pub mod refusal;
 pub mod script;
+pub mod source;
 mod words;
 
-pub use laws::texts_are_read_one_way;
+pub use input::is_for;
+pub use laws::{texts_are_read_one_way, words_are_drawn, words_count_up};
 pub use line::GivenLine;
 pub use reading::read_given;
 pub use refusal::{Cause, GivenRefused, refusal_text};
 pub use script::GivenScript;
+pub use source::Source;
 pub use words::input_named;

@@ -17,6 +17,11 @@ pub enum GivenLine {
     Pends(Irq, u32),
     /// So many requests of an interrupt by the device of a number, 0 to 15.
     Device(u8, Irq, u32),
+    /// So many requests of an interrupt by the device of a number, each with a word for a local resource, by its index
+    /// in the order of declaration. The words count up from the last number, modulo 2^32.
+    Counts(u8, Irq, u32, u8, u32),
+    /// The same with words that a generator draws, which starts at the last number.
+    Draws(u8, Irq, u32, u8, u32),
     /// From here on the device of a local resource, by its index in the order of declaration, holds a word.
     Gives(u8, u32),
 }
@@ -41,6 +46,7 @@ impl GivenLine {
         match self {
             GivenLine::Steps(count) | GivenLine::Ticks(count) => *count,
             GivenLine::Pends(_, count) | GivenLine::Device(_, _, count) => *count,
+            GivenLine::Counts(_, _, count, _, _) | GivenLine::Draws(_, _, count, _, _) => *count,
             GivenLine::Gives(_, _) => 0,
         }
     }

@@ -21,6 +21,10 @@ pub enum Cause {
     TooManyDevices,
     /// The board has no input of the name.
     UnknownInput,
+    /// The board has no input whose task binds the interrupt of the line's device, which is to give words.
+    NoInput,
+    /// It has several.
+    ManyInputs,
 }
 
 /// Why a text is no script beside devices.
@@ -63,5 +67,7 @@ fn words(cause: Cause) -> &'static [u8]
         Cause::TooManyEvents => b"4 too many events",
         Cause::TooManyDevices => b"5 too many devices",
         Cause::UnknownInput => b"6 unknown input",
+        Cause::NoInput => b"7 no input",
+        Cause::ManyInputs => b"8 many inputs",
     }
 }

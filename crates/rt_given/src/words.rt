@@ -7,6 +7,7 @@ ghost use Rattle.rt_app.specs.View.{app_of};
 ghost use Rattle.rt_board.specs.Wording.{is_named};
 ghost use Rattle.rt_given.specs.Wording as spec;
 
+use crate::device::{device_words, read_given_device};
 use crate::line::GivenLine;
 use crate::refusal::Cause;
 use rt_app::{App, Local};
@@ -33,8 +34,8 @@ pub(crate) fn read_given_line(
     read_words(names, app, board, line)
 }
 
-/// What the words of a line ask for: a word of a device where the first of them is `give`, and else what a script's
-/// line asks for.
+/// What the words of a line ask for: a word of a device where the first of them is `give`, requests with words where
+/// it is `device` and the words say whence a device's words come, and else what a script's line asks for.
 fn read_words(
     names: &Names,
     app: &App,
@@ -43,9 +44,32 @@ fn read_words(
 ) -> Result<Option<GivenLine>, Cause>
     ensures { result ≡ spec.words_ask names.now (app_of app.now) board.now line.now (spaced_words line.now) }
 {
-    match next_spaced_word(line) {
-        Some((b"give", words)) => read_give(app, board, words),
-        _ => read_asked(names, line),
+    let Some((first, words)) = next_spaced_word(line) else {
+        return read_asked(names, line);
+    };
+    if first == b"give".as_slice() {
+        read_give(app, board, words)
+    } else if first == b"device".as_slice() {
+        read_device_line(names, app, board, line, words)
+    } else {
+        read_asked(names, line)
+    }
+}
+
+/// What a line asks for whose first word is `device`, with the words behind it.
+fn read_device_line(
+    names: &Names,
+    app: &App,
+    board: &Board,
+    line: &[u8],
+    words: &[u8],
+) -> Result<Option<GivenLine>, Cause>
+    ensures { let told = spec.device_words (spaced_words words.now) in
+        result ≡ spec.device_line names.now (app_of app.now) board.now line.now told }
+{
+    match device_words(words) {
+        Some(words) => read_given_device(names, app, board, &words),
+        None => read_asked(names, line),
     }
 }
 
@@ -61,7 +85,7 @@ fn read_asked(names: &Names, line: &[u8]) -> Result<Option<GivenLine>, Cause>
 }
 
 /// What is wrong, as it is told of a script beside devices.
-fn cause_of(wrong: Wrong) -> Cause
+pub(crate) fn cause_of(wrong: Wrong) -> Cause
     ensures { result ≡ spec.cause_of wrong }
 {
     match wrong {
@@ -95,7 +119,7 @@ fn given(app: &App, board: &Board, name: &[u8], number: &[u8]) -> Result<Option<
 }
 
 /// A number of 32 bits.
-fn read_word(number: &[u8]) -> Result<u32, Cause>
+pub(crate) fn read_word(number: &[u8]) -> Result<u32, Cause>
     ensures { result ≡ spec.word_of number.now }
 {
     match number_below(number, 1 << 32) {
