@@ -1,0 +1,3 @@
+pub mod Latest
+pub mod Giving
+pub mod Good
