@@ -1,6 +1,8 @@
 // Whence the words of a device come.
 ghost use Rattle.std.specs.Prelude.{◌≡◌, option_map};
+ghost use Rattle.rt_script.specs.Generated.{generator_of};
 ghost use Rattle.rt_given.specs.Words as spec;
+ghost use Rattle.rt_given.specs.declared.source.Source.TheVariants.{Drawing};
 
 use crate::line::GivenLine;
 use rand_core::utils::NextWord;
@@ -16,17 +18,21 @@ pub enum Source {
 }
 
 impl Source {
-    /// The source of a line that asks for requests with words. A generator, O'Neill's PCG XSH RR 64/32, starts at the
-    /// line's number, with the device's number as its sequence.
+    /// The words that a generator draws for the device of a number. The generator, O'Neill's PCG XSH RR 64/32, starts
+    /// at `seed`, with the device's number as its sequence.
+    pub fn drawing(device: u8, seed: u32) -> Source
+        ensures { result ≡ Drawing (generator_of seed device) }
+    {
+        Source::Drawing(Lcg64Xsh32::new(u64::from(seed), u64::from(device)))
+    }
+
+    /// The source of a line that asks for requests with words.
     pub fn of(line: &GivenLine) -> Option<Source>
         ensures { result ≡ spec.source_of line.now }
     {
         match line {
             GivenLine::Counts(_, _, _, _, first) => Some(Source::Counting(*first)),
-            GivenLine::Draws(device, _, _, _, seed) => Some(Source::Drawing(Lcg64Xsh32::new(
-                u64::from(*seed),
-                u64::from(*device),
-            ))),
+            GivenLine::Draws(device, _, _, _, seed) => Some(Source::drawing(*device, *seed)),
             _ => None,
         }
     }

@@ -1,5 +1,5 @@
 -- What a device gives, part after part.
-use Rattle.std.proofs.Common.{◌≡◌, ℕ, zero, suc, ◌+◌, ◌<◌, ◌≤◌, List, [], ◌∷◌, ◌++◌, length, take, drop}
+use Rattle.std.proofs.Common.{◌≡◌, ℕ, ◌+◌, ◌<◌, ◌≤◌, List, [], ◌∷◌, ◌++◌, length, take, drop}
 use Rattle.std.proofs.Common.{get_or, Some, None, refl, ap, sym, subst, ◌∙◌, append_assoc, arith}
 use Rattle.std.proofs.Common.{append-nil}
 use Rattle.std.proofs.lemmas.List.{map-append, length-map, length-append}
@@ -11,34 +11,11 @@ use Rattle.rt_values.specs.declared.call.Call.{Call}
 use Rattle.rt_values.specs.declared.call.Call.TheVariants.{Give}
 use Rattle.rt_values.specs.Sides.{GiverSide}
 use Rattle.rt_given.specs.Given.{count_of}
-use Rattle.rt_given.specs.Words.{behind, given_words, next_word, source_of, words_by, words_of}
+use Rattle.rt_given.specs.Words.{given_words, source_of, words_by, words_of}
 use Rattle.rt_given.specs.declared.line.GivenLine.{GivenLine}
 use Rattle.rt_given.specs.declared.source.Source.{Source}
 use Rattle.rt_live_inputs.specs.Giving.{Gave, word_given, words_in}
 use Rattle.rt_live_inputs.specs.declared.device.GivingDevice.{GivingDevice}
-
--- the source behind so many words
-abbrev pub source_after : ℕ → Source → Source
-source_after zero s = s
-source_after (suc n) s = source_after n (behind s)
-
-pub after_one : (n : ℕ) (s : Source) → source_after (suc n) s ≡ behind (source_after n s)
-after_one zero s = refl
-after_one (suc n) s = after_one n (behind s)
-
-pub no_word : (s : Source) → given_words 0 s ≡ []
-unfolding given_words
-no_word s = refl
-
-pub one_word_more : (n : ℕ) (s : Source) → given_words (suc n) s ≡ given_words n s ++ next_word (source_after n s) ∷ []
-unfolding given_words
-one_word_more zero s = refl
-one_word_more (suc n) s = ap (λ (words : List ℕ). next_word s ∷ words) (one_word_more n (behind s))
-
-pub words_long : (n : ℕ) (s : Source) → length (given_words n s) ≡ n
-unfolding given_words
-words_long zero s = refl
-words_long (suc n) s = ap suc (words_long n (behind s))
 
 -- the words of a line, by its source
 pub words_none : (line : GivenLine) → source_of line ≡ None → words_of line ≡ []

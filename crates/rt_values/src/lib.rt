@@ -1,5 +1,8 @@
 // Mailboxes: a word that a device gives together with its request, in one atomic step, and that a core takes together
 // with it. All gives and takes stand in one history.
+// Promises: all gives and takes of a mailbox make one legal history; a take finds the latest word given, or none.
+// Stands on: rt_ids.
+// Read next: specs/History.antt and specs/Latest.antt, then src/mailbox.rt.
 #![tactic(auto)]
 
 mod call;

@@ -1,7 +1,8 @@
 use Rattle.std.proofs.Common.{◌≡◌, length, sym, ap, ◌∙◌, arith}
 use Rattle.rt_given.specs.Given.{count_of}
 use Rattle.rt_given.specs.Words.{words_of}
-use Rattle.rt_live_inputs.proofs.Giving.{words_long, words_some}
+use Rattle.rt_given.proofs.Sources.{words_long}
+use Rattle.rt_live_inputs.proofs.Giving.{words_some}
 use Rattle.rt_live_inputs.proofs.device.GivingDevice.give_line.Goals as goal
 
 pub give_words-requires-clause-room : goal.give_words-requires-clause-room

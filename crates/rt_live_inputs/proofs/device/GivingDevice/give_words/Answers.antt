@@ -1,9 +1,8 @@
 use Rattle.std.proofs.Common.{◌≡◌, ℕ, suc, ◌+◌, [], ◌∷◌, ◌++◌, List, refl, ap, sym, subst, ◌∙◌, arith}
 use Rattle.rt_given.specs.Words.{behind, given_words, next_word}
+use Rattle.rt_given.proofs.Sources.{after_one, no_word, one_word_more, source_after, words_long}
 use Rattle.rt_live_inputs.specs.Giving.{Gave}
-use Rattle.rt_live_inputs.proofs.Giving.{after_one, calls_length, gave_none, gave_on, gave_one, no_word, one_word_more}
-use Rattle.rt_live_inputs.proofs.Giving.{source_after}
-use Rattle.rt_live_inputs.proofs.Giving.{words_long}
+use Rattle.rt_live_inputs.proofs.Giving.{calls_length, gave_none, gave_on, gave_one}
 use Rattle.rt_live_inputs.proofs.device.GivingDevice.give_words.Goals as goal
 
 pub loop-done-init : goal.loop-done-init
