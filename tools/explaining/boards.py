@@ -165,6 +165,10 @@ def given_line(app, board, number, source, table):
     if number == 6:
         unknown_input(app, said, words[1], inputs_of(board), table)
         return said
+    if number in (7, 8):
+        said.at(words[3], table.cause(f"script {number}", N=words[3]))
+        said.helps = [table.mending(f"script {number}", N=words[3], W=" ".join(words[5:]))]
+        return said
     is_loose = source != source.strip(" \t\r") or "\t" in source
     if number != 2 or not words or is_loose or words[0] != "give" and words[0].lower() not in ("give", *GIVEN):
         return None

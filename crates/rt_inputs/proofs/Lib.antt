@@ -10,5 +10,6 @@ pub mod Reached
 pub mod Going
 pub mod Plain
 pub mod Words
+pub mod Requests
 pub mod Scripted
 pub mod Proved

@@ -19,6 +19,7 @@ use Rattle.rt_trace.specs.Text.{text, total_text}
 use Rattle.rt_trace.specs.declared.item.Item.{Item}
 use Rattle.rt_laws.specs.DeviceWords.{WithWords, One, Puts, ones, things}
 use Rattle.rt_laws.proofs.Beside.{things_ones, things_behind}
+use Rattle.rt_script.specs.Generated.{generator_of}
 use Rattle.rt_script.specs.Script.{HasNames, events}
 use Rattle.rt_run.proofs.Brief.{items_few}
 use Rattle.rt_run.proofs.Weighing.{weight, labels_weigh}
@@ -27,8 +28,11 @@ use Rattle.rt_sim.specs.Good.{AreDeclared, is_tick_event, is_arming}
 use Rattle.rt_sim.proofs.Wordless.{labels_ones}
 use Rattle.rt_board.specs.Board.{Board, no_board}
 use Rattle.rt_given.specs.Given.{asked, GiveInputs}
+use Rattle.rt_given.specs.Words.{given_words}
 use Rattle.rt_given.specs.declared.line.GivenLine.{GivenLine}
 use Rattle.rt_given.specs.declared.line.GivenLine.TheVariants as given
+use Rattle.rt_given.specs.declared.source.Source.TheVariants.{Counting, Drawing}
+use Rattle.rt_given.proofs.Sources.{counted_short, drawn_short}
 use Rattle.rt_inputs.specs.Inputs.{Happening, Comes, Gives, Registers, no_words, with_word, events_of, AreWords, taken}
 use Rattle.rt_inputs.specs.Inputs.{puts_for, moves_from}
 use Rattle.rt_inputs.specs.Script.{happenings, moves_under}
@@ -39,6 +43,7 @@ use Rattle.rt_inputs.proofs.Joined.{declared_append}
 use Rattle.rt_inputs.proofs.LinesBehind.{lines_of_ones}
 use Rattle.rt_inputs.proofs.Moved.{happened_more, events_come}
 use Rattle.rt_inputs.proofs.Plain.{text_of_items}
+use Rattle.rt_inputs.proofs.Requests.{request_words, requests_behind}
 use Rattle.rt_inputs.proofs.Scripted.{happened_length}
 
 equal_events : (n : ℕ) (e : Event) → events_of (replicate n (Comes e)) ≡ replicate n e
@@ -64,6 +69,12 @@ events_same (given.Device d irq n ∷ script) =
     happened_more (replicate n (Comes (Arrive irq))) (happenings script)
     ∙ ap (λ es. es ++ events_of (happenings script)) (equal_events n (Arrive irq))
     ∙ ap (λ es. replicate n (Arrive irq) ++ es) (events_same script)
+events_same (given.Counts d irq n local first ∷ script) =
+    requests_behind irq local n (Counting first) (happenings script)
+    ∙ ap (λ es. replicate n (Arrive irq) ++ es) (events_same script)
+events_same (given.Draws d irq n local seed ∷ script) =
+    requests_behind irq local n (Drawing (generator_of seed d)) (happenings script)
+    ∙ ap (λ es. replicate n (Arrive irq) ++ es) (events_same script)
 events_same (given.Gives local word ∷ script) = events_same script
 
 equal_words : (n : ℕ) (e : Event) (more : List Happening) → AreWords more → AreWords (replicate n (Comes e) ++ more)
@@ -81,6 +92,12 @@ words_given board (given.Pends irq n ∷ script) give =
     equal_words n (Arrive irq) (happenings script) (words_given board script give.1)
 words_given board (given.Device d irq n ∷ script) give =
     equal_words n (Arrive irq) (happenings script) (words_given board script give.1)
+words_given board (given.Counts d irq n local first ∷ script) give =
+    request_words irq local (given_words n (Counting first)) (happenings script) (counted_short n first give.0.1)
+    (words_given board script give.1)
+words_given board (given.Draws d irq n local seed ∷ script) give =
+    request_words irq local (given_words n (Drawing (generator_of seed d))) (happenings script)
+    (drawn_short n (generator_of seed d)) (words_given board script give.1)
 words_given board (given.Gives local word ∷ script) give = (give.0.1, words_given board script give.1)
 
 -- an interrupt whose number has a name is declared
@@ -124,6 +141,12 @@ module _ (app : App) where
       declared_append app (replicate n (Arrive irq)) (events (asked script)) (arrivals_declared n irq named.0)
       (all_declared script named.1)
   all_declared (given.Device d irq n ∷ script) named =
+      declared_append app (replicate n (Arrive irq)) (events (asked script)) (arrivals_declared n irq named.0)
+      (all_declared script named.1)
+  all_declared (given.Counts d irq n local first ∷ script) named =
+      declared_append app (replicate n (Arrive irq)) (events (asked script)) (arrivals_declared n irq named.0)
+      (all_declared script named.1)
+  all_declared (given.Draws d irq n local seed ∷ script) named =
       declared_append app (replicate n (Arrive irq)) (events (asked script)) (arrivals_declared n irq named.0)
       (all_declared script named.1)
   all_declared (given.Gives local word ∷ script) named = all_declared script named

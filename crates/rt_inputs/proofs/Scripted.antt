@@ -3,7 +3,7 @@ use Rattle.std.proofs.Common.{◌≡◌, ℕ, zero, suc, ◌+◌, ◌<◌, ◌�
 use Rattle.std.proofs.Common.{drop, replicate, if◌then◌else◌, inl, inr, refl, ap, sym, subst, ◌∙◌, get_or, append-nil}
 use Rattle.std.proofs.Common.{arith, length-append, option_map, unwrap_or}
 use Rattle.std.specs.List.{AllByRecursion}
-use Rattle.std.proofs.lemmas.List.{length-map}
+use Rattle.std.proofs.lemmas.List.{length-map, length-replicate}
 use Rattle.std.proofs.lemmas.List.Sums.{sum_by-cons}
 use Rattle.std.proofs.lemmas.Option.{slice_get_within}
 use Rattle.rt_lemmas.proofs.Indices.{there_is}
@@ -24,6 +24,7 @@ use Rattle.rt_code.specs.Lines.{HasLines}
 use Rattle.rt_core.specs.Core.{Core, reset}
 use Rattle.rt_core.specs.Machine.{Machine, IsFresh}
 use Rattle.rt_outside.specs.Bytes.{Took, TookAtLeast, TookPrefix}
+use Rattle.rt_script.specs.Generated.{generator_of}
 use Rattle.rt_script.specs.Script.{IsScript, HasName, HasNames, count}
 use Rattle.rt_trace.specs.Text.{total_text}
 use Rattle.rt_trace.specs.declared.buffer.TheConstants.{BUFFER_BYTES}
@@ -37,6 +38,7 @@ use Rattle.rt_board.specs.declared.board.Input.{Input}
 use Rattle.rt_given.specs.Given.{asked, asked_line, count_of}
 use Rattle.rt_given.specs.declared.line.GivenLine.{GivenLine}
 use Rattle.rt_given.specs.declared.line.GivenLine.TheVariants as given
+use Rattle.rt_given.specs.declared.source.Source.TheVariants.{Counting, Drawing}
 use Rattle.rt_inputs.specs.Inputs.{Happening, Comes, Registers, no_words, events_of, moves_from}
 use Rattle.rt_inputs.specs.Script.{happenings, line_happenings, moves_under, text_with_inputs}
 use Rattle.rt_inputs.specs.Shown.{lines_from, line_text, local_name}
@@ -47,6 +49,7 @@ use Rattle.rt_inputs.specs.Inside.Ran.{Ran, Cut, held_in, moment}
 use Rattle.rt_inputs.proofs.Advancing.{goes_on, cut_behind, cut_before, text_split}
 use Rattle.rt_inputs.proofs.Known.{steps_led, time_led}
 use Rattle.rt_inputs.proofs.Moved.{happened_more, events_come}
+use Rattle.rt_inputs.proofs.Requests.{requests_many}
 use Rattle.rt_inputs.proofs.Words.{flat_more, flat_rest, front_all, behind_all}
 
 same_events : (n : ℕ) (e : Event) → length (events_of (replicate n (Comes e))) ≡ n
@@ -58,6 +61,10 @@ line_length (given.Steps n) = same_events n Step
 line_length (given.Ticks n) = same_events n Tick
 line_length (given.Pends irq n) = same_events n (Arrive irq)
 line_length (given.Device d irq n) = same_events n (Arrive irq)
+line_length (given.Counts d irq n local first) =
+    ap length (requests_many irq local n (Counting first)) ∙ length-replicate n (Arrive irq)
+line_length (given.Draws d irq n local seed) =
+    ap length (requests_many irq local n (Drawing (generator_of seed d))) ∙ length-replicate n (Arrive irq)
 line_length (given.Gives local word) = refl
 
 line_count : (line : GivenLine) (script : List GivenLine)
@@ -66,6 +73,8 @@ line_count (given.Steps n) script = rw sum_by-cons refl
 line_count (given.Ticks n) script = rw sum_by-cons refl
 line_count (given.Pends irq n) script = rw sum_by-cons refl
 line_count (given.Device d irq n) script = rw sum_by-cons refl
+line_count (given.Counts d irq n local first) script = rw sum_by-cons refl
+line_count (given.Draws d irq n local seed) script = rw sum_by-cons refl
 line_count (given.Gives local word) script = omega arith
 
 -- a script is so many events

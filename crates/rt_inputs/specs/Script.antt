@@ -6,17 +6,31 @@ use Rattle.rt_code.specs.Image.{Image}
 use Rattle.rt_laws.specs.DeviceWords.{WithWords, things}
 use Rattle.rt_sim.specs.Beside.{shown_beside}
 use Rattle.rt_board.specs.Board.{Board}
+use Rattle.rt_given.specs.Words.{words_of}
 use Rattle.rt_given.specs.declared.line.GivenLine.{GivenLine}
 use Rattle.rt_given.specs.declared.line.GivenLine.TheVariants as given
 use Rattle.rt_inputs.specs.Inputs.{Happening, Comes, Gives, moves_of}
 use Rattle.rt_inputs.specs.Shown.{text_of_moves}
 
--- what a line of a script stands for: the events of a script's line, or a word for a device's register
+-- a request of an interrupt with a word: the device's register holds the word before the request arrives
+abbrev pub given_request : ℕ → ℕ → ℕ → List Happening
+given_request irq local word = Gives local word ∷ Comes (Arrive irq) ∷ []
+
+-- a request with each of these words, in order
+abbrev pub given_requests : ℕ → ℕ → List ℕ → List Happening
+given_requests irq local words = flat_map (given_request irq local) words
+
+-- what a line of a script stands for: the events of a script's line, with their words where its device gives some,
+-- or a word for a device's register
 abbrev pub line_happenings : GivenLine → List Happening
 line_happenings (given.Steps n) = replicate n (Comes Step)
 line_happenings (given.Ticks n) = replicate n (Comes Tick)
 line_happenings (given.Pends irq n) = replicate n (Comes (Arrive irq))
 line_happenings (given.Device d irq n) = replicate n (Comes (Arrive irq))
+line_happenings (given.Counts d irq n local first) =
+    given_requests irq local (words_of (given.Counts d irq n local first))
+line_happenings (given.Draws d irq n local seed) =
+    given_requests irq local (words_of (given.Draws d irq n local seed))
 line_happenings (given.Gives local word) = Gives local word ∷ []
 
 -- what happens under a script

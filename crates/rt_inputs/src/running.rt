@@ -17,8 +17,10 @@ ghost use Rattle.rt_run.specs.Writable.{IsWritable};
 ghost use Rattle.rt_run.specs.Inside.Writing as writing;
 ghost use Rattle.rt_board.specs.Board.{AreInputs};
 ghost use Rattle.rt_given.specs.Given.{asked, asked_line, count_of};
+ghost use Rattle.rt_given.specs.Words.{given_words};
 ghost use Rattle.rt_inputs.specs.Inputs.{Comes};
-ghost use Rattle.rt_inputs.specs.Script.{happenings, line_happenings, moves_under, text_with_inputs};
+ghost use Rattle.rt_inputs.specs.Script.{given_request, given_requests, happenings, line_happenings, moves_under};
+ghost use Rattle.rt_inputs.specs.Script.{text_with_inputs};
 ghost use Rattle.rt_inputs.specs.Going.{BreaksOff, MovesLead, without_words};
 ghost use Rattle.rt_inputs.specs.Inside.Placed.{CanRun};
 ghost use Rattle.rt_inputs.specs.Inside.Ran.{Ran, Cut, moment};
@@ -29,7 +31,7 @@ use crate::registers::Registers;
 use rt_app::App;
 use rt_board::Board;
 use rt_core::Core;
-use rt_given::{GivenLine, GivenScript};
+use rt_given::{GivenLine, GivenScript, Source};
 use rt_ids::Irq;
 use rt_outside::{Failed, Sink};
 use rt_run::put_end;
@@ -158,6 +160,64 @@ fn run_pend_line<K: Sink>(
     run_pends(core, irq, count, out, held)
 }
 
+/// One request of an interrupt, with a word that the register of a local resource holds before it arrives.
+fn run_word<K: Sink>(
+    core: &mut Core,
+    app: &App,
+    board: &Board,
+    registers: &mut Registers,
+    irq: Irq,
+    local: u8,
+    word: u32,
+    out: &mut K,
+    held: &mut Held,
+) -> Result<(), Failed>
+    requires can { CanRun (app_of app.now) board.now core.old }
+    requires few { core.old.steps + 1 < 2 ^ 31 }
+    requires declared { IsDeclared core.old.image.names irq }
+    ensures ok { OnOk result (Ran (app_of app.now) board.now (given_request irq local word)
+        (moment core.old registers.old) (moment core.new registers.new) (K.taken out.old) (K.taken out.new)
+        held.old.items held.new.items) }
+    ensures err { OnErr result (Cut (app_of app.now) board.now (given_request irq local word)
+        (moment core.old registers.old) core.new (K.taken out.old) (K.taken out.new) held.old.items) }
+    ensures cause { HasCause (K.faults out.old) (K.faults out.new) result }
+    ensures quiet { OnOk result (K.faults out.new ≡ K.faults out.old) }
+{
+    registers.give(local, word);
+    run_pend_line(core, app, board, registers, irq, 1, out, held)
+}
+
+/// So many requests of an interrupt, each with the next word of a source for a local resource.
+fn run_words<K: Sink>(
+    core: &mut Core,
+    app: &App,
+    board: &Board,
+    registers: &mut Registers,
+    irq: Irq,
+    local: u8,
+    source: &mut Source,
+    count: u32,
+    out: &mut K,
+    held: &mut Held,
+) -> Result<(), Failed>
+    requires can { CanRun (app_of app.now) board.now core.old }
+    requires few { core.old.steps + count < 2 ^ 31 }
+    requires declared { IsDeclared core.old.image.names irq }
+    ensures ok { OnOk result (Ran (app_of app.now) board.now (given_requests irq local (given_words count source.old))
+        (moment core.old registers.old) (moment core.new registers.new) (K.taken out.old) (K.taken out.new)
+        held.old.items held.new.items) }
+    ensures err { OnErr result (Cut (app_of app.now) board.now (given_requests irq local (given_words count source.old))
+        (moment core.old registers.old) core.new (K.taken out.old) (K.taken out.new) held.old.items) }
+    ensures cause { HasCause (K.faults out.old) (K.faults out.new) result }
+    ensures quiet { OnOk result (K.faults out.new ≡ K.faults out.old) }
+{
+    for _done in 0..count {
+        let word = source.next();
+        run_word(core, app, board, registers, irq, local, word, out, held)?;
+    }
+    Ok(())
+}
+
 /// What a line of a script beside devices stands for.
 fn run_line<K: Sink>(
     core: &mut Core,
@@ -185,6 +245,18 @@ fn run_line<K: Sink>(
         GivenLine::Ticks(count) => run_tick_line(core, app, board, registers, *count, out, held),
         GivenLine::Pends(irq, count) | GivenLine::Device(_, irq, count) => {
             run_pend_line(core, app, board, registers, *irq, *count, out, held)
+        }
+        GivenLine::Counts(_, irq, count, local, first) => {
+            let mut words = Source::Counting(*first);
+            run_words(
+                core, app, board, registers, *irq, *local, &mut words, *count, out, held,
+            )
+        }
+        GivenLine::Draws(device, irq, count, local, seed) => {
+            let mut words = Source::drawing(*device, *seed);
+            run_words(
+                core, app, board, registers, *irq, *local, &mut words, *count, out, held,
+            )
         }
         GivenLine::Gives(local, word) => {
             registers.give(*local, *word);

@@ -29,6 +29,8 @@ count_line (given.Steps n) = omega arith
 count_line (given.Ticks n) = omega arith
 count_line (given.Pends irq n) = omega arith
 count_line (given.Device d irq n) = omega arith
+count_line (given.Counts d irq n local first) = omega arith
+count_line (given.Draws d irq n local seed) = omega arith
 
 device_line : (line : GivenLine) → HasDeviceInRange line → AllByRecursion script.HasDeviceInRange (asked_line line)
 device_line (given.Gives local word) has = tt
@@ -36,6 +38,8 @@ device_line (given.Steps n) has = (tt, tt)
 device_line (given.Ticks n) has = (tt, tt)
 device_line (given.Pends irq n) has = (tt, tt)
 device_line (given.Device d irq n) has = (has, tt)
+device_line (given.Counts d irq n local first) has = (has, tt)
+device_line (given.Draws d irq n local seed) has = (has, tt)
 
 -- a script with one more line
 one_more : (s : List GivenLine) (line : GivenLine) → IsScript (asked s) → HasDeviceInRange line
