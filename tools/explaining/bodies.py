@@ -1,6 +1,7 @@
 """Habits for which it matters whose body it is, or what the text has named: loops without an end, values in a head."""
 import re
 
+from .calls import of_task
 from .pieces import pieces_of
 from .tokens import WORDS, between, nearest
 
@@ -11,7 +12,6 @@ SENDS = re.compile(r"send|put|post|push|give|notify|signal|queue|start|run|call|
 # a sign of one byte or of UTF-8 between the two halves of a word
 PARTED = r"(?:[^\w\s]{1,3})"
 STOPS = re.compile(r"stop|cancel|abort|kill|withdraw|clear", re.IGNORECASE)
-LATER = re.compile(r"timer|timeout|later|after|delay|schedule", re.IGNORECASE)
 STATEMENTS = ("let", "if", "for", "lock", "emit", "pend", "spawn", "spawn_after", "cancel", "reschedule_after")
 # the words after which a name is declared
 NAMING = ("app", "task", "let", "for", "with")
@@ -33,7 +33,7 @@ def endless(syntax, found):
         return None
     name = piece.tokens[1].text
     if syntax.named.tasks.get(name):
-        return f"no body runs for ever: a handler runs once for each request of its interrupt, so leave `{word[1]}` out"
+        return f"no body runs for ever: a handler runs once for each request of its interrupt"
     return f"no body runs for ever: `spawn_after(d) {name}(..);` as its last statement runs it again d ticks later"
 
 
@@ -53,7 +53,8 @@ def values_in_head(syntax, found):
     if not values:
         return None
     head = f"task {front[opened - 1].text}" + "(..)" * (front[-1].text == ",")
-    return f"the values of a message come after `with`: `{head} with {', '.join(values)} {{ .. }}`"
+    return ("options have names, as `priority = 1`, and the values of a message come after `with`: "
+            f"`{head} with {', '.join(values)} {{ .. }}`")
 
 
 def is_context(syntax, name):
@@ -67,23 +68,13 @@ def handed(syntax, found):
     name = syntax.front[-1] if syntax.front else None
     if not name or syntax.token.text != "(" or name.kind != "name":
         return None
-    stops = STOPS.search(name.text)
-    if not stops and not SENDS.search(name.text):
+    if not STOPS.search(name.text) and not SENDS.search(name.text):
         return None
     inner = [token.text for token in between(syntax.rest)[0]]
     first = inner[1:2] if inner[:1] == ["&"] else inner[:1]
     if not first or first[0] not in syntax.named.tasks or name.text in syntax.named.tasks:
         return None
-    interrupt = syntax.named.tasks[first[0]]
-    if stops and not interrupt:
-        return f"`{first[0]}` is a task: `cancel {first[0]}(h);` withdraws its message with the handle h"
-    if interrupt:
-        return f"`{first[0]}` is a hardware task: `pend {interrupt};` makes it run"
-    if re.search("resched|restart|rearm|move|extend|postpone", name.text.lower()):
-        return f"`{first[0]}` is a task: `reschedule_after(d) {first[0]}(h);` moves its message with the handle h"
-    if LATER.search(name.text):
-        return f"`{first[0]}` is a task: `spawn_after(d) {first[0]}(..);` sends it a message in d ticks"
-    return f"`{first[0]}` is a task: `spawn {first[0]}(..);` sends it a message"
+    return of_task(syntax, first[0])
 
 
 def other_option(syntax, found):
@@ -114,7 +105,8 @@ def split_name(syntax, found):
     names = {behind.text for token, behind in zip(tokens, tokens[1:]) if behind.kind == "name" and token.text != "app"}
     whole = [last.text + sign + syntax.token.text for sign in ("", "_")]
     return next((f"`{name}` is one word" for name in whole if name in names | WORDS
-                 and syntax.trials.is_further(last.at, syntax.token.end, name)), None)
+                 and syntax.trials.is_further(last.at, syntax.token.end, name)
+                 and syntax.trials.stands(last.at, syntax.token.end, name)), None)
 
 
 def two_names(syntax, found):
@@ -158,4 +150,4 @@ def outside(syntax, found):
         return None
     if syntax.token.kind == "name" and behind == ["("]:
         return f"no declaration begins with `{syntax.token.text}`, and no statement comes between the declarations"
-    return "no statement comes between the declarations: it goes into `init { .. }` or another body"
+    return "no statement comes between the declarations: statements are in `init { .. }` and the other bodies"

@@ -25,7 +25,7 @@ def unclosed(syntax, found):
     if word in ("shared", "local") and is_balanced(syntax):
         return f"`{word} {{ .. }}` comes before all bodies, and a body lists what it uses in its head: `{word} = [..]`"
     if word in BODIES and is_balanced(syntax):
-        return f"`{word}` comes outside all other bodies: close the `{first.text}` of line {line} before it"
+        return f"`{word}` comes outside all other bodies, and the `{first.text}` of line {line} is open here"
     told = f"the `{first.text}` of line {line} is not closed"
     if first.text == "{" and last is not first:
         told += ", or one after it"

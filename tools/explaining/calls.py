@@ -6,8 +6,6 @@ from .tokens import all_near, between, nearest
 CALL_WORDS = ("spawn", "spawn_after", "cancel", "reschedule_after", "emit", "pend", "lock")
 NO_WORDS = ("spawn_at", "reschedule_at", "unlock", "unpend", "clock")
 WITHDRAWS = ("unpend", "clear", "unset")
-STARTS = re.compile(r"send|put|post|push|give|notify|signal|queue|start|run|call|wake|resume|trigger|pend|raise", re.I)
-ENDS = re.compile(r"stop|cancel|abort|kill|withdraw|clear|suspend|delete", re.I)
 NEARLY, SURELY = 0.75, 0.85
 LATER = re.compile(r"^(?:after|later|every|defer|periodic|schedule)")
 FEW = 4
@@ -19,6 +17,7 @@ class Named:
     def __init__(self, tokens):
         self.tasks, self.armed, self.interrupts = {}, [], declared(tokens, "interrupts")
         self.resources = declared(tokens, "shared") + declared(tokens, "local")
+        self.has_timer = any(token.text in ("monotonic", "spawn_after") for token in tokens)
         for number, token in enumerate(tokens[:-1]):
             behind = tokens[number + 1]
             if token.text == "task" and behind.kind == "name":
@@ -50,6 +49,17 @@ def bound(tokens):
         if token.text == "binds":
             return tokens[number + 2].text
     return None
+
+
+def of_task(syntax, name):
+    """All that is done with the task of a name: which of it is meant, nobody knows but who wrote it."""
+    if syntax.named.tasks[name]:
+        return f"`{name}` is a hardware task: `pend {syntax.named.tasks[name]};` makes it run"
+    told = f"`{name}` is a task: `spawn {name}(..);` sends it a message"
+    if not syntax.named.has_timer:
+        return told
+    return (f"{told}, `spawn_after(d) {name}(..);` one in d ticks, `reschedule_after(d) {name}(h);` moves that, and "
+            f"`cancel {name}(h);` withdraws it")
 
 
 def without_task(syntax, found):
@@ -88,8 +98,7 @@ def delayed(syntax, found):
     word, name = syntax.front[-1], rest[0].text
     if word.kind != "name" or word.text in NO_WORDS or LATER.search(word.text):
         return None
-    return (f"`{name}` is a task: `spawn_after(d) {name}(..);` sends it a message in d ticks, and "
-            f"`reschedule_after(d) {name}(h);` moves one")
+    return of_task(syntax, name)
 
 
 def called(syntax, found):
@@ -99,20 +108,9 @@ def called(syntax, found):
     name = syntax.front[-1].text
     if syntax.before.endswith(f"spawn {name}") and syntax.named.tasks[name]:
         return f"`{name}` is a hardware task: `pend {syntax.named.tasks[name]};` makes it run"
-    interrupt, first = syntax.named.tasks[name], [token.text for token in syntax.front[-4:-1]]
-    if first[-1:] not in ([";"], ["{"], ["}"]) and syntax.token.text != "(":
+    if [token.text for token in syntax.front[-2:-1]] not in ([";"], ["{"], ["}"]) and syntax.token.text != "(":
         return None
-    if interrupt:
-        return f"`{name}` is a hardware task: `pend {interrupt};` makes it run"
-    behind = between(syntax.rest)[1] if syntax.token.text == "(" else []
-    if behind and behind[0].text in ("after", "in", "at", "later"):
-        return f"`{name}` is a task: `spawn_after(d) {name}(..);` sends it a message in d ticks"
-    values = ".." if syntax.token.text == "(" and syntax.rest[1:2] and syntax.rest[1].text != ")" else ""
-    if first[-1:] in ([";"], ["{"], ["}"]):
-        withdrawn = f", and `cancel {name}(h);` withdraws one" * (name in syntax.named.armed)
-        return f"`{name}` is a task: `spawn {name}({values});` sends it a message{withdrawn}"
-    answer = first[1] if first[:1] == ["let"] and first[2:] == ["="] else "sent"
-    return f"`{name}` is a task: `let {answer} = spawn {name}({values});` sends it a message"
+    return of_task(syntax, name)
 
 
 def sent_by_sign(syntax, found):
@@ -122,17 +120,7 @@ def sent_by_sign(syntax, found):
     name, method = syntax.front[-1].text, re.match(r"\. ([A-Za-z_]\w*) \(", syntax.behind)
     if name not in syntax.named.tasks or not re.match(r"< -|<<|! \w", syntax.behind) and not method:
         return None
-    interrupt = syntax.named.tasks[name]
-    if method and method[1] in ("cancel", "reschedule_after") and not interrupt:
-        form = "cancel" if method[1] == "cancel" else "reschedule_after(d)"
-        return f"`{name}` is a task, and a message of it has a handle h: `{form} {name}(h);`"
-    if method and (method[1] in CALL_WORDS or interrupt and not STARTS.search(method[1])):
-        return None
-    if interrupt:
-        return f"`{name}` is a hardware task: `pend {interrupt};` makes it run"
-    if method and ENDS.search(method[1]):
-        return f"`{name}` is a task: `cancel {name}(h);` withdraws its message with the handle h"
-    return f"`{name}` is a task: `spawn {name}(..);` sends it a message"
+    return None if method and method[1] in CALL_WORDS else of_task(syntax, name)
 
 
 def is_known(syntax, name):
@@ -156,18 +144,19 @@ def method(syntax):
 
 
 def unknown_word(syntax, found):
-    """An unknown word at the beginning of a statement, before the name of a task or an interrupt."""
-    if found != {"="} or not syntax.in_body or syntax.token.kind != "name":
+    """An unknown word at the beginning of a statement, or as a value, before the name of a task or an interrupt."""
+    if not found & {"=", "+"} or not syntax.in_body or syntax.token.kind != "name" or not syntax.front:
         return None
+    if "+" in found:
+        is_call = syntax.token.text in syntax.named.software and [one.text for one in syntax.rest[1:2]] == ["("]
+        last = syntax.front[-1]
+        is_word = last.kind == "name" and not is_known(syntax, last.text) and not nearest(
+            last.text.lower(), CALL_WORDS, SURELY)
+        return of_task(syntax, syntax.token.text) if is_call and is_word else None
     word, name = syntax.front[-1].text.lower(), syntax.token.text
     behind = syntax.rest[1].text if len(syntax.rest) > 1 else ""
-    if name in syntax.named.software and behind == "(" and (ENDS.search(word) or word in ("del", "drop", "remove")):
-        return f"`{name}` is a task: `cancel {name}(h);` withdraws its message with the handle h"
-    if name in syntax.named.software and behind == "(" and word.startswith("resched"):
-        return f"`{name}` is a task: `reschedule_after(d) {name}(h);` moves its message with the handle h"
     if name in syntax.named.software and behind == "(" and not nearest(word, ("spawn", "cancel"), SURELY):
-        withdrawn = f", and `cancel {name}(h);` withdraws one" * (not STARTS.search(word))
-        return f"`{name}` is a task: `spawn {name}(..);` sends it a message{withdrawn}"
+        return of_task(syntax, name)
     if name in syntax.named.interrupts and behind in (";", "}") and word not in WITHDRAWS and not nearest(
             word, ("pend",), SURELY):
         return f"`{name}` is an interrupt: `pend {name};` requests it"
@@ -189,5 +178,6 @@ def nearly(syntax, found):
         if word.removeprefix(one) in syntax.named.tasks:
             return f"a blank comes between two words: `{one} {word.removeprefix(one)}`"
     last = syntax.front[-1]
-    near = [one for one in all_near(word.lower(), words, NEARLY) if syntax.trials.is_further(last.at, last.end, one)]
+    near = [one for one in all_near(word.lower(), words, NEARLY)
+            if syntax.trials.is_further(last.at, last.end, one) and syntax.trials.stands(last.at, last.end, one)]
     return f"`{word}` is no word of the language: `{near[0]}` is" if len(near) == 1 else None

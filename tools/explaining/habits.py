@@ -9,7 +9,7 @@ import re
 
 from .marks import BEGINS, COMMENT
 from .tokens import WORDS, tokens_of
-from .trials import is_glued, is_new, is_nothing, is_prefix, is_requested, is_strange, to
+from .trials import is_confirmed, is_glued, is_new, is_nothing, is_prefix, is_requested, is_strange, to
 
 OPPOSITE = {"==": "!=", "!=": "==", "<": ">=", ">=": "<", ">": "<=", "<=": ">"}
 OTHER_NAME = rf"(?!(?:{'|'.join(sorted(WORDS))})\b)[A-Za-z_]\w*"
@@ -28,12 +28,12 @@ QUOTABLE = (
     r"(?:\bbinds =|\b(?:shared|local|dispatchers) = \[(?: [^\]]*,)?|\b(?:pend|lock|spawn|app|task|with)"
     r"|\b(?:interrupts|shared|local) \{(?: [^}]*,)?)$"
 )
-UNQUOTED = "a name has no quotes round it: write `<x>`"
+UNQUOTED = "a name has no quotes round it: `<x>`"
 NO_TEXTS = "there are no texts and characters: `emit` shows a number"
 NO_MACROS = "there are no macros: `emit N;` shows a number in the trace"
 NUMERAL = "a number is decimal digits, or `0x` and hexadecimal ones: no `_`, no `0b`, no `0o`"
 COMPARED = "there is no `<w>`: a comparison is 0 or 1, so write `(a == b) <o> (c < d)`"
-ONE_NUMBER = "a resource or a variable is one number and has no fields: write its name alone"
+ONE_NUMBER = "a resource or a variable is one number, and has no fields"
 LISTED = "a local is declared in `local { <x> = 0 }`, and listed by its name alone"
 LISTING = "this is a listing, which `build` writes; an application begins with `app`"
 BRACES = "no `;` comes after a block"
@@ -41,9 +41,9 @@ NOT_EQUAL = "not equal is `!=`"
 HEXADECIMAL = "a hexadecimal number begins with `0x`: `0x<x>`"
 ONE_FILE = "an application is one file, and takes in no other"
 
-NO_WFI = "without `idle` the core waits by itself while nothing runs: leave it out"
+NO_WFI = "without `idle` the core waits by itself while nothing runs"
 NO_CHANNELS = "there are no channels: each software task has a queue of its own, `task t(capacity = 4) with x { .. }`"
-NO_FRAME = "nothing is round the declarations: leave this out, and the brace that closes it"
+NO_FRAME = "nothing is round the declarations, and no brace closes them"
 SERVED = "a task serves an interrupt: `task t(binds = I) { .. }`"
 NO_DELAY = "no body waits: `spawn_after(d) t(..);` goes on in a task d ticks later"
 NO_PINS = "a body sets and reads no pin or register: `emit N;` shows a number in the trace"
@@ -51,7 +51,7 @@ NO_MASKS = "nothing masks all interrupts: `lock a { .. }` holds off those who sh
 VARIABLE = "a variable of one body is declared in `local { <x> = 0 }`, one of several in `shared { <x> = 0 }`"
 BLOCKS = "what depends on an `if` goes in braces: `if a { .. } else { .. }`"
 RESOURCES = "resources are declared in `shared { a = 0 }` and `local { n = 0 }`"
-BY_NAME = "the values of a message have no names: write them in their order"
+BY_NAME = "the values of a message have no names, and come in their order"
 DISPATCHERS = "interrupts for software tasks are named in the first declaration: `dispatchers = [SSI0]`"
 # a type of one word before a variable; of several, the place is behind the first
 FIRST_TYPES = [
@@ -115,9 +115,10 @@ GLUED = [
     (r"(?:^|(?<!_after \( ))\b(?P<x>\d+)$", r"[hH]\b", HEXADECIMAL),
     (r"\b(?P<n>\d+)$", r"(?P<x>[0-9A-Fa-f]*)[hH]\b", HEXADECIMAL.replace("<x>", "<n><x>")),
     (r"\b(?P<w>\w+_after) \( [^;]*\b(?P<n>\d+)$", r"(?:ns|us|ms|s|sec|min|millis|secs)\b",
-     "a delay is a number of ticks: `<w>(<n>) ..`"),
-    (r"\b(?P<n>\d+)$", r"(?:ns|us|ms|s|sec|min|millis|secs)\b", "a number has no unit: write `<n>`"),
-    (r"\b\d\w*$", r"_\w*|[bo]\d\w*|[xX]\w*|[eE]\d+", NUMERAL),
+     "a delay is a number of ticks, and has no unit: `<w>(d) ..`"),
+    (r"\b(?P<n>\d+)$", r"(?:ns|us|ms|s|sec|min|millis|secs)\b", "a number has no unit, and time is counted in ticks"),
+    (r"\b\d\w*$", r"_\d\w*|[eE]\d+\b", NUMERAL),
+    (r"\b0x?[0-9a-fA-F]*$", r"_\w*|[bo]\d\w*|[xX]\w*", NUMERAL),
 ]
 
 # what a text is that is no application
@@ -131,8 +132,9 @@ SYNTAX = [
     *OTHER_TEXTS,
     (r"\b(?P<w>\w+_after) \( [^;]*\b(?P<n>\d+)$",
      r"(?:[num]?s|secs?|min|milli\w*|micro\w*|seconds?|ticks?|cycles?|steps?)\b",
-     "a delay is a number of ticks: `<w>(<n>) ..`"),
-    (r"\b(?P<n>\d+)$", r"(?:[num]s|sec|min|millis|secs|ticks|cycles)\b", "a number has no unit: write `<n>`", to("")),
+     "a delay is a number of ticks, and has no unit: `<w>(d) ..`"),
+    (r"\b(?P<n>\d+)$", r"(?:[num]s|sec|min|millis|secs|ticks|cycles)\b",
+     "a number has no unit, and time is counted in ticks", to("")),
     (r"^$", r"(?:use|mod|extern|pub|fn|struct|const|static)\b",
      "Rust is not read here: an application begins with `app name(bits = 4);`"),
     *[(rf"(?<!\S){sign}$", rf"{sign}(?: |$)", f"`{sign}{sign}` is one sign, without a blank in it") for sign in "<>"],
@@ -150,8 +152,8 @@ SYNTAX = [
     (r"\b(?:if|emit) [^;{}]*$", r"= >(?: |$)", "greater or equal is `>=`", to(">=")),
     (r"\b(?:if|emit) [^;{}]*$", r"= <(?: |$)", "less or equal is `<=`", to("<=")),
     *[(rf"\b(?P<x>[A-Za-z_]\w*) [{sign}]$", rf"[{sign}] (?:[;),{{*/%&|^]|<<|>>|[=!<>]=|[<>])",
-       f"there is no `{sign}{sign}`: write `<x> = <x> {sign} 1;`") for sign in "+-"],
-    (r"\*$", r"\*", "there is no `**`: a power of 2 is `1 << n`"),
+       f"there is no `{sign}{sign}`: `<x> = <x> {sign} 1;` is a statement of its own") for sign in "+-"],
+    (r"\*$", r"\*", "there is no `**`: a square is `a * a`, and a power of 2 is `1 << n`"),
     (r"(?:\w|\))$", rf"as (?:u|i)8\b", "there are no types: the low 8 bits of a value are `value & 255`"),
     (r"(?:\w|\))$", rf"as (?:u|i)16\b", "there are no types: the low 16 bits of a value are `value & 65535`"),
     (r"(?:\w|\))$", rf"as (?P<t>{TYPE})", NO_TYPES.replace(": <t>", "as <t>")),
@@ -161,13 +163,12 @@ SYNTAX = [
      "there are no types: the low 16 bits of a value are `value & 65535`"),
     (rf"{BEFORE_CAST}\( (?P<t>(?:unsigned |signed )?(?:{TYPE}|u?int(?:32|64)_t|long|unsigned)) \)$", r"[\w(]",
      "there are no types, every value is a number of 32 bits: leave `(<t>)` out"),
-    (r"\bif$", r"let (?:Err|None)\b", "an `if` takes an expression: `let sent = spawn ..;` before it, and then "
-     "`if sent == 0 { .. }`"),
-    (r"\bif$", r"let\b", "an `if` takes an expression: `let sent = spawn ..;` before it, and then `if sent { .. }`"),
+    (r"\bif$", r"let\b", "an `if` takes an expression and no `let`: what a spawn or a `cancel` answers is the value of "
+     "a `let` before it, 1 or 0"),
     (r"[(,]$", r"resources = \[",
      "`resources = [..]` is `shared = [..]` here, or `local = [..]` for what one body alone uses"),
     (r"[(,]$", r"(?P<w>spawn|schedule) = \[",
-     "each body may spawn every software task: leave `<w> = [..]` out"),
+     "each body may spawn every software task, and has no `<w>`"),
     (r"[;}]$", r'extern " C', DISPATCHERS),
     (r"[;}]$", r"(?!monotonic\b)\w*monotonic\w* (?:! )?[({]",
      "the timer of messages is declared by `monotonic(binds = I, priority = 3);`"),
@@ -200,15 +201,15 @@ SYNTAX = [
      "a loop counts by 1: `for i in 0..5 { .. }`, and inside it `i * 2`"),
     (r"\b[A-Z][A-Z0-9_]* -$", r">", NO_PINS),
     (r"[A-Za-z_]\w* -$", r"> [A-Za-z_]", ONE_NUMBER, is_prefix),
-    (r"@ (?P<w>unsafe|async|try|static|mut)$", r"\{", "there is no `<w>`: leave it out"),
+    (r"@ (?P<w>unsafe|async|try|static|mut)$", r"\{", "there is no `<w>`"),
     (r"(?:^|(?<!\w))(?:__)?asm(?:__)?$", r"\(|volatile\b",
      "no instruction of the processor can be written: bodies have the statements of the language alone"),
     (r"(?:^|(?<!\w))(?P<w>Some|Ok|Err)$", r"\(", "there is no `<w>`: each value is a number"),
-    (r"\b(?:shared|local|dispatchers) =$", r"\( (?P<x>[A-Za-z_]\w*)", "a list goes in brackets: `[<x>]`"),
+    (r"\b(?:shared|local|dispatchers) =$", r"\( [A-Za-z_]\w*", "a list goes in brackets: `[a, b]`"),
     (r"\bspawn (?P<x>\w+)$", r"= (?P<t>\w+) \(", "the variable comes first: `let <x> = spawn <t>(..);`"),
     (r"\bspawn \w+ \( (?:[^;]*, )?\w+$", r"=(?: |$)", BY_NAME),
     (r"=$", r"\+ (?P<n>\w+)\b(?! \w)",
-     "there is no sign before a number: leave the `+` out, or write `x = x + <n>;` to add", is_glued),
+     "there is no sign before a number, and `x = x + <n>;` adds", is_glued),
     (r"^app [^;]*; interrupts$", r"[(\[]", "rows go in braces: `interrupts { .. }`"),
     *[(rf"(?:^|(?<!\w)){name}$", r"\(", sentence) for name, sentence in FUNCTIONS],
     (rf"@ {DELAYS}$", r"\w", NO_DELAY),
@@ -221,11 +222,11 @@ SYNTAX = [
     (r"\bdispatchers = \[(?: [^\]]*,)?$", r"(?P<n>\d+)\b",
      "an interrupt is named: `interrupts { I = <n> }` declares it, and `dispatchers = [I]` takes it"),
     (r"\b(?:interrupts|shared|local) \{(?: [^}]*,)?$", r"let\b",
-     "a resource is declared by its name and its first value: leave `let` out"),
+     "a resource is declared by its name and its first value, without `let`"),
     (r"@$", r"with\b", "`with` names the arguments of a task; a lock is `lock a { .. }`"),
     (rf"(?<=[;{{}}] )(?P<x>(?!{OTHERS}\b){OTHER_NAME})$", r"(?P<w>pend|emit|lock|cancel|spawn)\b(?! =)",
      "the word comes first: `<w> <x> ..`", to("<w> <x>", 1)),
-    (r"@ \w+$", r"(?:, \w+ )+= ", "an assignment sets one variable: write several, with a `let` first to swap two"),
+    (r"@ \w+$", r"(?:, \w+ )+= ", "an assignment sets one variable"),
     (r"\bpend \w+$", r"(?:priority|capacity|binds|shared|local|with)\b(?! \w+ =)",
      "a pend has the interrupt alone: what belongs to its task is in the task's head"),
     (rf"(?<=[;{{}}] )(?P<x>{OTHER_NAME})$", r"(?P<y>(?:, \w+ )+)lock\b", "the word comes first: `lock a, b { .. }`"),
@@ -237,17 +238,18 @@ SYNTAX = [
     (r"@ (?:atomic\w*|critical\w*|synchronized|mutex\w*|guard\w*|exclusive|protected|locked|with_lock|interrupt_free)$",
      r"[({]", "a resource is held for a block: `lock a { .. }`"),
     (r"@ when$", r"[\w(]", "there is no `when`: write `if a { .. }`"),
-    (r"@ return$", r"[\w(]", "no body hands back a value: assign a resource, or send a message with it"),
+    (r"@ return$", r"[\w(]", "no body hands back a value"),
     (r"@ unless$", r"[\w(]", "there is no `unless`: write `if a == 0 { .. }`"),
     (r"\b(?:shared|local) \{ [^}]*=$", r"\[", "a resource is one number, and there are no arrays"),
     (r"@ static$", rf"(?:mut )?(?:{C_TYPE} )?(?P<x>[A-Za-z_]\w*)", VARIABLE),
     (r"\bspawn \w+$", r"\[", "the form is `spawn t(a, b);`"), (r"\bcancel \w+$", r"\[", "the form is `cancel t(h);`"),
     (r"", r"/ \*", COMMENT, is_prefix),
     (r"/$", r"\*", COMMENT, is_glued),
-    (r"(?P<x>\w+)$", r"(?P<o>\+|-|\*|/|%|&|\||\^|<<|>>) =(?: \w+ [;}]| [;}]|$)",
-     "there is no `<o>=`: write `<x> = <x> <o> ..;`"),
-    (r"(?P<x>\w+)$", r"(?P<o>\+|-|\*|/|%|&|\||\^|<<|>>) =(?: |$)", "there is no `<o>=`: write `<x> = <x> <o> (..);`"),
-    (r"(?P<x>\w+)$", r"(?P<o>[+-]) (?P=o)", "there is no `<o><o>`: write `<x> = <x> <o> 1;`"),
+    (r"@ (?P<x>\w+)$", r"(?P<o>\+|-|\*|/|%|&|\||\^|<<|>>) =(?: \w+ [;}]| [;}]|$)",
+     "there is no `<o>=`: write `<x> = <x> <o> ..;`", is_prefix),
+    (r"@ (?P<x>\w+)$", r"(?P<o>\+|-|\*|/|%|&|\||\^|<<|>>) =(?: |$)",
+     "there is no `<o>=`: write `<x> = <x> <o> (..);`", is_prefix),
+    (r"@ (?P<x>\w+)$", r"(?P<o>[+-]) (?P=o)", "there is no `<o><o>`: write `<x> = <x> <o> 1;`", is_prefix),
     (r"let mut$", r"\w", "every variable can be assigned: leave `mut` out"),
     (r"\b(?:shared|local) \{ (?:[^}]*, )?mut$", r"\w", "every resource can be assigned: leave `mut` out"),
     (rf"\b(?:shared|local|interrupts) \{{ (?:[^}}]*, )?(?P<t>{TYPE})$", r"(?P<x>\w+)",
@@ -263,14 +265,14 @@ SYNTAX = [
      "there is no `<x>`: a first value is a number, as 0"),
     (r"\b(?:shared|local) \{ [^}]*=$", r"(?P<x>Some|Mutex|RefCell|Cell|Atomic\w+|Wrapping|Option|Vec|Queue)\b",
      "there is no `<x>`: a first value is a number, as 0"),
-    (r"\b(?:shared|local) \{ [^}]*=$", r"-", "a first value has no sign: for -1 write 0xffffffff"),
+    (r"\b(?:shared|local) \{ [^}]*=$", r"-", "a first value has no sign: -1 is 0xffffffff"),
     (r"\bnow$", r"\(", "no parentheses come after `now`"),
     (r"(?:@|=) spawn_at$", r"\(", "there are no messages for an instant: `spawn_after(d) t(..);` waits for d ticks"),
     (r"(?:@|=) reschedule_at$", r"\(",
      "no message is moved to an instant: `reschedule_after(d) t(h);` moves it to d ticks from now"),
     (r"\b(?:spawn|cancel|\w+_after)\b[^;{}]*\)$", r"- > (?P<x>\w+)",
      "the variable comes first: `let <x> = spawn t(..);`"),
-    (r"\)$", r"- >", "a body hands back nothing: leave `-> ..` out"),
+    (r"\)$", r"- >", "a body hands back nothing"),
     (r"\btask$", r"(?P<w>idle|init)\b", "`<w>` is no task: leave `task` out"),
     (r"(?:[=(,]|emit|if)$", r"\* \(", NO_PINS),
     (r"(?:^|(?<!\w))(?P<t>u?int|[ui](?:8|16|32|64|size)|u?int\d+_t|unsigned|float|double|bool|char|word|long)$",
@@ -282,11 +284,12 @@ SYNTAX = [
     (r"[;}]$", r"(?:loop|main|setup|background|forever|super_?loop)\b",
      "what runs once at the beginning is `init { .. }`, and what runs while nothing else does `idle { .. }`"),
     (r"@ \w+$", r"< -", "to assign is `=`"),
-    (r"@ [a-z_]\w*$", r"- > (?P<y>\w+)", "bodies get no context, and nothing has fields: write `<y>` alone",
+    (r"@ [a-z_]\w*$", r"- > (?P<y>\w+)",
+     "bodies get no context, and nothing has fields: resources are used by their names",
      is_strange),
     (r"@ (?P<v>\w+)$", r"- > \w+", NO_PINS, is_strange),
-    (r"\bpend \w+$", r",", "a `pend` names one interrupt: write two of them"),
-    (r"\bemit (?:\( )?[^;{}(]*$", r", (?!\w+ =)", "an `emit` shows one number: write two of them"),
+    (r"\bpend \w+$", r",", "a `pend` names one interrupt"),
+    (r"\bemit (?:\( )?[^;{}(]*$", r", (?!\w+ =)", "an `emit` shows one number"),
     (r"(?:^|@ )(?P<w>while|loop|do|until|repeat)$", r"[\w({]", NO_LOOP),
     (r"\bfor$", r"\(", "a loop is `for i in 0..8 { .. }`"),
     (r"\bfor \w+$", r"=", "a loop is `for i in 0..8 { .. }`"),
@@ -297,7 +300,7 @@ SYNTAX = [
     (r"\bfor (?P<x>\w+) in$", r"\( (?P<n>\d+) \.\. (?P<m>\d+) \)",
      "the bounds of a `for` have no parentheses: `<n>..<m>`"),
     (r"\bfor \w+ in(?: \w+ \.\.)?$", r"- (?P<n>\w+)",
-     "a bound has no sign: count from 0, and take away `<n>` inside, which wraps"),
+     "a bound has no sign: it is a number from 0 on"),
     (r"\bfor \w+ in(?: \w+ \.\.)?$", r"[A-Za-z_(]",
      "the bounds of a `for` are numbers; inside it an `if` can pass over what is too many"),
     (r"\bfor (?P<x>\w+) in (?P<n>[1-9]\w*)$", r"\{ (?!\.\.)", "a loop has two bounds: `for <x> in 0..<n> { .. }`"),
@@ -305,13 +308,13 @@ SYNTAX = [
     (r"\bshared = \[ (?:[^\]]*, )?(?P<x>\w+)$", r"& [,\]]", "the `&` comes before the name: `&<x>`"),
     (r"\bshared = \[[^\]]*&$", r"& (?P<x>\w+)", "one `&` lists a resource for reading: `&<x>`"),
     (r"&$", r"\^ (?P<x>\w+)", "there is no `&^`: write `& (<x> ^ 0xffffffff)`"),
-    (r"&$", r"&", COMPARED.replace("<w>", "&&").replace("<o>", "&")),
-    (r"\|$", r"\|", COMPARED.replace("<w>", "||").replace("<o>", "|")),
+    (r"&$", r"&", COMPARED.replace("<w>", "&&").replace("<o>", "&"), is_glued),
+    (r"\|$", r"\|", COMPARED.replace("<w>", "||").replace("<o>", "|"), is_glued),
     (r"\block (?:\w+ , )*\w+$", r"(?:and|&|\+|with)(?: |$)", "commas separate the names: `lock a, b { .. }`"),
     (rf"\bwith (?:\w+ , )*(?:{TYPE}|{C_TYPE}|\w+_t)$", r"(?P<x>[A-Za-z_]\w*)", "there are no types: write `<x>` alone"),
     (r"\bwith (?:\w+ , )*\w+$", r"(?:and|&|\+)(?: |$)", "commas separate the names: `with x, y`"),
-    (r"\bwith (?:\w+ , )*\w+$", r"- >", "a body hands back nothing: leave `-> ..` out"),
-    (r"\bwith (?:\w+ , )*\w+$", r"= \w+", "a value of a message has no first value: leave `= ..` out"),
+    (r"\bwith (?:\w+ , )*\w+$", r"- >", "a body hands back nothing"),
+    (r"\bwith (?:\w+ , )*\w+$", r"= \w+", "a value of a message has no first value"),
     (r"\blocal \{(?: [^}]*,)?$", r"lock_free\b",
      "`lock_free` is said of shared resources: a local one is of one body, and needs no lock"),
     (r"(?:\w|\))$", r"(?P<w>and|AND|And)\b(?= [\w(])", COMPARED.replace("<o>", "&"), to("&", far=False)),
@@ -330,14 +333,15 @@ SYNTAX = [
     (r"\breschedule_after \( [^;{}()]*$", r",",
      "the form is `reschedule_after(100) t(h);`: the delay, the task, and the handle"),
     (r"\b(?P<w>cancel|reschedule_after)(?: \( [^;{}()]* \))? \w+ \( [^;{}()]*$", r",",
-     "`<w>` takes one handle: write two of them"),
+     "`<w>` takes one handle"),
     (r"\belse$", r"if\b", "there is no `else if`: write `else { if .. { .. } }`"),
     (r"@ (?P<w>elif|elsif|elseif)$", r"[\w(]", "there is no `<w>`: write `else { if .. { .. } }`"),
     (r"\bif [^;{}]*$", r"=(?: |$)", "to compare is `==`", to("==")),
     (r"@ \w+$", r"==", "to assign is `=`", to("=")),
     (r"@ (?P<x>\w+) = (?P=x) (?P<o>\+|-|\*|/|%|&|\||\^|<<|>>)$", r"=(?: |$)",
      "there is no `<o>=`: write `<x> = <x> <o> ..;`"),
-    (r"@ \w+ = (?:[^;{}]* )?[\w)]+$", r"=(?: |$)", "an assignment has no value: write two of them"),
+    (r"@ \w+ = (?:[^;{}]* )?[\w)]+$", r"=(?: |$)",
+     "an assignment has no value and sets one variable, and to compare is `==`"),
     (r"\blet (?P<x>\w+) =$", r"lock\b(?: (?P<r>[A-Za-z_]\w*))?",
      "a lock has no value: assign the variable inside, `let <x> = 0; lock <r> { <x> = <r>; }`"),
     (r"\b(?:let|for|with) (?P<x>\w+)$", r"- (?P<y>\w+)(?= =|$| in\b| \{| ,)",
@@ -356,12 +360,13 @@ SYNTAX = [
     *[(rf"@ {types}$", r"[A-Za-z_]\w*", "there are no types: a variable is declared with `let`, and a value")
       for types in FIRST_TYPES],
     (r"@ (?P<w>return|break|continue|goto)$", r"[\w;(}]",
-     "there is no `<w>`: put what is to be passed over into an `if`"),
+     "there is no `<w>`: a body and a loop run to their end, and an `if` leaves out what is not to run"),
     (r"(?:@|=) (?P<w>match|switch)$", r"[\w(]",
      "there is no `<w>`: write `if a == 1 { .. } else { if a == 2 { .. } }`"),
     (r"\bemit$", r"if\b", "an `if` has no value: `if a { emit b; } else { emit c; }`"),
     (r"=$", r"if\b", "an `if` has no value: `let x = 0; if a { x = b; } else { x = c; }`"),
-    (r"\block$", r"\( (?:& )?(?:mut )?(?P<x>\w+) ,", "a lock has no parentheses: `lock <x>, .. { .. }`"),
+    (r"\block$", r"\( (?:& )?(?:mut )?(?P<x>\w+) ,",
+     "a lock has no parentheses: `lock <x> { .. }`, and several names have commas between them"),
     (r"\block$", r"\( (?:& )?(?:mut )?(?P<x>\w+)", "a lock has no parentheses: `lock <x> { .. }`"),
     (r"\bpend$", r"\( (?P<x>\w+)", "a pend has no parentheses: `pend <x>;`"),
     (r"\bspawn$", r"\( (?P<x>[A-Za-z_]\w*) \)", "the task's name comes before the parentheses: `spawn <x>();`"),
@@ -369,14 +374,14 @@ SYNTAX = [
     (r"\bspawn$", r"\(", "a spawn names its task before the parentheses: `spawn t(..);`"),
     (r"@ (?:printf|println|print|puts|hprintln|log)$", r"\(", "to show a number in the trace is `emit N;`"),
     (rf"@ (?P<f>{OTHER_NAME})$", r"\(",
-     "there are no functions: write out here what `<f>` does, or make it a software task, `spawn <f>(..);`",
+     "there are no functions: a statement begins with a word of the language, or assigns",
      is_nothing),
     (r"[(,]$", rf"(?:mut )?{CONTEXT} [:,)]", NO_CONTEXT),
     (r"[(,]$", r"(?:mut )?\w+ : (?:\w+ : : )*Context\b", NO_CONTEXT),
     (r"\b(?:idle|init) \((?: \w+ ,)*$", r"(?P<x>[A-Za-z_]\w*) [,)]",
      "resources are listed: `shared = [<x>]`, or `local = [<x>]`"),
     (r"\btask (?P<t>\w+) \($", r"[A-Za-z_]\w*(?: [,):]|$)",
-     "the values of a message come after `with`: `task <t> with x { .. }`"),
+     "options have names, as `priority = 1`, and the values of a message come after `with`: `task <t> with x { .. }`"),
     (r"\bwith$", r"\(", "no parentheses come after `with`: `with x, y`"),
     (r"\bwith$", r"\[", "no brackets come after `with`: `with x, y`"),
     (r"[(,]$", r"(?:args|arguments|params|parameters|inputs|message|msg|payload|takes) =",
@@ -401,15 +406,15 @@ SYNTAX = [
      "there are no pointers: write `<x>` for `<o><x>`", is_prefix),
     (r"\b(?:spawn_after|reschedule_after) \($", r"-", "a delay has no sign: it is 0 or more ticks"),
     (r"(?:[=(,]|emit|if)$", r"(?P<o>[+-]) (?P=o) (?P<x>[A-Za-z_]\w*)",
-     "there is no `<o><o>`: write `<x> = <x> <o> 1;` before this"),
-    (r"(?:[=(,]|emit|if)$", r"- (?P<n>\w+)", "there is no sign before a number: write `0 - <n>`, which wraps"),
+     "there is no `<o><o>`: `<x> = <x> <o> 1;` is a statement of its own"),
+    (r"(?:[=(,]|emit|if)$", r"- (?P<n>\w+)", "there is no sign before a value: `0 - <n>` wraps"),
     (r"[+*/%&|^<>-]$", r"- (?P<n>\w+)",
-     "there is no sign before a number: write `(0 - <n>)`, which wraps", is_prefix),
+     "there is no sign before a value: `(0 - <n>)` wraps", is_prefix),
     (r"\block$", r"\| (?P<x>\w+)", "there are no closures: `lock <x> { .. }`"),
     (r"\block (?:\w+ , )*(?P<x>\w+)$", r"\(", "a lock has its block in braces: `lock <x> { .. }`"),
     (r"\block (?:\w+ , )*\w+$", r"; (?:\w+ [;,] )*\w+ \{", "commas separate the names: `lock a, b { .. }`"),
-    (r"\block (?:\w+ , )*(?P<x>\w+)$", r";", "a lock holds for its block: `lock <x> { .. }`"),
-    (r"\bbinds =$", r"\[", "`binds` names one interrupt: give each interrupt a task of its own"),
+    (r"\block (?:\w+ , )*(?P<x>\w+)$", r";", "a lock holds for its block: `lock a, b { .. }`"),
+    (r"\bbinds =$", r"\[", "`binds` names one interrupt, and each interrupt has a task of its own"),
     (r"\bpend$", r"(?P<n>\d+)", "an interrupt is named, not numbered: `pend I;`"),
     (r"\bspawn (?P<t>\w+)$", r"[;}]",
      "a spawn has parentheses, with the values in them if there are any: `spawn <t>(..);`"),
@@ -418,7 +423,7 @@ SYNTAX = [
     (r"\b(?P<w>spawn_after|reschedule_after)$", r"(?P<n>\w+) (?P<t>[A-Za-z_]\w*)",
      "the delay goes in parentheses: `<w>(<n>) <t>(..);`"),
     (r"\blet (?P<x>\w+) = now$", r"[-+*/%&|^<>]|[=!]=",
-     "`now` is only the whole value of a `let`: write `let time = now;` before this"),
+     "`now` is only the whole value of a `let`: `let time = now;`"),
     (r"(?:[=(,+*/%&|^<>-]|emit|if)$", r"(?P<w>spawn|spawn_after|cancel|reschedule_after)\b",
      "`<w>` is a statement, or the whole value of a `let`: `let x = <w> ..;`"),
     (r"\btask (?P<t>\w+)$", r"\[ (?P<n>\d+) \]",
@@ -428,8 +433,8 @@ SYNTAX = [
     (r"[;}] (?P<w>shared|local|interrupts)$", r"[\[(]", "rows go in braces: `<w> { .. }`"),
     (r"\b(?P<w>shared|local|dispatchers)$", r"\[", "write `=` here: `<w> = [..]`"),
     (r"\b(?P<w>shared|local|interrupts)$", r"= \{", "no `=` comes before the braces: `<w> { .. }`"),
-    (r"\b(?:shared|local|dispatchers) =$", r"(?P<x>[A-Za-z_]\w*)", "a list goes in brackets: `[<x>]`"),
-    (r"\b(?:shared|local|dispatchers) =$", r"\{", "a list goes in brackets: `[..]`"),
+    (r"\b(?:shared|local|dispatchers) =$", r"[A-Za-z_]\w*", "a list goes in brackets: `[a, b]`"),
+    (r"\b(?:shared|local|dispatchers) =$", r"\{", "a list goes in brackets: `[a, b]`"),
     (r"[;}]$", r"(?:\w+ )*(?:ISR \( )?\w*(?:_IRQHandler|_Handler|_irq|_isr|_ISR|_vect)\b", SERVED),
     (r"[;}]$", r"(?:pub )?(?:async )?(?:fn|void|def|func)\b",
      "there are no functions: only `init`, `idle` and tasks have bodies"),
@@ -438,7 +443,8 @@ SYNTAX = [
     (r"[;}]$", r"(?:pub )?struct\b", RESOURCES),
     (r"[;}]$", r"const \w+ : \( \)|(?:pub )?mod \w+ \{", NO_FRAME),
     (r"[;}]$", r"(?:use|mod|extern|import)\b", ONE_FILE),
-    (r"[;}]$", r"(?:const|static|type|enum|impl|trait)\b", "there are no constants and types: write the number itself"),
+    (r"[;}]$", r"(?:const|static|type|enum|impl|trait)\b",
+     "there are no constants and types: a number is written where it is used"),
     (r"^app \w+ \([^;]*\)$", r"\{",
      "the first declaration ends with `;`, and the others follow it without braces around them"),
     (r"^app (?P<x>\w+)$", r"[;{]|interrupts\b",
@@ -448,8 +454,8 @@ SYNTAX = [
     (r"\b(?:interrupts|shared|local) \{[^}]*\b(?P<w>fpu|bits|priority|capacity|binds) =$", r"[A-Za-z_\[]",
      "`<w>` is an option, and goes in parentheses: `app a(bits = 4, fpu = on);`, `task t(priority = 1) { .. }`"),
     (r"\bfpu =$", r"(?!(?:false|off|no|none|0|soft|OFF|Off)\b)\w",
-     "the core's floating-point extension is told by `fpu = on`; without it leave `fpu` out"),
-    (r"\bfpu =$", r"\w", "leave `fpu` out where the core has no floating-point extension"),
+     "the core's floating-point extension is told by `fpu = on`, and without it there is no `fpu`"),
+    (r"\bfpu =$", r"\w", "without `fpu` the core has no floating-point extension"),
     (r"", r"(?:true|false)\b", "`true` is 1 and `false` is 0"),
     (r"\bfor$", r"\w+ \.\.", "a loop has a variable of its own: `for i in 0..8 { .. }`"),
     (r"\b(?:app|task|let|lock|pend|with)$", r"\d", "a name begins with a letter or `_`"),
@@ -475,7 +481,7 @@ SYNTAX = [
 VALUES = [
     *[(r"(?:\w|\))$", rf"{word}\b", f"there is no `{word}`: write `{sign}`", to(sign))
       for word, sign in WORD_SIGNS.items()],
-    (rf"(?:^|(?<!\w))(?P<f>{OTHER_NAME})$", r"\(", "there are no functions: write here what `<f>` is to calculate",
+    (rf"(?:^|(?<!\w))(?P<f>{OTHER_NAME})$", r"\(", "there are no functions: a value is calculated where it is used",
      is_nothing),
 ]
 
@@ -486,18 +492,18 @@ GUESSES = [
     (r"\b(?:interrupts|shared|local) \{[^}]*= \w+$", r"(?:lock_free )?[A-Za-z_]\w* =", "commas separate the rows"),
     (r"[(,] \w+ = (?:\w+|\[[^\]]*\])$", r"; \w+ =", "a `,` comes between two options"),
     (r"[;}] monotonic$", r"[={\w]", "the form is `monotonic(binds = I, priority = 3);`"),
-    (r"\blet \w+$", r",", "a `let` declares one variable: write two of them"),
+    (r"\blet \w+$", r",", "a `let` declares one variable"),
     (r"\blet [^;{}(]*$", r",", "a `let` declares one variable, and has one value"),
     (r"\block [^{}]*\{[^{}]*\}$", r"else\b",
      "a lock never fails, and has no `else`: one comes after the block of an `if` alone"),
     (r"[;{}]$", r"else\b", "an `else` comes once, directly after the block of its `if`"),
-    (r"(?:[(,]|emit|if)$", r"\+ (?P<n>\w+)\b", "there is no sign before a number: leave the `+` out", is_prefix),
+    (r"(?:[(,]|emit|if)$", r"\+ (?P<n>\w+)\b", "there is no sign before a number", is_prefix),
     (r"(?<!\blet)(?<!\bfor)(?<!\btask)(?<!\bapp)(?<!\bwith)(?<!\block)(?<!\bpend)(?<!\bspawn)(?<![{\[,])$", r"now\b",
      "`now` is only the whole value of a `let`: `let x = now;`"),
     (r"@ if [^;{}]*(?:\w|\w \))$", rf"{BEGINS}(?: |$)|[A-Za-z_]\w* (?:[.(]|: :)", BLOCKS),
     (r"\belse$", rf"(?!\}}){BEGINS}(?: |$)|[A-Za-z_]\w* [.(]",
      "what depends on an `else` goes in braces: `else { .. }`"),
-    (r"\belse$", r"[^{]", "an `else` has a block: write `else { .. }`, or take it out"),
+    (r"\belse$", r"[^{]", "the block of an `else` comes directly behind it: `else { .. }`"),
     (r"@$", r"\(", "no statement begins with `(`: it is `a = ..;`, or begins with `if`, `lock` or another word"),
 ]
 
@@ -517,8 +523,10 @@ def looked_up(rows, syntax):
             groups = {**left.groupdict(), **right.groupdict()}
             if any(groups.get(letter) in WORDS for letter in OF_NAMES):
                 continue
-            if all(holds(syntax, groups, len(right.group().split())) for holds in proofs):
-                return re.sub(r"<([a-z])>", lambda found: groups.get(found.group(1)) or "", sentence)
+            count = len(right.group().split())
+            told = re.sub(r"<([a-z])>", lambda found: groups.get(found.group(1)) or "", sentence)
+            if all(holds(syntax, groups, count) for holds in proofs) and is_confirmed(syntax, sentence, told, count):
+                return told
     return None
 
 

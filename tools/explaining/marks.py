@@ -36,7 +36,7 @@ def unclosed_list(syntax, found):
     if token.text == ";" and len(syntax.rest) > 2 and syntax.rest[1].kind == "name" and syntax.rest[2].text in "];,":
         return "commas separate what is in a list"
     if token.text == ";" and len(syntax.rest) > 1 and syntax.rest[1].text == "]":
-        return "no `;` comes in a list: take it out"
+        return "no `;` comes in a list"
     if token.text == "=" and inner and inner[-1].text in ("fpu", "bits"):
         inner = inner[:-1]
     elif token.text not in AFTER_LIST + (")", "{", ";"):
@@ -48,7 +48,7 @@ def unclosed_list(syntax, found):
     sign = "])" if token.text in ("{", ";", "with") else "]" if has_comma or token.text == ")" else "],"
     if not syntax.trials.is_further(last.end, last.end, sign):
         return None
-    return f"the list of `{name}` is not closed: write `{sign}` after `{last.text}`"
+    return f"the list of `{name}` is not closed: `{sign}` comes after its last name"
 
 
 def stroke(syntax, found):
@@ -85,7 +85,7 @@ def lettered(syntax, found):
 def unnamed_option(syntax, found):
     """An interrupt or a number in the place of a task's option."""
     if {"shared", ")"} <= found and "binds" not in found and syntax.token.text in syntax.named.interrupts:
-        return "`binds` names one interrupt: give each interrupt a task of its own"
+        return "`binds` names one interrupt, and each interrupt has a task of its own"
     if {"binds", ")"} <= found and syntax.token.text in syntax.named.interrupts:
         return f"options have names: `binds = {syntax.token.text}`"
     if {"priority", ")"} <= found and syntax.token.kind == "number":
@@ -114,7 +114,7 @@ def typed(syntax, found):
 def one_name(first, second):
     """What is said of two names of a row, of which one is a type or a word, or which are one name."""
     if first.text in TYPES or first.text == second.text:
-        return f"a row is `{second.text} = ..`, with one name: leave `{first.text}` out"
+        return f"a row is `{second.text} = ..`, with one name, and without a type"
     joined = f"`{first.text}{second.text}` or `{first.text}_{second.text}`"
     return f"a row has one name, without a blank in it: write {joined}, or leave one of the two out"
 
@@ -159,13 +159,13 @@ def left_out(syntax, found):
     if syntax.token.kind not in ("sign", "end"):
         return None
     if syntax.token.text == "=" and "a name" in found and len(found) > 1 and "a number" not in found:
-        return "a name is missing before `=`"
+        return "before `=` comes a name"
     if {"a name", "a number", "("} <= found and "let" not in found:
-        return f"a value is missing between `{before}` and `{syntax.token.text}`" if syntax.token.text else None
+        return f"after `{before}` comes a value: a number, a name or `( .. )`" if syntax.token.text else None
     if found == {"a number"}:
-        return f"a number is missing after `{before}`"
+        return f"after `{before}` comes a number"
     is_end = syntax.token.text in ("=", ";", ",", ")", "]", "{", "}")
-    return f"a name is missing after `{before}`" if found == {"a name"} and is_end else None
+    return f"after `{before}` comes a name" if found == {"a name"} and is_end else None
 
 
 def no_statement(syntax, found):
@@ -175,7 +175,7 @@ def no_statement(syntax, found):
     name, first = syntax.front[-1].text, syntax.front[-2].text if len(syntax.front) > 1 else ""
     if not syntax.in_body or first not in (";", "{", "}"):
         is_sign = syntax.token.kind in ("sign", "foreign")
-        return "write `=` here" if is_sign and syntax.trials.reads_on(syntax.at, sign_end(syntax), "=") else None
+        return "`=` comes here" if is_sign and syntax.trials.reads_on(syntax.at, sign_end(syntax), "=") else None
     if syntax.begins_unknown and syntax.token.text not in OPERATORS:
         return f"no statement begins with `{name}`: one begins with {STATEMENTS}, or assigns"
     told = "no body has a value: " if syntax.token.text in OPERATORS else ""
@@ -211,7 +211,8 @@ def glued(syntax, found):
     last = syntax.front[-1] if syntax.front else None
     if last is None or last.kind != "number" or syntax.token.kind != "name" or last.end != syntax.at:
         return None
-    return f"`{last.text}{syntax.token.text}` is no number: a number has digits alone"
+    return (f"`{last.text}{syntax.token.text}` is no number and no name: a number is decimal digits, or `0x` and "
+            "hexadecimal ones, and an operator is between a number and a name")
 
 
 def no_operator(syntax, found):
@@ -219,8 +220,8 @@ def no_operator(syntax, found):
     last = syntax.front[-1] if syntax.front else None
     if "+" not in found or syntax.token.kind not in ("name", "number") or "\n" in syntax.text[last.end : syntax.at]:
         return None
-    return (f"an operator or a sign is missing between `{last.text}` and `{syntax.token.text}`, "
-            "or one of them is too much")
+    return (f"between two values comes an operator or another sign, and none is between `{last.text}` and "
+            f"`{syntax.token.text}`")
 
 
 def uncalled(syntax, found):
@@ -228,11 +229,7 @@ def uncalled(syntax, found):
     last = syntax.front[-1] if syntax.front else None
     if syntax.token.text != "(" or not {"+"} <= found or last is None or last.kind not in ("name", "number"):
         return None
-    if syntax.rest[1:2] and syntax.rest[1].text == ")":
-        told = "leave `()` out" if last.kind == "name" else "`()` is too much, or a value is missing in it"
-        return f"`{last.text}` is a number and no function: {told}"
-    return (f"`{last.text}` is a number and no function: an operator is missing before the `(`, or the parentheses are "
-            "too much")
+    return "a value is a number, a name or `( .. )`, and no `(` comes directly behind one: there are no functions"
 
 
 def unopened(syntax, found):
@@ -260,17 +257,30 @@ def last_comma(syntax, found):
 
 
 def open_parentheses(syntax, found):
-    """More than one parenthesis that is open where a statement ends or a block begins."""
+    """Parentheses that are open where a statement ends or a block begins: where one is to close, nobody knows."""
     if not {")", "+"} <= found or syntax.token.text not in (";", "{", "}"):
         return None
-    depth = 0
-    for token in reversed(syntax.front):
+    opened = []
+    for token in syntax.front:
         if token.text in (";", "{", "}"):
-            break
-        depth += {"(": 1, ")": -1}.get(token.text, 0)
-    if depth < 2:
+            opened = []
+        elif token.text == "(":
+            opened.append(token)
+        elif token.text == ")" and opened:
+            opened.pop()
+    if not opened:
         return None
-    return f"{depth} parentheses are open here: `{')' * depth}` is missing before `{syntax.token.text}`, or earlier"
+    last = opened[-1]
+    behind = next(token for token in syntax.front + [syntax.token] if token.at > last.at)
+    told = f"the `(` before `{behind.text}` is open here" if len(opened) == 1 else f"{len(opened)} `(` are open here"
+    return f"{told}: a `)` is missing, here or earlier, or a `(` is one too many"
+
+
+def closes_none(syntax, found):
+    """A brace that closes none, where a declaration is due."""
+    if syntax.token.text != "}" or syntax.depth or "task" not in found:
+        return None
+    return "each `{` is closed before this `}`: a `}` is one too many, this one or one before it, or a `{` is missing"
 
 
 def merge_marks(syntax, found):
@@ -291,10 +301,12 @@ def pasted(syntax, found):
     line, is_first = line_of(syntax)
     if syntax.depth and not syntax.in_body:
         return None
-    if is_first and re.match(r"\s*\d+ ?([:|)]\s*|\.?\s+)[A-Za-z}{\[/]", line):
-        return f"this looks like the number of a line: take `{line.split()[0]}` out"
+    number = re.match(r"\s*(\d+ ?[:|)]?\.?\s*)[A-Za-z}{\[/]", line) if is_first else None
+    if number and re.match(r"\s*\d+ ?([:|)]\s*|\.?\s+)", line) and syntax.trials.reads_on(
+            syntax.at, syntax.at + len(number[1]), ""):
+        return f"this looks like the number of a line: without `{line.split()[0]}` the text is read"
     if is_first and re.match(r"\s*[$%>] ?\S+ \S+ ?\S*\s*$", line) and "=" not in line:
-        return "this looks like a line of a terminal: take it out"
+        return "this looks like a line of a terminal"
     return None
 
 

@@ -1,8 +1,8 @@
 """One slip of the hand put right: changes at the place of an E03 that the program itself tries.
 
-A change is told only where the program then takes the text, or reads on as far as another declaration or task, and
-where nothing is lost with it that says something: a sign, a word that comes twice, or one that the text has nowhere
-else. Of changes that go as far two are told, and of more none.
+A change is told only where it is certain: the program takes the whole text with it; nothing is lost with it that says
+something; and no other change that goes as far makes another text that the program takes, a bracket put elsewhere or a
+value that is left out among them. Else nothing is told here, and what the program says of the place must do.
 """
 import functools
 import re
@@ -23,7 +23,10 @@ CLOSED = {"{": "}", "(": ")", "[": "]"}
 ENDS = (";", "{", "}")
 BEGINS = ("let", "if", "for", "lock", "emit", "pend", "spawn", "spawn_after", "cancel", "reschedule_after")
 VALUE_SIGNS = ("+", "-", "*", "/", "%", "&", "|", "^", "<<", ">>", "==", "!=", "<", "<=", ">", ">=")
-RUN, AHEAD, FEW = 6, 8, 3
+RUN, AHEAD, FEW, MOST_OTHERS, NEAR = 6, 8, 3, 12, 3
+# signs that say something by themselves, and bytes that mean something elsewhere
+NO_MARKS = VALUE_SIGNS + ("!", "~", "?")
+FILLS = ("1", "x")
 # how alike a name is to a word that is due, with which it does not count as one too many
 ALIKE = 0.6
 # how far a change goes: a sign put in, two tokens that change places, a sign for another one; a sign taken out; more
@@ -40,11 +43,6 @@ class Change:
     stop: int
     put: str
     cost: int
-
-    @property
-    def is_plain(self):
-        """Whether a token is put in or some are taken out, and no order or sign is another one."""
-        return self.start == self.stop or not self.put
 
     def made(self, text):
         return f"{text[: self.start]} {self.put} {text[self.stop :]}"
@@ -266,24 +264,36 @@ class Mending:
         return sorted(kept, key=lambda row: (row[1], row[0].cost))
 
     def slip(self, syntax, found):
-        """What is said of a change that goes little far and that the program takes, or of two; where it takes none, of
-        one with which only another declaration or task is refused."""
-        likely = [row for row in self.rows if row[1] == TAKEN and row[0].cost <= MORE]
-        likely = likely or [row for row in self.rows if row[1] == ELSEWHERE and row[0].cost == LITTLE]
+        """What is said of the one change that is certain, or None."""
+        likely = [row for row in self.rows if row[1] == TAKEN]
+        likely = likely or [row for row in self.rows if row[1] == ELSEWHERE and row[0].cost == LITTLE and row[0].put]
         least = [row for row in likely if row[0].cost == likely[0][0].cost]
-        if syntax.token.text in (",", ";") and any(row.is_plain for row, _, _ in least):
-            least = [row for row in least if row[0].is_plain]
-        return told_of(least, syntax)
+        if not least or least[0][0].cost > MORE:
+            return None
+        row, _, told = least[0]
+        others = [other for other, _, _ in least[1:]]
+        if is_order(row, syntax):
+            others = [other for other, _, _ in likely if other is not row and is_order(other, syntax)]
+        if not is_of_marks(row, syntax) or self.has_rival(row, others):
+            return None
+        return f"{row.told} {told}"
 
-    def whole(self, syntax, found):
-        """What is said of the best change with which the program takes the text."""
-        return told_of([row for row in self.rows if row[1] == TAKEN and row[0].cost == self.rows[0][0].cost], syntax)
-
-    def rest(self, syntax, found):
-        """What is said of the best changes; where the text is refused then, only of a sign more or less."""
-        rows = [row for row in self.rows
-                if row[1] <= ELSEWHERE and row[0].cost <= MORE or row[0].is_plain and row[0].cost == LITTLE]
-        return told_of([row for row in rows if (row[1], row[0].cost) == (rows[0][1], rows[0][0].cost)], syntax)
+    def has_rival(self, row, others):
+        """Whether another change of the size makes another text that the program reads: one of these; the same bracket
+        at another place, or its partner taken out; where something is taken out, a value or a name put before it. Texts
+        that the program writes alike are the same."""
+        syntax = self.syntax
+        changed = [token for token in syntax.front[-1:] + syntax.rest[:RUN] if row.start <= token.at < row.stop]
+        if row.start == row.stop and row.put.strip() == ")":
+            others = others + bracket_elsewhere(syntax)
+        elif not row.put and [token.text for token in changed] == [")"]:
+            others = others + other_closing(syntax, changed[0])
+        if not row.put and changed:
+            stops = (row.start, row.stop)
+            others = others + [Change("", row.start, stop, f"{fill} ", LITTLE) for fill in FILLS for stop in stops]
+        texts = [other.made(syntax.text) for other in [row] + others]
+        own, *rest = self.program.formatted(texts)
+        return any(status == 0 and output != own[1] for status, output in rest)
 
     def takes_without(self, token):
         """Whether the program takes the text without the token before the place."""
@@ -305,18 +315,52 @@ class Mending:
                    for row, verdict, _ in self.rows)
 
 
-def told_of(rows, syntax):
-    """What is said of changes that go as far: of one or of two; of more that make other texts, and of none, nothing."""
-    texts = []
-    for row in rows:
-        if tokens_in(row[0], syntax) not in [text for text, _ in texts]:
-            texts.append((tokens_in(row[0], syntax), row))
-    if not 0 < len(texts) <= 2:
-        return None
-    first, others = texts[0][1], [row[0].told for _, row in texts[1:]]
-    return f"{first[0].told}{f', or {others[0]},' if others else ''} {first[2]}"
+def replaced(row, syntax):
+    """The texts of the tokens that a change takes, and of those that it puts."""
+    taken = [token.text for token in tokens_of(syntax.text, 0, row.stop) if token.at >= row.start]
+    return taken, [token.text for token in tokens_of(row.put)]
 
 
-def tokens_in(row, syntax):
-    """The tokens of the text with a change."""
-    return [token.text for token in tokens_of(row.made(syntax.text))]
+def is_order(row, syntax):
+    """Whether a change puts tokens into another order, and does no more."""
+    taken, put = replaced(row, syntax)
+    return len(taken) > 1 and sorted(taken) == sorted(put)
+
+
+def is_of_marks(row, syntax):
+    """Whether a change is of what has no meaning of its own: marks that separate, words, and what begins no token. An
+    operator that is put in, taken out or moved makes another value, which nobody knows but who wrote it; a word may be
+    a part of the name before it; and of a brace too many nobody knows whether the line that opens it is missing."""
+    taken, put = replaced(row, syntax)
+    if row.start == row.stop:
+        names = [token.text for token in syntax.front[-NEAR:] if token.kind == "name"]
+        return put[0] not in WORDS or not any(put[0] in name for name in names)
+    if is_order(row, syntax):
+        moved_ones = put[:1] if len(put) > 2 else put
+        return not any(text in VALUE_SIGNS + ("(", ")") for text in moved_ones)
+    if taken == ["=="]:
+        return True
+    if taken == ["}"] and not put:
+        return False
+    return not any(text in NO_MARKS for text in taken[:1] + taken[-1:] + put[:1])
+
+
+def bracket_elsewhere(syntax):
+    """A closing parenthesis at each place behind the last that is open, and that one taken out."""
+    depth, rows = 0, []
+    for token in reversed(syntax.front):
+        depth += {")": 1, "(": -1}.get(token.text, 0)
+        if depth < 0:
+            return rows + [Change("", token.at, token.end, "", LITTLE)]
+        if token.text in ENDS:
+            return rows
+        rows.append(Change("", token.at, token.at, ") ", LITTLE))
+    return rows
+
+
+def other_closing(syntax, taken):
+    """Each other closing bracket of the same kind taken out, as far back as the declaration or the task before."""
+    starts = [piece.start for piece in pieces_of(syntax.text) if piece.start <= taken.at]
+    first = starts[-2] if len(starts) > 1 else 0
+    rows = [token for token in syntax.front if token.text == taken.text and token.at >= first and token != taken]
+    return [Change("", token.at, token.end, "", LITTLE) for token in rows[-MOST_OTHERS:]]

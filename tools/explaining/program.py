@@ -111,10 +111,14 @@ class Program:
         return path
 
     def formats(self, texts):
-        """What `fmt` answers to each of these texts."""
+        """What `fmt` answers to each of these texts: the status and a beginning of the output."""
+        return [(status, output[:KEPT]) for status, output in self.formatted(texts)]
+
+    def formatted(self, texts):
+        """What `fmt` answers to each of these texts: the status and the output."""
 
         def one(numbered):
-            return self.ask("fmt", self.file(f"ask{numbered[0]}", numbered[1]))
+            return self.whole("fmt", self.file(f"ask{numbered[0]}", numbered[1]))
 
         with concurrent.futures.ThreadPoolExecutor(ASKS_AT_ONCE) as pool:
             return list(pool.map(one, enumerate(texts)))

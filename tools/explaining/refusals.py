@@ -3,7 +3,7 @@ import re
 
 from . import pages, texts
 from .expected import may_stand, met, told
-from .rules import Rules
+from .rules import FURTHER, REFUSED, TAKEN, Rules
 from .tokens import offset_of
 from .tree import tree_of
 
@@ -76,8 +76,8 @@ class Telling:
             self.report.say("note", NOT_ASKED)
 
     def stands_for(self, text, at):
-        """Whether the program goes on behind the name at a place with another one there, or refuses that for another
-        reason; or None, where no program answers."""
+        """How far the program comes with another name at a place: TAKEN, where it takes the whole text; FURTHER, where
+        it goes on behind the name; else REFUSED. None, where no program answers."""
         if not self.program.answers:
             return None
         token = texts.Syntax(text, at).token
@@ -86,7 +86,9 @@ class Telling:
             made = f"{text[: token.at]}{name}{text[token.end :]}"
             status, output = self.program.ask("check", self.program.file("named", made))
             refusal = refusal_of(made, output)
-            return status == 0 or refusal is not None and (refusal.at > at or refusal.at == at and refusal.number != 5)
+            if status == 0:
+                return TAKEN
+            return FURTHER if refusal is not None and refusal.at > at else REFUSED
 
         return stands
 

@@ -1,4 +1,5 @@
 """E05 to E18: which cause it is, where the first one is, and how to mend it."""
+import difflib
 import re
 
 from .costs import MOST_CODE, MOST_STEPS, Costs, armed_tasks, sizes_before
@@ -19,10 +20,17 @@ LIKE_DIGITS = {"O": 0, "o": 0, "l": 1, "I": 1}
 HEXADECIMAL = re.compile(
     r"(?P<a>[0-9A-F]{2,})h|(?P<b>[A-Fa-f]+[0-9][0-9A-Fa-f]*)[hH]|[xX](?P<c>(?=.*[0-9])[0-9A-Fa-f]{2,8})|F{2,8}"
 )
-FEW = 4
+FEW, MOST_TRIED, MOST_NAMES = 4, 12, 6
+# how far the program comes with another name at a place
+REFUSED, FURTHER, TAKEN = range(3)
 BINARY = re.compile(r"[Bb]([01]{2,32})")
 CONSTANT = re.compile(r"[A-Z][A-Z0-9_]+")
 ROLES = {"pend": "interrupt", "lock": "shared", "read": "value", "assign": "value", **{word: "task" for word in CALLS}}
+
+
+def likeness(name, other):
+    """How alike two names are, from 0 to 1, capitals and small letters alike."""
+    return difflib.SequenceMatcher(None, name.lower(), other.lower()).ratio()
 
 
 def counted(number, one, many=None):
@@ -127,27 +135,26 @@ class Rules:
         elif binary := BINARY.fullmatch(name):
             self.help(f"there are no binary numbers: `{name}` is {int(binary[1], 2)}")
         elif wanted == "value" and CONSTANT.fullmatch(name):
-            self.help("if a constant is meant: there are none, write the number itself")
+            self.help("if a constant is meant: there are none, and a number is written where it is used")
         self.similar(name, wanted, use)
-        self.instead(wanted, body, use)
+        if use and wanted == "value" and sorted(name.lower()) == sorted("now"):
+            self.help("if the time is meant: it is the value of `let x = now;`")
+        self.instead(name, wanted, use)
         return None
 
-    def instead(self, wanted, body, use):
-        """What may be meant where no name is similar: the software tasks, or an argument that nothing uses."""
-        if any("similar" in one or "told apart" in one for one in self.helps):
-            return
-        if wanted == "value" and sorted(use.token.text.lower()) == sorted("now"):
-            self.help("if the time is meant: it is the value of `let x = now;`")
-        elif wanted == "task" and (names := [f"`{task.name.text}`" for task in self.app.tasks if task.is_software]):
-            self.help(f"the software task{' is' if len(names) == 1 else 's are'} {', '.join(names[:FEW])}")
-        elif wanted == "value":
-            used = {one.token.text for one in uses_of(body) if one.role in ("read", "assign")}
-            rows = [(name.text, "argument") for name in body.arguments] + [(name.text, "local") for name in body.local]
-            rows += [(row.name.text, "resource") for row in body.shared]
-            rows += [(one.token.text, "variable") for one in uses_of(body) if one.role == "bind"]
-            left = [row for row in rows if row[0] not in used and (self.stands is None or self.stands(row[0]))]
-            if len(left) == 1:
-                self.help(f"the {left[0][1]} `{left[0][0]}` is not used: it may be meant")
+    def instead(self, name, wanted, use):
+        """The names with which the program takes the text, those that are most alike first: which one is meant is not
+        known here."""
+        names = self.names_of(wanted)
+        if wanted == "task":
+            names = [task.name.text for task in self.app.tasks if task.is_software]
+        elif use and wanted == "value":
+            names = [one for scope in use.around.scopes for one in scope] + names
+        rows = sorted(dict.fromkeys(names), key=lambda one: -likeness(name, one))
+        taken = [one for one in rows[:MOST_TRIED] if self.stands is None or self.stands(one) == TAKEN][:MOST_NAMES]
+        if taken:
+            told = ", ".join(f"`{one}`" for one in taken)
+            self.help(f"{'a name' if len(taken) == 1 else 'names'} that can come here: {told}")
 
     def exchanged(self, table, name, use):
         """Whether the handle comes before the task in a `cancel` or a move; then it is said."""
@@ -224,7 +231,7 @@ class Rules:
         elif wanted == "task" and kind == "interrupt":
             self.no_task(name)
         elif wanted == "task":
-            self.instead(wanted, None, None)
+            self.instead(name, wanted, None)
         elif wanted == "value" and kind == "interrupt":
             number = next(row[1].value for row in self.app.interrupts if row[0].text == name)
             self.help(f"an interrupt is no value: the number of `{name}` is {number}")
@@ -254,7 +261,7 @@ class Rules:
             self.help(f"`{name}` is a dispatcher" + f", and serves {told}" * bool(told))
         elif self.app.monotonic and self.app.monotonic[1].text == name:
             self.help(f"`{name}` is the monotonic's, and no task's")
-            self.instead("task", None, None)
+            self.instead(name, "task", None)
         else:
             self.help(f"`pend {name};` makes its task run")
 
@@ -277,9 +284,9 @@ class Rules:
         if same and (self.stands is None or self.stands(same)):
             told = "is declared" if same in names else "is a variable here"
             return self.help(f"small letters and capitals are told apart: `{same}` {told}")
-        for one in near[:2]:
-            kind = KINDS["variable"] if one not in names else "a resource" if wanted == "value" else KINDS[wanted]
-            self.help(f"{kind} of a similar name is `{one}`")
+        if len(near) == 1:
+            kind = KINDS["variable"] if near[0] not in names else "a resource" if wanted == "value" else KINDS[wanted]
+            self.help(f"{kind} of a similar name is `{near[0]}`")
         return None
 
     def e06(self, table):
@@ -328,7 +335,8 @@ class Rules:
         key = "E07 zero" if value == 0 else "E07" if needed <= 7 and value % 8 else "E07 value"
         if key == "E07 value" and needed <= 7 and greatest <= 2 * 2**app.bits:
             key = "E07"
-        self.row(table, key, A=Phrase(f"{2 ** app.bits:,}"), M=str(app.bits), N=str(needed))
+        most, more = (Phrase(f"{2 ** bits:,}") for bits in (app.bits, needed))
+        self.row(table, key, A=most, M=str(app.bits), N=str(needed), W=more)
 
     def e08(self, table):
         app = self.app
@@ -357,7 +365,7 @@ class Rules:
         spawned = {use.token.text for body in app.bodies for use in uses_of(body) if use.role in CALLS}
         for task in app.tasks:
             if task.is_software and task.name.text not in spawned:
-                self.help(f"nobody spawns `{task.name.text}`: if it is to serve an interrupt, write `binds = ..` into "
+                self.help(f"nobody spawns `{task.name.text}`; a task that serves an interrupt has `binds = ..` among "
                           "its options")
         self.unused()
 
@@ -407,8 +415,8 @@ class Rules:
             if one.kind == "if" and any(use.token.at == self.at for use in value_uses(one.value, Round())):
                 inner = any(each.kind == "lock" and each.name.text == name
                             for each in statements_of(one.block + one.other))
-                told = f", and take the `lock {name}` inside it out" * inner
-                self.help(f"the condition comes before the block: put the whole `if` into the lock{told}")
+                told = f", and `lock {name}` is not taken again inside" * inner
+                self.help(f"the condition is read before the block: a lock round the whole `if` is round both{told}")
 
     def alone(self, name, body):
         """A shared resource that one body alone has: a local one may be meant."""
@@ -463,6 +471,7 @@ class Rules:
         if task.binds:
             key = "E15 hardware" if use.role.startswith("spawn") else "E15 handle"
             self.row(table, key, N=name, I=task.binds.text, C=use.role)
+            self.instead(name, "task", None)
         else:
             sent = len(use.node.arguments)
             self.row(table, "E15 number", N=name, A=Phrase(counted(len(task.arguments), "value")),

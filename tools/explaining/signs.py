@@ -43,7 +43,7 @@ def sign_help(sign, syntax, size):
     if sign in SIGNS_FOR:
         return f"write `{SIGNS_FOR[sign]}`"
     if sign in QUOTES + ASCII_QUOTES and is_alone(syntax, size):
-        return "this quote has no other one, and texts have no place here: take it out"
+        return "this quote has no other one, and texts have no place here"
     if sign in QUOTES:
         quoted = re.match(r"[^\w\n]+([A-Za-z_]\w*)[^\w\n]", syntax.text[syntax.at :], re.ASCII)
         return UNQUOTED.replace("<x>", quoted[1]) if quoted and re.search(QUOTABLE, syntax.before) else NO_TEXTS

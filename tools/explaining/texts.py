@@ -11,8 +11,8 @@ from .foreign import FOREIGN, FOREIGN_GUESSES
 from .habits import GLUED, GUESSES, SYNTAX, VALUES, looked_up, what_it_is
 from .heads import lone_block, named_otherwise, no_item, outside_head, spawned_nothing, typed_values
 from .heads import without_parentheses
-from .marks import comma_for_end, cut_off, ended_early, glued, grouped, in_brackets, last_comma, left_out, lettered
-from .marks import lone_number, merge_marks, no_comma, no_operand, no_operator, no_statement, open_parentheses
+from .marks import closes_none, comma_for_end, cut_off, ended_early, glued, grouped, in_brackets, last_comma, left_out
+from .marks import lettered, lone_number, merge_marks, no_comma, no_operand, no_operator, no_statement, open_parentheses
 from .marks import other_end, pasted, prose, stroke, typed, uncalled, unclosed_list, unnamed_option, unopened
 from .mending import TAKEN, Mending
 from .pieces import pieces_of
@@ -124,7 +124,7 @@ def foreign_help(sign, syntax, size, program, table):
     if not help_ and size == 1 and program.answers:
         found = may_stand(program, syntax.text[: syntax.at]) or set()
         mending = Mending(syntax, found, program)
-        help_ = mending.slip(syntax, found) or sign == ":" and mending.whole(syntax, found)
+        help_ = mending.slip(syntax, found)
     return help_ or looked_up(FOREIGN_GUESSES, syntax) or table.mending("E02")
 
 
@@ -141,7 +141,7 @@ def syntax_help(syntax, found, program, table):
     if found:
         ways += [functools.partial(one, mending) for one in (missing, other_type, no_end, no_first)]
         ways += [two_names, mending.slip]
-    ways += [habits_of(GUESSES), *IN_DOUBT] + [mending.rest] * bool(found) + [*LAST]
+    ways += [habits_of(GUESSES), *IN_DOUBT, *LAST]
     return next(filter(None, (way(syntax, found) for way in ways)), None)
 
 
@@ -186,7 +186,8 @@ def misspelt(syntax, found):
         return None
     ratio = OF_ONE if len(found) == 1 and len(name.text) >= SHORT else OF_MANY
     holds = syntax.trials.is_further if name is syntax.token else syntax.trials.reads_on
-    near = [word for word in all_near(name.text.lower(), words, ratio) if holds(name.at, name.end, word)]
+    near = [word for word in all_near(name.text.lower(), words, ratio)
+            if holds(name.at, name.end, word) and syntax.trials.stands(name.at, name.end, word)]
     return f"`{name.text}` is no word of the language: `{near[0]}` is" if len(near) == 1 else None
 
 
@@ -199,7 +200,8 @@ def grown(syntax, name, words):
             continue
         start = syntax.at if syntax.token.text == name else syntax.front[-1].at
         is_longer = word in ("task", "with") and len(rest) >= SHORT
-        if (rest in known or is_longer) and syntax.trials.is_further(start, start + len(name), f"{word} {rest}"):
+        trials, change = syntax.trials, (start, start + len(name), f"{word} {rest}")
+        if (rest in known or is_longer) and trials.is_further(*change) and trials.stands(*change):
             return f"a blank comes between two words: `{word} {rest}`"
     return None
 
@@ -215,7 +217,7 @@ def declared(syntax, found):
         if token.text == word and depth == 0 and word == "monotonic":
             return f"there is one monotonic, that of line {place_of(syntax.text, token.at)[0]}, for all that waits"
         if token.text == word and depth == 0:
-            return f"`{word}` comes once: put all into the one of line {place_of(syntax.text, token.at)[0]}"
+            return f"`{word}` comes once, and is in line {place_of(syntax.text, token.at)[0]} already"
     return ORDER
 
 
@@ -237,13 +239,16 @@ def missing(mending, syntax, found):
         return None
     last = syntax.front[-1]
     new_line = "\n" in syntax.text[last.end : syntax.at]
-    if not mending.takes(";") and not syntax.trials.is_further(last.end, syntax.at, ";"):
+    further = syntax.token.kind != "name" and syntax.trials.is_further(last.end, syntax.at, ";")
+    if not mending.takes(";") and not further:
         return None
     if syntax.token.kind == "word" or syntax.token.text == "}" or new_line and syntax.token.kind == "name":
         line, between = place_of(syntax.text, last.at)[0], syntax.text[last.end : syntax.at]
         comment = between.split("\n", 1)[0].strip().startswith("//") and ";" in between
         hidden = "; what follows `//` is a comment" * comment
-        return f"a `;` is missing after `{last.text}` in line {line}{hidden}"
+        if mending.takes(";"):
+            return f"a `;` is missing after `{last.text}` in line {line}{hidden}"
+        return f"a statement or declaration ends with `;`, and none comes after `{last.text}` in line {line}{hidden}"
     return None
 
 
@@ -258,7 +263,7 @@ def no_end(mending, syntax, found):
     told = cut_off(syntax, found)
     if not told or mending.takes_less() or mending.takes_other():
         return None
-    return f"{told}, or `{syntax.front[-1].text}` is one too many"
+    return told
 
 
 def no_first(mending, syntax, found):
@@ -266,8 +271,7 @@ def no_first(mending, syntax, found):
     before, sign = syntax.front[-1].text if syntax.front else "", syntax.token.text
     if not no_operand(syntax, found) or not mending.rows or not mending.rows[0][0].told == f"with `{sign}` taken out":
         return None
-    which = "one of the two is" if mending.takes_without(syntax.front[-1]) else f"`{sign}` is one"
-    return f"a value is missing between `{before}` and `{sign}`, or {which} too many"
+    return f"after `{before}` comes a value: a number, a name or `( .. )`"
 
 
 def again(syntax, found):
@@ -283,12 +287,12 @@ def no_name(syntax, found):
         return None
     behind = syntax.rest[1].text if len(syntax.rest) > 1 else ""
     if syntax.token.text == "in" and syntax.front[-1].text == "for":
-        return "a name is missing after `for`: a loop is `for i in 0..8 { .. }`"
+        return "after `for` comes a name: a loop is `for i in 0..8 { .. }`"
     if syntax.token.kind == "word" and syntax.front[-1].text == "let" and behind != "=":
         value = f": `let x = {syntax.token.text} ..;`" if syntax.token.text in CALLS + ("now",) else ""
-        return f"a name is missing after `let`{value}"
+        return f"after `let` comes a name{value}"
     if path := re.match(r"\w+ : : (?:\w+ : : )*(\w+)", syntax.behind):
-        return f"there are no paths: write `{path[1]}` alone"
+        return f"there are no paths: `{path[1]}` alone is a name"
     if syntax.token.kind == "word":
         return f"`{syntax.token.text}` is a word of the language and names nothing, and a name is due here"
     return "a name begins with a letter or `_`" if syntax.token.kind == "number" else None
@@ -340,7 +344,7 @@ OF_MARKS = (
 # what the place tells, before the program tries changes; and what is likely where it takes none that goes little far
 OF_PLACE = (
     returns, uncalled, outside_head, unclosed, split_name, misspelt, declared, twice, no_comma, chained, no_interrupts,
-    last_comma, no_item, open_parentheses, glued, in_brackets,
+    last_comma, no_item, glued, in_brackets,
 )
-IN_DOUBT = (no_name, typed, no_operand, no_operator, left_out, outside)
-LAST = (other_end, lone_block, no_statement, form)
+IN_DOUBT = (open_parentheses, no_name, typed, no_operand, no_operator, left_out, outside)
+LAST = (closes_none, other_end, lone_block, no_statement, form)

@@ -7,6 +7,11 @@ import re
 from .tokens import between, offset_of, tokens_of
 
 ENDS = (";", "{", "}")
+# a change that a sentence tells: what is to be written, or left out
+TOLD = re.compile(r"(?:^|[:`,] )(write|leave) `([^`]+)`")
+NEAR, TWO = 6, 2
+# the greatest number of a refusal that is not of a rule
+SYNTAX = 4
 
 
 class Trials:
@@ -38,7 +43,25 @@ class Trials:
             return False
         at = self.refused(start, stop, put)
         end = next((token for token in tokens_of(self.text, max(stop, self.at)) if token.text in ENDS), None)
-        return at is None or end is not None and at > end.at
+        return at is None or end is not None and at > end.at or self.is_again(at, stop)
+
+    def is_again(self, at, stop):
+        """Whether a refusal behind a change is at the same token once more: what is mended comes there again."""
+        tokens = [next(tokens_of(self.text, place), None) for place in (self.at, at)]
+        return at >= stop and None not in tokens and tokens[0].text == tokens[1].text != ";"
+
+    def stands(self, start, stop, put):
+        """Whether no rule refuses the statement that a change makes: a word that is near may be none of the meant."""
+        if not self.can:
+            return False
+        text = f"{self.text[:start]} {put} {self.text[stop:]}"
+        status, output = self.program.ask("check", self.program.file("stands", text))
+        found = re.match(r"(\d+):(\d+) E(\d\d)", output)
+        if status == 0 or not found or int(found[3]) <= SYNTAX:
+            return True
+        at = offset_of(text, int(found[1]), int(found[2]))
+        end = next((token for token in tokens_of(text, start + len(put)) if token.text in ENDS), None)
+        return at < start or end is not None and at > end.at
 
     def is_further(self, start, stop, put):
         """Whether the program takes the text with a change, or the first token behind the change at least."""
@@ -60,6 +83,28 @@ def to(put, back=0, far=True):
         return (syntax.trials.reads_on if far else syntax.trials.is_further)(start, stop, made)
 
     return holds
+
+
+def is_confirmed(syntax, form, sentence, count):
+    """Whether a sentence of this form tells no change that can be tried, or the program reads on behind the statement
+    with that: with what is to be written in the place of what is there, or without what is to be left out. `count`
+    tokens from the place on are what the sentence is about."""
+    told, general = TOLD.search(sentence), TOLD.search(form)
+    is_general = not told or ".." in told[2] or told[1] == "write" and "<" not in general[2]
+    if is_general or not syntax.trials.can:
+        return True
+    near = syntax.front[-NEAR:] + syntax.rest[: count + NEAR]
+    tokens = list(tokens_of(told[2]))
+    texts = [token.text for token in tokens]
+    if told[1] == "leave":
+        spans = [near[at : at + len(texts)] for at in range(len(near))]
+        return any([token.text for token in span] == texts and syntax.trials.reads_on(span[0].at, span[-1].end, "")
+                   for span in spans if span)
+    starts = [token.at for token in syntax.front[-NEAR:] if token.text == texts[0]][-1:]
+    starts += [syntax.at] + [token.at for token in syntax.front[-TWO:]]
+    stops = [token.end for token in syntax.rest[max(count - TWO, 0) : count]] or [syntax.at]
+    stops += [token.end for token in syntax.rest[: count + NEAR] if token.text == texts[-1]][:1]
+    return any(syntax.trials.reads_on(start, stop, told[2]) for start in starts for stop in stops)
 
 
 def is_prefix(syntax, groups, count):
