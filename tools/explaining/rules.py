@@ -436,7 +436,7 @@ class Rules:
         name, node = use.token.text, use.node
         first = next(lock for lock in use.around.locks if lock.text == name)
         locks = [one for one in statements_of(body.block) if one.kind == "lock" and one.block.at == node.block.at]
-        self.row(table, "E12 names" if len(locks) > 1 else "E12", N=name)
+        self.row(table, "E12 names" if first in [one.name for one in locks] else "E12", N=name)
         self.note("the lock round it is here", first)
 
     def e13(self, table):

@@ -7,6 +7,7 @@ from .habits import NO_TEXTS, QUOTABLE, UNQUOTED
 SIGNS_FOR = {"×": "*", "÷": "/", "≤": "<=", "≥": ">=", "≠": "!=", "∧": "&", "∨": "|", "…": ".."}
 DASHES, QUOTES, ASCII_QUOTES = "–—−", "“”„‘’‚«»", "'\"`"
 BLANKS, UNSEEN = ("Zs", "Zl", "Zp"), "Cf"
+NO_DIGIT = "this letter is none of a to z: a number is decimal digits, or `0x` and hexadecimal ones, and has no unit"
 
 
 def sign_at(text, at):
@@ -50,6 +51,8 @@ def sign_help(sign, syntax, size):
     plain = unicodedata.normalize("NFKC", sign)
     if plain != sign and len(plain) == 1 and plain.isascii() and plain.isprintable():
         return f"write `{plain}`, the sign of one byte"
+    if is_other_letter(sign) and behind_number(syntax):
+        return NO_DIGIT
     if is_other_letter(sign):
         return "it may look like one of a to z and is none: write the name anew, with the letters a to z and A to Z"
     return None
@@ -66,7 +69,12 @@ def is_alone(syntax, size):
 def in_number(syntax, size):
     """A blank that parts the digits of a number, as it is set in print; or None."""
     digits = re.match(r"\d+", syntax.text[syntax.at + size :])
-    last = syntax.front[-1] if syntax.front else None
-    if not digits or last is None or last.kind != "number" or last.end != syntax.at:
+    if not digits or not behind_number(syntax):
         return None
-    return f"a number has no sign between its digits: write `{last.text}{digits[0]}`"
+    return f"a number has no sign between its digits: write `{syntax.front[-1].text}{digits[0]}`"
+
+
+def behind_number(syntax):
+    """Whether a number ends where the place begins: a name does not go on or begin there."""
+    last = syntax.front[-1] if syntax.front else None
+    return last is not None and last.kind == "number" and last.end == syntax.at
