@@ -67,7 +67,7 @@ line_length (given.Draws d irq n local seed) =
     ap length (requests_many irq local n (Drawing (generator_of seed d))) ∙ length-replicate n (Arrive irq)
 line_length (given.Gives local word) = refl
 
-line_count : (line : GivenLine) (script : List GivenLine)
+pub line_count : (line : GivenLine) (script : List GivenLine)
     → count (asked (line ∷ script)) ≡ count_of line + count (asked script)
 line_count (given.Steps n) script = rw sum_by-cons refl
 line_count (given.Ticks n) script = rw sum_by-cons refl

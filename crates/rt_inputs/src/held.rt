@@ -10,10 +10,10 @@ use rt_outside::{Failed, Sink, put_all};
 use rt_trace::BUFFER_BYTES;
 
 /// Lines that wait to go out, at most `BUFFER_BYTES` bytes of them.
-pub(crate) type Held = ArrayVec<u8, BUFFER_BYTES>;
+pub type Held = ArrayVec<u8, BUFFER_BYTES>;
 
 /// Lets out what is held.
-pub(crate) fn put_held<K: Sink>(out: &mut K, held: &mut Held) -> Result<(), Failed>
+pub fn put_held<K: Sink>(out: &mut K, held: &mut Held) -> Result<(), Failed>
     ensures ok { OnOk result (Took (K.taken out.old) (K.taken out.new) held.old.items) }
     ensures none_held { held.new.items ≡ [] }
     ensures err { OnErr result (TookPrefix (K.taken out.old) (K.taken out.new) held.old.items) }

@@ -6,15 +6,17 @@
 #![tactic(auto)]
 
 mod event;
-mod held;
+pub mod held;
 pub mod laws;
 mod lines;
 mod putting;
-mod registers;
+pub mod registers;
 pub mod running;
 
+pub use held::{Held, put_held};
 pub use laws::{
     inputs_are_unused_at_a_take, runs_with_inputs_are_good, runs_with_inputs_are_shown,
     runs_without_inputs_are_runs, takes_leave_cells, words_are_free,
 };
-pub use running::run_with_inputs;
+pub use registers::Registers;
+pub use running::{run_line, run_with_inputs};

@@ -10,7 +10,7 @@ const INDICES: usize = 256;
 
 /// The words that the registers of devices hold, by the local resource that each is for. Contracts see their list.
 #[derive(Drop)]
-pub(crate) struct Registers {
+pub struct Registers {
     words: [u32; INDICES],
 }
 
@@ -24,7 +24,7 @@ impl Model for Registers {
 
 impl Registers {
     /// Registers before the first word.
-    pub(crate) fn new() -> Registers
+    pub fn new() -> Registers
         ensures { held_in result ≡ no_words }
     {
         Registers {

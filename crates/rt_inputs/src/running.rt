@@ -219,7 +219,7 @@ fn run_words<K: Sink>(
 }
 
 /// What a line of a script beside devices stands for.
-fn run_line<K: Sink>(
+pub fn run_line<K: Sink>(
     core: &mut Core,
     app: &App,
     board: &Board,

@@ -10,7 +10,8 @@ use Rattle.rt_given.specs.declared.line.GivenLine.{GivenLine}
 use Rattle.rt_given.specs.declared.line.GivenLine.TheVariants as given
 use Rattle.rt_inputs.specs.Inputs.{AreWords, Happening, Comes, Gives}
 use Rattle.rt_inputs.proofs.Free.{runs_with_inputs_are_good}
-use Rattle.rt_live_inputs.specs.Boxes.{Box, boxes}
+use Rattle.rt_live_inputs.specs.Boxes.{boxes}
+use Rattle.rt_live_inputs.specs.declared.boxes.BoxKind.{BoxKind as Box}
 use Rattle.rt_live_inputs.specs.Looking.{Found, Happens, Looks, Turn, box_happenings, happenings_of, line_turns}
 use Rattle.rt_live_inputs.specs.Looking.{look_happenings, own_steps, step_turns, turns}
 use Rattle.rt_live_inputs.specs.Histories.{IsWhole}

@@ -8,12 +8,7 @@ use Rattle.rt_given.specs.Given.{asked_line}
 use Rattle.rt_given.specs.Words.{words_of}
 use Rattle.rt_given.specs.declared.line.GivenLine.{GivenLine}
 use Rattle.rt_given.specs.declared.line.GivenLine.TheVariants.{Counts, Draws}
-
--- a mailbox: its device, the interrupt that each of its words requests, and the local resource that each is for
-pub record Box : Type 0 where
-  pub device : ℕ
-  pub irq : ℕ
-  pub local : ℕ
+use Rattle.rt_live_inputs.specs.declared.boxes.BoxKind.{BoxKind as Box}
 
 -- the mailbox through which the device of a line gives, where the line asks for words
 abbrev pub box_of : GivenLine → List Box

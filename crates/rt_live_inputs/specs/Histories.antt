@@ -10,7 +10,8 @@ use Rattle.rt_values.specs.declared.call.Call.{Call}
 use Rattle.rt_values.specs.declared.call.Call.TheVariants.{Take}
 use Rattle.rt_values.specs.History.{EndsWith, IsLegal, gives, takes}
 use Rattle.rt_given.specs.declared.line.GivenLine.{GivenLine}
-use Rattle.rt_live_inputs.specs.Boxes.{Box, boxes, plain, words_through}
+use Rattle.rt_live_inputs.specs.Boxes.{boxes, plain, words_through}
+use Rattle.rt_live_inputs.specs.declared.boxes.BoxKind.{BoxKind as Box}
 use Rattle.rt_live_inputs.specs.Giving.{word_given}
 use Rattle.rt_live_inputs.specs.Looking.{Found, last_found, looks, turns}
 

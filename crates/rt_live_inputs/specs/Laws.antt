@@ -14,7 +14,8 @@ use Rattle.rt_values.specs.declared.call.Call.{Call}
 use Rattle.rt_values.specs.declared.call.Call.TheVariants.{Give, Take}
 use Rattle.rt_values.specs.History.{takes}
 use Rattle.rt_given.specs.declared.line.GivenLine.{GivenLine}
-use Rattle.rt_live_inputs.specs.Boxes.{Box, boxes}
+use Rattle.rt_live_inputs.specs.Boxes.{boxes}
+use Rattle.rt_live_inputs.specs.declared.boxes.BoxKind.{BoxKind as Box}
 use Rattle.rt_live_inputs.specs.Looking.{Found, happenings_of, turns}
 use Rattle.rt_live_inputs.specs.Histories.{AreHistories, IsBoxHistory, waited_in}
 

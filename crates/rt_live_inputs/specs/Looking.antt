@@ -12,7 +12,8 @@ use Rattle.rt_live.specs.Interleaving.{look_arrivals}
 use Rattle.rt_inputs.specs.Inputs.{Happening, Comes, Gives}
 use Rattle.rt_given.specs.declared.line.GivenLine.{GivenLine}
 use Rattle.rt_given.specs.declared.line.GivenLine.TheVariants as given
-use Rattle.rt_live_inputs.specs.Boxes.{Box, plain}
+use Rattle.rt_live_inputs.specs.Boxes.{plain}
+use Rattle.rt_live_inputs.specs.declared.boxes.BoxKind.{BoxKind as Box}
 
 -- one thing that is done on the core's side
 pub data Turn : Type 0 where
@@ -37,6 +38,11 @@ line_turns (given.Ticks n) = replicate n (Happens (Comes Tick))
 line_turns (given.Pends irq n) = replicate n (Happens (Comes (Arrive irq)))
 line_turns (given.Gives local word) = Happens (Gives local word) ∷ []
 line_turns line = []
+
+-- how many core steps a line is
+abbrev pub steps_in : GivenLine → ℕ
+steps_in (given.Steps n) = n
+steps_in line = 0
 
 -- how many core steps the core's own lines are
 abbrev pub own_steps : List GivenLine → ℕ

@@ -1,0 +1,13 @@
+use Rattle.std.proofs.Common.{flat_map, take}
+use Rattle.rt_app.specs.View.{app_of}
+use Rattle.rt_inputs.specs.Inside.Ran.{moment}
+use Rattle.rt_live_inputs.specs.Looking.{line_turns}
+use Rattle.rt_live_inputs.specs.Inside.Turning.{Turns}
+use Rattle.rt_live_inputs.proofs.turns.own_lines.Given as goal
+
+abbrev pub invariant-loop-asked : goal.invariant-loop-asked
+invariant-loop-asked g l =
+    Turns (app_of l.app) l.board l.kinds (flat_map line_turns (take l.asked-index l.script)) l.fn.going.went
+    l.going.went l.fn.line l.line l.fn.takers l.takers (moment l.fn.core l.fn.going.registers)
+    (moment l.core l.going.registers) (g.K.Sink.taken l.fn.out) (g.K.Sink.taken l.out) (g.K.Sink.faults l.fn.out)
+    (g.K.Sink.faults l.out)
