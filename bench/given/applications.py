@@ -21,6 +21,11 @@ def word(rng):
     return rng.choice(VALUES) if rng.random() < 0.7 else rng.randrange(1 << 32)
 
 
+def source(rng):
+    """Whence the words of a device's requests come."""
+    return f"{rng.choice(('from', 'seed'))} {word(rng)}"
+
+
 def with_locals(rng, text):
     """An application in which most hardware tasks have one to three more local resources, and use them."""
     lines, declared = text.split("\n"), []
@@ -106,9 +111,13 @@ def script_of(rng, app, board, plain):
         lines.append(line)
         while board and rng.random() < 0.35:
             task, local = rng.choice(board)
-            lines.append(f"give {app.locals[local].name.decode()} {word(rng)}")
-            if rng.random() < 0.7:
-                lines.append(f"pend {app.irqs[app.tasks[task].binds].name.decode()}")
+            irq = app.irqs[app.tasks[task].binds].name.decode()
+            if [one for one, _ in board].count(task) == 1 and rng.random() < 0.5:
+                lines.append(f"device {rng.randrange(16)} pend {irq} {rng.randrange(5)} {source(rng)}")
+            else:
+                lines.append(f"give {app.locals[local].name.decode()} {word(rng)}")
+                if rng.random() < 0.7:
+                    lines.append(f"pend {irq}")
             if rng.random() < 0.5:
                 lines.append(f"step {rng.choice((1, 3, 10, 40))}")
     return "\n".join(lines) + "\n"

@@ -103,6 +103,40 @@ class Compared:
         self.differs(f"audit: {kind}", wanted, self.told("audit", text, board_text, trace), text, board_text, trace)
         self.counts["audits, " + {0: "right", 3: "refused", 4: "wrong"}[wanted[0]]] += 1
 
+    # Runs beside devices in threads.
+
+    def lives(self, count):
+        """So many runs of `live`, each judged."""
+        rng = random.Random(self.seed + 3)
+        for text, app in applications.applications(rng, self.some, count):
+            board_text = applications.board_of(rng, app).encode()
+            board = texts.read_board(board_text, app)
+            script = applications.script_of(rng, app, board, self.some.events(rng, App(app))).encode()
+            self.live(text.encode(), app, board_text, script)
+            self.counts["lives"] += 1
+
+    def live(self, text, app, board_text, script_text):
+        """What `live` writes is one of the texts that may be written: the image is as the language fixes it, the trace
+        is right with its words, and each request of a device is counted once."""
+        board = texts.read_board(board_text, app)
+        script = texts.read_script(script_text, app, board)
+        status, output = self.told("live", text, board_text, script_text)
+        parts = (text, board_text, script_text, output)
+        if self.differs("live: the status", 0, status, *parts):
+            return
+        listing, _, trace = output.partition(b"\ntrace\n")
+        image, wrong = judge.image_of(app, listing + b"\n")
+        self.differs("live: the image", [], wrong or judge.check_image(app, image), *parts)
+        trace, _, account = trace.partition(b"account ")
+        items, total = judging.read_trace(trace, app, board)
+        self.differs("live: the trace", (0, b"yes %d\n" % len(items)), judging.audit(trace, app, board), *parts)
+        own = sum(row[1] for row in script if row[0] == "step")
+        self.differs("live: the total", 2 * own, total, *parts)
+        found = {what[1:] for _, what in items if what[0] == running.INPUT}
+        self.counts["inputs, live"] += len(found)
+        self.differs("live: the words", set(), found - running.words_of(script, board), *parts)
+        self.differs("live: the account", running.requests_of(script, app), running.counted(account), *parts)
+
     # Texts that are nearly boards or scripts.
 
     def boards(self, count):

@@ -46,8 +46,21 @@ def line_for_script(rng, app, board, names):
         f"device 0 give {local} {number}", f"pend {name}", f"pend {irq} {number[-9:]}", f"step {number[-9:]}",
         f"tick {number[-3:]}", f"device {rng.choice((0, 1, 15, 16, 99))} pend {rng.choice((irq, irq, name))}",
         f"device {rng.choice((0, 15, 16))} pend {irq} {rng.choice((0, 1, 1_000_001))}",
-        f"step 1\npend {irq} 1000000",
+        f"step 1\npend {irq} 1000000", *words_for_script(rng, irq, name, number),
     ))
+
+
+def words_for_script(rng, irq, name, number):
+    """Lines of a device's requests with words that may be wrong."""
+    device, times = rng.choice((0, 1, 15, 16)), rng.choice((0, 1, 3, "07", 1_000_001))
+    how, other = rng.choice(("from", "seed")), rng.choice((irq, irq, irq, name))
+    return (
+        f"device {device} pend {other} {times} {how} {number}", f"device {device} pend {other} {times} {how} {number}",
+        f"device {device} pend {other} {times} {how} {number}", f"device {device} pend {other} {how} {number}",
+        f"device {device} pend {irq} {times} {how}", f"device {device} pend {irq} {times} {name} {number}",
+        f"device  {device}  pend {irq}   {times} {how} {number}", f"device {device} pend {irq} {times} {how} 5 5",
+        f"device {device} give {irq} {times} {how} 5", f"pend {irq} {times} {how} 5",
+    )
 
 
 def as_it_is(rng, text, names):

@@ -2,9 +2,27 @@
 resource from the moment at which the handler of the resource's task is taken.
 """
 from rticref import core, script as scripts
+from rticref.soak import Lcg64Xsh32
 from rticref.trace import line
 
 INPUT = "input"
+
+
+def counted(word, device):
+    """The words from a number on, modulo 2^32."""
+    while True:
+        yield word
+        word = (word + 1) % 2**32
+
+
+def drawn(word, device):
+    """The words that PCG32 draws from a state, with the device's number as its sequence."""
+    generator = Lcg64Xsh32(word, device)
+    while True:
+        yield generator.next_u32()
+
+
+WORDS = {"from": counted, "seed": drawn}
 
 
 def inputs_by_interrupt(app, board):
@@ -39,8 +57,17 @@ class Beside:
         for row in script:
             if row[0] == "give":
                 self.register[row[1]] = row[2]
+            elif row[0] in WORDS:
+                self.request(*row)
             else:
                 core.run_events(self.core, scripts.events([row]), self.show)
+
+    def request(self, how, device, word, local, irq, times):
+        """Requests of an interrupt; before each the register of a local resource takes the next word of the device."""
+        words = WORDS[how](word, device)
+        for _ in range(times):
+            self.register[local] = next(words)
+            core.run_events(self.core, scripts.events([("pend", irq, 1)]), self.show)
 
 
 def text_of(items, total, app):
@@ -62,3 +89,32 @@ def run(image, app, board, script):
     beside = Beside(image, app, board)
     beside.follow(script)
     return beside.items, beside.core.nsteps
+
+
+def words_of(script, board):
+    """Each local resource that a device writes with each word that its register may hold under a script."""
+    found = {(local, 0) for _, local in board}
+    for row in script:
+        if row[0] == "give":
+            found.add(row[1:])
+        elif row[0] in WORDS:
+            how, device, word, local, _, times = row
+            words = WORDS[how](word, device)
+            found |= {(local, next(words)) for _ in range(times)}
+    return found
+
+
+def requests_of(script, app):
+    """How often the devices of a script request each interrupt, what of it is left to be found, and what is left."""
+    asked = {irq.number: 0 for irq in app.irqs}
+    for row in script:
+        if row[0] == "device" or row[0] in WORDS:
+            asked[row[-2]] += row[-1]
+    return [(irq.name, asked[irq.number], 0, 0) for irq in app.irqs]
+
+
+def counted(account):
+    """The rows of an account whose first word is cut off: what was requested, what of it was not found, and is left."""
+    rows = [row.split(b" ") for row in account.replace(b"account ", b"").splitlines()]
+    return [(name, int(raised) + int(merged), int(raised) - int(latched), int(left))
+            for name, raised, merged, latched, left in rows]

@@ -1,19 +1,21 @@
-"""Reads BOARD texts and scripts with `give` lines, each by what the documents say of it.
+"""Reads BOARD texts and scripts beside devices, each by what the documents say of it.
 
 A board is a list of inputs, each a task and a local resource by number. A script is a list of lines: `step`, `tick`,
-`pend` and `device` as the reference has them, and `("give", LOCAL, WORD)`.
+`pend` and `device` as the reference has them, `("give", LOCAL, WORD)`, and `("from", ..)` or `("seed", ..)` with
+DEVICE, WORD, LOCAL, IRQ, TIMES for a device's requests that come with words.
 """
 import re
 
 MOST_BYTES, MOST_EVENTS, DEVICES, WORD = 1_048_576, 1_000_000, 16, 1 << 32
 NAME = re.compile(rb"[A-Za-z_][A-Za-z0-9_]*")
 COUNT = re.compile(rb"[0-9]{1,9}")
+SOURCES = (b"from", b"seed")
 NUMBER = re.compile(rb"0|[1-9][0-9]{0,9}")
 WORDS = {
     "board": ("", "too long", "bad line", "unknown task", "software task", "unknown local", "local of another",
               "named twice"),
     "script": ("", "too long", "bad line", "unknown interrupt", "too many events", "too many devices",
-               "unknown input"),
+               "unknown input", "no input", "many inputs"),
     "trace": ("", "too long", "bad line", "unknown name", "unknown input"),
 }
 
@@ -132,11 +134,27 @@ def line_of(words, app, board):
     if first == b"pend":
         return ("pend", *pends(rest, app))
     if first == b"device" and len(rest) > 1 and rest[1] == b"pend":
-        device, (irq, times) = count(rest[0]), pends(rest[2:], app)
-        if device >= DEVICES:
-            raise Wrong(5)
-        return "device", device, irq, times
+        if len(rest) == 6 and rest[4] in SOURCES:
+            word, (_, device, irq, times) = number(rest[5]), device_of(rest[:4], app)
+            return rest[4].decode(), device, word, only_input(irq, app, board), irq, times
+        return device_of(rest, app)
     raise Wrong(2)
+
+
+def device_of(words, app):
+    """The requests of a device, by the words behind `device`."""
+    device, (irq, times) = count(words[0]), pends(words[2:], app)
+    if device >= DEVICES:
+        raise Wrong(5)
+    return "device", device, irq, times
+
+
+def only_input(irq, app, board):
+    """The local resource of the one input whose task is that of an interrupt."""
+    inputs = [local for task, local in board if app.irqs[app.tasks[task].binds].number == irq]
+    if len(inputs) != 1:
+        raise Wrong(8 if inputs else 7)
+    return inputs[0]
 
 
 def pends(words, app):
