@@ -26,13 +26,13 @@ _rtic() {
     COMPREPLY=()
     if [[ $COMP_CWORD -eq 1 ]]; then
         local words='run check fmt build audit live soak demo deepest verify times pair'
-        [[ $program != rticx ]] || words='run audit'
+        [[ $program != rticx ]] || words='run audit live'
         [[ $word != -* ]] || words='-h --help --version'
         mapfile -t COMPREPLY < <(compgen -W "$words" -- "$word")
         return
     fi
     case $program:${COMP_WORDS[1]} in
-    rticx:run) endings=(rtic board script) ;;
+    rticx:run | rticx:live) endings=(rtic board script) ;;
     rticx:audit) endings=(rtic board trace) ;;
     rticx:*) ;;
     *:check | *:fmt | *:build | *:soak | *:deepest) endings=(rtic) ;;

@@ -5,7 +5,7 @@ function __rtic_wants --argument-names ending
     set -l words (commandline -opc)
     set -l endings
     switch (string replace -r '.*/' '' "$words[1]")" $words[2]"
-        case 'rticx run'
+        case 'rticx run' 'rticx live'
             set endings rtic board script
         case 'rticx audit'
             set endings rtic board trace
@@ -65,7 +65,8 @@ for row in \
 end
 for row in \
         'run:write an image of an application, and its trace under a script that gives values' \
-        'audit:judge whether such a trace is a run of Baker\'s machine beside devices'
+        'audit:judge whether such a trace is a run of Baker\'s machine beside devices' \
+        'live:run such a script with its devices in threads of their own'
     set -l parts (string split -m 1 : $row)
     complete -c rticx -n __fish_is_first_token -a $parts[1] -d $parts[2]
 end

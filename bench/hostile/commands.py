@@ -101,7 +101,7 @@ class Ready:
         if self.command.word != "live":
             return True
         path = self.starter.write("audited", output)
-        return self.starter.ended(["audit", self.words[1], path]).status == 0
+        return self.starter.ended(["audit", *self.words[1:-1], path]).status == 0
 
     def is_beginning(self, taken):
         """Whether bytes are a beginning of the whole answer, as far as that is fixed."""

@@ -10,7 +10,10 @@ COMMANDS = {
 }
 # the second program's name, and its commands, each behind that name
 BESIDE = "rticx"
-COMMANDS_BESIDE = {"rticx run": ("APP", "BOARD", "SCRIPT"), "rticx audit": ("APP", "BOARD", "TRACE")}
+COMMANDS_BESIDE = {
+    "rticx run": ("APP", "BOARD", "SCRIPT"), "rticx audit": ("APP", "BOARD", "TRACE"),
+    "rticx live": ("APP", "BOARD", "SCRIPT"),
+}
 TAKEN = {**COMMANDS, **COMMANDS_BESIDE}
 RANGES = {"NUMBER": (0, (1 << 64) - 1), "COUNT": (1, 10_000), "WORKERS": (1, 64), "N": (1, 48)}
 ALL = "--all"

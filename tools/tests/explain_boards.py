@@ -102,10 +102,12 @@ WRONG = (
     (START + "1 input received 5\n1 input received 5\n", 5, "line 5 of the trace is the first that is wrong"),
 )
 WORDS = (
-    (["rticx"], "the commands are `rticx run APP BOARD SCRIPT` and `rticx audit APP BOARD TRACE`"),
+    (["rticx"], "the commands are `rticx run APP BOARD SCRIPT`, `rticx audit APP BOARD TRACE` and "
+                "`rticx live APP BOARD SCRIPT`"),
     (["rticx", "run", "app", "board"], "`rticx run` takes 3 files, APP, BOARD and SCRIPT, and 2 are here"),
     (["rticx", "rum", "app"], "a command of a similar name is `rticx run`"),
     (["run", "app", "board", "script"], "with a board it is the second program's: `rticx run app board script`"),
+    (["rticx", "live", "app", "board"], "`rticx live` takes 3 files, APP, BOARD and SCRIPT, and 2 are here"),
 )
 
 

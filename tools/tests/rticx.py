@@ -72,7 +72,7 @@ def commands():
     for row in cases(CASES):
         word = row["words"].decode().split()[0]
         if row["exit"].strip() == b"0" and word not in found:
-            found[word] = Command(word, TEXTS, tuple(row[text] for text in TEXTS))
+            found[word] = Command(word, TEXTS, tuple(row[text] for text in TEXTS), free=word == "live")
     return [*found.values(), Command("help", (), (), whole=2)]
 
 

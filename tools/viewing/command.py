@@ -14,7 +14,7 @@ from .told import DONE, NOT_WRITTEN, USAGE, Told
 
 USAGE_LINE = ("usage: view RUN [CHECK] [--html FILE | --vcd FILE | --wires FILE | --trace-events FILE |\n"
               "                         --text [STEPS]]\n"
-              "RUN is an output of `rtic run` or `rtic live`, or a trace; CHECK one of `rtic check` on the same\n"
+              "RUN is an output of `run` or `live`, or a trace; CHECK one of `rtic check` on the same\n"
               "application. Without a form the summary is written. `-` is standard input, or as FILE the output.\n")
 FILES = {"--html": lambda history: [page.page(history)], "--vcd": vcd.dump, "--wires": vcd.wires,
          "--trace-events": events.trace_events}

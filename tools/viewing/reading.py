@@ -1,4 +1,4 @@
-"""Reads an output of `rtic run` or `rtic live`, or a trace alone, and what `rtic` writes in its place."""
+"""Reads an output of `run` or `live`, or a trace alone, and what `rtic` writes in its place."""
 import os
 import re
 

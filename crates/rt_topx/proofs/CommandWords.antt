@@ -13,11 +13,13 @@ when false c other = other
 abbrev command_named : List (List ℕ) → Option Command
 command_named [] = None
 command_named (verb ∷ words) =
-    when (bytes_eq verb (codes "run")) command.Run (when (bytes_eq verb (codes "audit")) command.Audit None)
+    when (bytes_eq verb (codes "run")) command.Run (when (bytes_eq verb (codes "audit")) command.Audit
+    (when (bytes_eq verb (codes "live")) command.Live None))
 
 names_it : (words : List (List ℕ)) (c : Command) → Names words c → command_named words ≡ Some c
 names_it words command.Run named = ap command_named named.3
 names_it words command.Audit named = ap command_named named.3
+names_it words command.Live named = ap command_named named.3
 
 -- words name one command at most
 pub one_command : (words : List (List ℕ)) (c d : Command) → Names words c → Names words d → c ≡ d

@@ -94,7 +94,9 @@ module _ {c : Command} {k : Kind} {t : Inputs} {gave : List ℕ} {Does : ℕ →
 pub begins : (c : Command) → kinds_of c ≡ kind.Application ∷ drop 1 (kinds_of c)
 begins command.Run = refl
 begins command.Audit = refl
+begins command.Live = refl
 
 pub goes_on : (c : Command) → drop 1 (kinds_of c) ≡ kind.Board ∷ drop 2 (kinds_of c)
 goes_on command.Run = refl
 goes_on command.Audit = refl
+goes_on command.Live = refl

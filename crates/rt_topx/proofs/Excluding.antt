@@ -171,10 +171,15 @@ all_read command.Audit t ended bytes w = (
   (w.app, w.of_text),
   ((w.app, w.of_text, w.board, w.of_board), ((w.app, w.of_text, w.board, w.of_board, w.told, w.read), tt)),
 )
+all_read command.Live t ended bytes (is, w) = (
+  (w.app, w.is.of_text),
+  ((w.app, w.is.of_text, w.board, w.of_board), ((w.app, w.is.of_text, w.board, w.of_board, w.script, w.read), tt)),
+)
 
 one_output : (c : Command) (t : Inputs) (a b : Status) (x y : List ℕ) → Writes c t a x → Writes c t b y → AreDue a b
 one_output command.Run t a b x y w v = due_as status.Done a b tt w.0 v.0
 one_output command.Audit t a b x y w v = audited_so t.first t.second t.third a b x y w v
+one_output command.Live t a b x y w v = due_as status.Done a b tt w.0 v.0
 
 -- what is due has one status, with which commands reply
 both_due : (c : Command) (t : Inputs) (a b : Status) (x y : List ℕ) → Defined c t a x → Defined c t b y → AreDue a b

@@ -6,3 +6,4 @@ mod Ending
 mod Clauses
 mod Scripted
 mod Running
+mod Living

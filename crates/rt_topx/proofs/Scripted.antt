@@ -23,7 +23,7 @@ use Rattle.rt_lines.proofs.Reading.{kept}
 use Rattle.rt_script.specs.Script as script
 use Rattle.rt_script.specs.Script.{IsScript, count}
 
-count_line : (line : GivenLine) → count (asked_line line) ≡ count_of line
+pub count_line : (line : GivenLine) → count (asked_line line) ≡ count_of line
 count_line (given.Gives local word) = refl
 count_line (given.Steps n) = omega arith
 count_line (given.Ticks n) = omega arith

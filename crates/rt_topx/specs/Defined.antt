@@ -9,12 +9,13 @@ use Rattle.rt_topx.specs.declared.command.Command.{Command}
 use Rattle.rt_topx.specs.declared.command.Command.TheVariants as command
 use Rattle.rt_topx.specs.Words.{Names}
 use Rattle.rt_topx.specs.Kinds.{Kind, kinds_of, IsRefusedAmong}
-use Rattle.rt_topx.specs.Outputs.{IsRun, IsAudited}
+use Rattle.rt_topx.specs.Outputs.{IsRun, IsAudited, IsLive}
 
 -- with this status these bytes are the output for texts of their kinds
 abbrev pub Writes : Command → Inputs → Status → List ℕ → Type 0
 Writes command.Run t ended bytes = (ended ≡ status.Done) × IsRun t.first t.second t.third bytes
 Writes command.Audit t ended bytes = IsAudited t.first t.second t.third ended bytes
+Writes command.Live t ended bytes = (ended ≡ status.Done) × IsLive t.first t.second t.third bytes
 
 -- One of the first texts of the command, so many, is refused with this status and line.
 abbrev pub IsRefusedWithin : ℕ → Command → Inputs → Status → List ℕ → Type 0

@@ -19,6 +19,7 @@ use Rattle.rt_topx.specs.declared.command.Command.{Command}
 use Rattle.rt_topx.specs.declared.command.Command.TheVariants as command
 use Rattle.rt_topx.specs.Refusal.{RefusesBoard, RefusesScript, RefusesTrace}
 
+-- what a text is that a command reads
 pub data Kind : Type 0 where
   Application : Kind
   -- of the first application
@@ -31,6 +32,7 @@ pub data Kind : Type 0 where
 abbrev pub kinds_of : Command → List Kind
 kinds_of command.Run = Application ∷ Board ∷ Script ∷ []
 kinds_of command.Audit = Application ∷ Board ∷ Trace ∷ []
+kinds_of command.Live = Application ∷ Board ∷ Script ∷ []
 
 -- the most bytes of a text of the kind
 abbrev pub most_bytes : Kind → ℕ

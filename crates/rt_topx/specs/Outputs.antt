@@ -18,6 +18,7 @@ use Rattle.rt_given.specs.declared.line.GivenLine.{GivenLine}
 use Rattle.rt_inputs.specs.Inputs.{Happening, AreWords, events_of, moves_of}
 use Rattle.rt_inputs.specs.Runs.{IsRunWithInputs}
 use Rattle.rt_inputs.specs.Script.{text_with_inputs}
+use Rattle.rt_live_inputs.specs.Output.{IsLiveText, happened}
 use Rattle.rt_inputs_audit.specs.Audit.{IsVerdictBeside}
 use Rattle.rt_inputs_audit.specs.Reading.{Told, IsInputsText}
 use Rattle.rt_top.specs.Outputs.{IsGoodImage}
@@ -67,3 +68,22 @@ pub record IsAudited (text beside more : List ℕ) (ended : Status) (bytes : Lis
   pub verdict : Verdict
   pub is : IsVerdictBeside app board told.lines told.total verdict
   pub says : Says told verdict ended bytes
+
+-- `live`: the listing of a good image, which is good beside the devices of the board too, and then what the image may
+-- write beside the devices of the script: a trace with the words that they gave, and the account of every request of
+-- every device. What the image does under the script's own lines with what its looks found is a run of Baker's machine
+-- beside devices.
+pub record IsLive (text beside more bytes : List ℕ) : Type 0 where
+  pub app : App
+  pub image : Image
+  pub is : IsGoodImage text app image
+  pub board : Board
+  pub of_board : IsBoardOf app beside board
+  pub inputs : AreInputs app board.inputs
+  pub good : IsGoodBeside app image board
+  pub script : List GivenLine
+  pub read : IsGivenText (names_of app) app board more script
+  pub shown : List ℕ
+  pub live : IsLiveText app image board script shown
+  pub written : bytes ≡ listing image ++ codes "trace\n" ++ shown
+  pub runs : RunsWellBeside app image (moves_of app image board (happened script live.found))

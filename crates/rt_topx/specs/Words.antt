@@ -7,6 +7,7 @@ use Rattle.rt_topx.specs.declared.command.Command.TheVariants as command
 abbrev pub Names : List (List ℕ) → Command → Type 0
 Names words command.Run = (app board script : List ℕ) × (words ≡ codes "run" ∷ app ∷ board ∷ script ∷ [])
 Names words command.Audit = (app board trace : List ℕ) × (words ≡ codes "audit" ∷ app ∷ board ∷ trace ∷ [])
+Names words command.Live = (app board script : List ℕ) × (words ≡ codes "live" ∷ app ∷ board ∷ script ∷ [])
 
 -- the words name a command
 abbrev pub IsCommand : List (List ℕ) → Type 0
@@ -14,4 +15,4 @@ IsCommand words = (c : Command) × Names words c
 
 -- the line for all other words
 abbrev pub usage_line : List ℕ
-usage_line = codes "usage: rticx run APP BOARD SCRIPT | audit APP BOARD TRACE\n"
+usage_line = codes "usage: rticx run APP BOARD SCRIPT | audit APP BOARD TRACE | live APP BOARD SCRIPT\n"

@@ -11,6 +11,8 @@ pub enum Command {
     Run,
     /// `audit APP BOARD TRACE`
     Audit,
+    /// `live APP BOARD SCRIPT`
+    Live,
 }
 
 /// The command that the words name, None where they name none.
@@ -21,6 +23,7 @@ pub(crate) fn command_of(words: &[&str]) -> Option<Command>
     match words {
         ["run", _, _, _] => Some(Command::Run),
         ["audit", _, _, _] => Some(Command::Audit),
+        ["live", _, _, _] => Some(Command::Live),
         _ => None,
     }
 }

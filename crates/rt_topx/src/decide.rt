@@ -15,24 +15,36 @@ ghost use Rattle.rt_topx.specs.Kinds.{kinds_of};
 use crate::audit::audit;
 use crate::boards::read_board_of;
 use crate::command::Command;
+use crate::live::live;
 use crate::run::run;
 use rt_app::App;
 use rt_board::Board;
+use rt_devices::Gate;
 use rt_ids::Status;
 use rt_outside::{Sink, Source};
 use rt_top::reading::read_accepted;
 use rt_top::reply::finish;
 use std::alloc::Global;
+use std::thread::Threads;
 
 /// Does what the command is, and answers the status that the program ends with. Each command begins with an
 /// application.
-pub(crate) fn decide<A: Source, B: Source, C: Source, K: Sink>(
+pub(crate) fn decide<
+    R: Threads + Sync,
+    A: Source,
+    B: Source,
+    C: Source,
+    K: Sink + Send,
+    G: Gate + Sync,
+>(
+    rt: &R,
     alloc: Global,
     command: Command,
     first: &mut A,
     second: &mut B,
     third: &mut C,
     out: &mut K,
+    gate: &G,
 ) -> Status
     ensures { let a = given_by A.past first.old first.new in
         let b = given_by B.past second.old second.new in
@@ -44,19 +56,21 @@ pub(crate) fn decide<A: Source, B: Source, C: Source, K: Sink>(
         (K.taken out.old) (K.taken out.new) (K.faults out.old) (K.faults out.new) result }
 {
     match read_accepted(alloc, first) {
-        Ok(app) => decide_of(alloc, command, &app, second, third, out),
+        Ok(app) => decide_of(rt, alloc, command, &app, second, third, out, gate),
         Err(reply) => finish(out, &reply),
     }
 }
 
 /// Does what a command is of its application. Each command goes on with a board.
-fn decide_of<B: Source, C: Source, K: Sink>(
+fn decide_of<R: Threads + Sync, B: Source, C: Source, K: Sink + Send, G: Gate + Sync>(
+    rt: &R,
     alloc: Global,
     command: Command,
     app: &App,
     second: &mut B,
     third: &mut C,
     out: &mut K,
+    gate: &G,
 ) -> Status
     requires { IsAccepted (app_of app.now) }
     ensures { (first : List ℕ) → IsApplication first (app_of app.now) →
@@ -68,19 +82,21 @@ fn decide_of<B: Source, C: Source, K: Sink>(
         (K.taken out.old) (K.taken out.new) (K.faults out.old) (K.faults out.new) result }
 {
     match read_board_of(alloc, app, second) {
-        Ok(board) => decide_beside(alloc, command, app, &board, third, out),
+        Ok(board) => decide_beside(rt, alloc, command, app, &board, third, out, gate),
         Err(reply) => finish(out, &reply),
     }
 }
 
 /// Does what a command is of its application and its board.
-fn decide_beside<C: Source, K: Sink>(
+fn decide_beside<R: Threads + Sync, C: Source, K: Sink + Send, G: Gate + Sync>(
+    rt: &R,
     alloc: Global,
     command: Command,
     app: &App,
     board: &Board,
     third: &mut C,
     out: &mut K,
+    gate: &G,
 ) -> Status
     requires accepted { IsAccepted (app_of app.now) }
     requires inputs { AreInputs (app_of app.now) board.now.inputs }
@@ -94,5 +110,6 @@ fn decide_beside<C: Source, K: Sink>(
     match command {
         Command::Run => run(alloc, app, board, third, out),
         Command::Audit => finish(out, &audit(alloc, app, board, third)),
+        Command::Live => live(rt, alloc, app, board, third, out, gate),
     }
 }

@@ -14,25 +14,31 @@ ghost use Rattle.rt_topx.specs.Defined.{IsDue, Skips, ComesTo, WroteAll, WrotePa
 
 use crate::command::command_of;
 use crate::decide::decide;
+use rt_devices::Gate;
 use rt_ids::Status;
 use rt_outside::{Sink, Source};
 use rt_top::reply::answer;
 use std::alloc::Global;
+use std::thread::Threads;
 
 /// The line for words that are no command.
-const USAGE: &[u8] = b"usage: rticx run APP BOARD SCRIPT | audit APP BOARD TRACE\n";
+const USAGE: &[u8] =
+    b"usage: rticx run APP BOARD SCRIPT | audit APP BOARD TRACE | live APP BOARD SCRIPT\n";
 
 /// Runs the command that the words name, and answers its status. `first` is the source of the application, `second`
-/// that of the board, `third` that of the script or the trace. All that is written goes to `out`. What is written is
-/// promised of the texts that the sources have given in this call, whatever they are: files, or memory. The statuses
-/// are those of `Status`, whose numbers are the exit statuses.
-pub fn rticx<A: Source, B: Source, C: Source, K: Sink>(
+/// that of the board, `third` that of the script or the trace. All that is written goes to `out`. `rt` starts the
+/// threads of `live`; `gate` is a seam for tests. What is written is promised of the texts that the sources have given
+/// in this call, whatever they are: files, or memory. The statuses are those of `Status`, whose numbers are the exit
+/// statuses.
+pub fn rticx<R: Threads + Sync, A: Source, B: Source, C: Source, K: Sink + Send, G: Gate + Sync>(
+    rt: &R,
     alloc: Global,
     words: &[&str],
     first: &mut A,
     second: &mut B,
     third: &mut C,
     out: &mut K,
+    gate: &G,
 ) -> Status
     // With an answer all that is defined for the texts that were given was written, and nothing else. What is defined
     // is in specs/Outputs.antt: of an image that it is good beside the devices of the board, so for every list of
@@ -106,7 +112,7 @@ pub fn rticx<A: Source, B: Source, C: Source, K: Sink>(
         WrotePart c t (K.taken out.old) (K.taken out.new) }
 {
     match command_of(words) {
-        Some(command) => decide(alloc, command, first, second, third, out),
+        Some(command) => decide(rt, alloc, command, first, second, third, out, gate),
         None => answer(out, USAGE, Status::Usage),
     }
 }

@@ -1,6 +1,6 @@
-// The program `rticx`: its words, files and standard output go to the top call, whose status is the exit status. What no
-// contract says, and what is trusted here: that the runtime gives the words after the program's name, and that a read,
-// an opening and a write of the system do what they answer.
+// The program `rticx`: its words, files and standard output go to the top call, whose status is the exit status. What
+// no contract says, and what is trusted here: that the runtime gives the words after the program's name, and that a
+// read, an opening and a write of the system do what they answer.
 // Promises: the exit status is the number of the status that is due, and with an answer all that is defined was written
 // (`conduct`).
 // Stands on: rt_ids, rt_outside, rt_files, rt_top, rt_topx.
@@ -21,10 +21,12 @@ ghost use Rattle.rt_topx.specs.Defined.{IsDue, WroteAll};
 use rt_files::{Inputs, exit_code, own_words};
 use rt_ids::Status;
 use rt_outside::OutSink;
+use rt_top::NoGate;
 use rt_topx::rticx;
 use std::alloc::{AllocError, Global};
 use std::process::ExitCode;
 use std::rt::Files;
+use std::thread::Threads;
 
 fn main(rt: HostRuntime) -> ExitCode {
     match own_words(&rt) {
@@ -34,7 +36,7 @@ fn main(rt: HostRuntime) -> ExitCode {
 }
 
 /// Runs the command that the words name, on the files that they name and on standard output.
-fn run<R: Files + Print + AllocGlobal>(rt: &R, words: &[String]) -> ExitCode {
+fn run<R: Threads + Sync + Files + Print + AllocGlobal>(rt: &R, words: &[String]) -> ExitCode {
     let alloc: Global = rt.alloc();
     let Ok(texts) = words
         .iter()
@@ -44,12 +46,13 @@ fn run<R: Files + Print + AllocGlobal>(rt: &R, words: &[String]) -> ExitCode {
         return exit_code(Status::Memory);
     };
     let mut files = Inputs::of(rt, &texts);
-    conduct(alloc, &texts, &mut files, &mut OutSink::of(rt))
+    conduct(rt, alloc, &texts, &mut files, &mut OutSink::of(rt))
 }
 
 /// Runs the command that the words name on these files. The exit status is the number of the status that is due for the
 /// bytes that their reads gave, where nothing failed and no memory was wanted.
-fn conduct<R: Files + Print>(
+fn conduct<R: Threads + Sync + Files + Print>(
+    rt: &R,
     alloc: Global,
     words: &[&str],
     files: &mut Inputs<'_, R>,
@@ -82,12 +85,14 @@ fn conduct<R: Files + Print>(
         × Rose out.old.faults out.new.faults × TookPrefix out.old.taken out.new.taken usage_line) }
 {
     let status = rticx(
+        rt,
         alloc,
         words,
         &mut files.first,
         &mut files.second,
         &mut files.third,
         out,
+        &NoGate,
     );
     exit_code(status)
 }

@@ -9,9 +9,16 @@ use Rattle.rt_listing.specs.Numbers.{HasTypedNumbers}
 use Rattle.rt_board.specs.Board.{Board}
 use Rattle.rt_given.specs.declared.line.GivenLine.{GivenLine}
 use Rattle.rt_inputs.specs.Script.{text_with_inputs}
+use Rattle.rt_live_inputs.specs.Output.{IsLiveText}
 
 -- what `run` writes of an image under a script; the listing is of this image alone
 abbrev pub ShowsRun : App → Image → Board → List GivenLine → Status → List ℕ → Type 0
 ShowsRun app image board script ended bytes =
     (ended ≡ status.Done) × HasTypedNumbers image
     × (bytes ≡ listing image ++ codes "trace\n" ++ text_with_inputs app image board script)
+
+-- what `live` writes of it, likewise
+abbrev pub ShowsLive : App → Image → Board → List GivenLine → Status → List ℕ → Type 0
+ShowsLive app image board script ended bytes =
+    (ended ≡ status.Done) × HasTypedNumbers image
+    × (shown : List ℕ) × IsLiveText app image board script shown × (bytes ≡ listing image ++ codes "trace\n" ++ shown)

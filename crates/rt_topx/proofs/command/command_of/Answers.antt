@@ -7,3 +7,6 @@ returns-in-run-clause-some c = (_, _, _, with_verb 3 _ c.in-run.is-run c.in-run.
 pub returns-in-audit-clause-some : goal.returns-in-audit-clause-some
 returns-in-audit-clause-some c =
     (_, _, _, with_verb 3 _ c.in-audit.is-audit c.in-audit.len_at_least c.in-audit.len_below)
+
+pub returns-in-live-clause-some : goal.returns-in-live-clause-some
+returns-in-live-clause-some c = (_, _, _, with_verb 3 _ c.in-live.is-live c.in-live.len_at_least c.in-live.len_below)

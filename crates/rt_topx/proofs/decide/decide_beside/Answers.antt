@@ -9,3 +9,7 @@ pub returns-in-Audit : goal.returns-in-Audit
 returns-in-Audit g c first second is of_board =
     rw c.in-Audit.is (one_answers tt (c.audit.ensures first second is of_board) c.finish.ensures.finished
     c.finish.ensures.heard)
+
+pub returns-in-Live : goal.returns-in-Live
+returns-in-Live g c first second is of_board =
+    rw c.in-Live.is (one_conducts tt (c.live.ensures.ends first second is of_board) c.live.ensures.heard)
