@@ -1,5 +1,5 @@
 // Whence the words of a device come.
-ghost use Rattle.std.specs.Prelude.{◌≡◌, option_map};
+ghost use Rattle.std.specs.Prelude.{◌≡◌};
 ghost use Rattle.rt_script.specs.Generated.{generator_of};
 ghost use Rattle.rt_given.specs.Words as spec;
 ghost use Rattle.rt_given.specs.declared.source.Source.TheVariants.{Drawing};

@@ -1,4 +1,4 @@
-ghost use Rattle.std.specs.Prelude.{◌≡◌, ◌+◌, ◌<◌, true, IfOk};
+ghost use Rattle.std.specs.Prelude.{◌≡◌, ◌+◌, true, IfOk};
 ghost use Rattle.rt_values.specs.Account.{found_count, merged_count, raised_count, waiting_count};
 ghost use Rattle.rt_values.specs.History.{OneHistory};
 ghost use Rattle.rt_values.specs.Sides.{new_giver, new_taker};
