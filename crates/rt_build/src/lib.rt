@@ -1,7 +1,7 @@
 // From the text of an application to the application, and on to its image.
 // Promises: exact: the application of a text or its first refusal; an image of it, one and the same each time.
-// Stands on: rt_lemmas, rt_ids, rt_actions, rt_ast, rt_grammar, rt_limits, rt_parse, rt_app, rt_resolve, rt_rules,
-// rt_code, rt_frames, rt_layout, rt_gen_queue, rt_gen_timer, rt_gen_body, rt_gen_disp.
+// Stands on: rt_lemmas, rt_ids, rt_actions, rt_ast, rt_grammar, rt_parse, rt_app, rt_resolve, rt_rules, rt_code,
+// rt_frames, rt_layout, rt_gen_queue, rt_gen_timer, rt_gen_body, rt_gen_disp.
 // Read next: specs/Image.antt, then src/image.rt.
 #![tactic(auto)]
 

@@ -13,7 +13,7 @@ ghost use Rattle.rt_build.specs.Accepted.{KeepsRules, IsBroken};
 use rt_app::App;
 use rt_ast::AppTree;
 use rt_ids::Refused;
-use rt_limits::texts_keep_limits;
+use rt_parse::laws::texts_keep_limits;
 use rt_resolve::resolve;
 use rt_rules::rules;
 use std::alloc::Global;

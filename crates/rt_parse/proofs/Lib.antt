@@ -58,3 +58,9 @@ pub mod WholeExact
 pub mod WholeOnly
 pub mod WholeRefused
 pub mod Refusals
+pub mod Keeps
+pub mod KeepsTokens
+pub mod KeepsExpression
+pub mod KeepsStatement
+pub mod KeepsDeclaration
+pub mod Keeping

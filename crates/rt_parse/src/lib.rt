@@ -1,5 +1,5 @@
 // From application texts to trees.
-// Promises: exact: the one tree of a text, or its first refusal at its place.
+// Promises: exact: the one tree of a text, which is printable, or the text's first refusal at its place.
 // Stands on: rt_lemmas, rt_ids, rt_lex, rt_ast, rt_grammar.
 // Read next: src/text.rt, then src/statement.rt; specs/Inside/Reading.antt for the readers as definitions.
 #![tactic(auto)]

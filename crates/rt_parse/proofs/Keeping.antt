@@ -6,10 +6,10 @@ use Rattle.rt_lex.specs.Tokens.{tokens}
 use Rattle.rt_lex.proofs.Parts.{tokens_longest}
 use Rattle.rt_grammar.specs.Options.{OfInit, OfIdle}
 use Rattle.rt_grammar.specs.Declaration.{application}
-use Rattle.rt_limits.specs.Law.{TextsKeepLimits}
-use Rattle.rt_limits.proofs.Keeps.{Keeps, AreFew, none_are_few, sound_marks, keeps_gives, keeps_then, keeps_repeat}
-use Rattle.rt_limits.proofs.KeepsDeclaration.{IsBodyKept, keeps_head, keeps_interrupts, keeps_monotonic, keeps_shared}
-use Rattle.rt_limits.proofs.KeepsDeclaration.{keeps_locals, keeps_thread_body, keeps_tasks}
+use Rattle.rt_parse.specs.Laws.{TextsKeepLimits}
+use Rattle.rt_parse.proofs.Keeps.{Keeps, AreFew, none_are_few, sound_marks, keeps_gives, keeps_then, keeps_repeat}
+use Rattle.rt_parse.proofs.KeepsDeclaration.{IsBodyKept, keeps_head, keeps_interrupts, keeps_monotonic, keeps_shared}
+use Rattle.rt_parse.proofs.KeepsDeclaration.{keeps_locals, keeps_thread_body, keeps_tasks}
 
 init_printable : (init : Option Body) → IfThere (IsBodyKept OfInit) init → IfThere IsPrintableInit init
 init_printable None h = tt

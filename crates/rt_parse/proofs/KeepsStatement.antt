@@ -13,11 +13,11 @@ use Rattle.rt_grammar.specs.Spawn.{arguments, handle, soon, after, cancel, move,
 use Rattle.rt_grammar.specs.Simple.{Counted, bind, assign, emit, pend, call}
 use Rattle.rt_grammar.specs.Statement.{Blocks, branch, loop, further, lock, statement, block_of, braced_block, block}
 use Rattle.rt_grammar.specs.Statement.{inside}
-use Rattle.rt_limits.proofs.Keeps.{Keeps, keeps_gives, keeps_then, keeps_or, keeps_or_else, keeps_never, keeps_repeat}
-use Rattle.rt_limits.proofs.Keeps.{keeps_all}
-use Rattle.rt_limits.proofs.KeepsTokens.{first_free, second_free, not_above, still_below, keeps_word, keeps_sign}
-use Rattle.rt_limits.proofs.KeepsTokens.{keeps_name, keeps_number, keeps_list}
-use Rattle.rt_limits.proofs.KeepsExpression.{keeps_expression}
+use Rattle.rt_parse.proofs.Keeps.{Keeps, keeps_gives, keeps_then, keeps_or, keeps_or_else, keeps_never, keeps_repeat}
+use Rattle.rt_parse.proofs.Keeps.{keeps_all}
+use Rattle.rt_parse.proofs.KeepsTokens.{first_free, second_free, not_above, still_below, keeps_word, keeps_sign}
+use Rattle.rt_parse.proofs.KeepsTokens.{keeps_name, keeps_number, keeps_list}
+use Rattle.rt_parse.proofs.KeepsExpression.{keeps_expression}
 
 few_before : (before : ℕ) → statement_limit before ≡ None → before < STATEMENTS
 few_before before e = still_below STATEMENTS before limit.Statements e

@@ -9,8 +9,8 @@ use Rattle.rt_grammar.specs.Mark.{Mark}
 use Rattle.rt_grammar.specs.Language.{Language, gives}
 use Rattle.rt_grammar.specs.Expression.{Operand, Signs, strengths, chain, chains, comparison, plain_atom, atom, depth}
 use Rattle.rt_grammar.specs.Expression.{ends, expression}
-use Rattle.rt_limits.proofs.Keeps.{AllSound, Keeps, keeps_gives, keeps_then, keeps_or, keeps_repeat}
-use Rattle.rt_limits.proofs.KeepsTokens.{keeps_token, keeps_sign, keeps_name, keeps_number}
+use Rattle.rt_parse.proofs.Keeps.{AllSound, Keeps, keeps_gives, keeps_then, keeps_or, keeps_repeat}
+use Rattle.rt_parse.proofs.KeepsTokens.{keeps_token, keeps_sign, keeps_name, keeps_number}
 
 abbrev pub IsOperand : Operand → Type 0
 IsOperand e = IsSpelledOut e.tree

@@ -19,7 +19,7 @@ use Rattle.rt_grammar.specs.Mark.{Mark}
 use Rattle.rt_grammar.specs.Language.{Language, token}
 use Rattle.rt_grammar.specs.Tokens.{limit_if, first_of, ident_at, ident_of, number_of_token, name_limit, number_limit}
 use Rattle.rt_grammar.specs.Tokens.{limited_word, limited_sign, limited_name, this_name, limited_number, list}
-use Rattle.rt_limits.proofs.Keeps.{AllSound, Keeps, keeps_gives, keeps_then, keeps_or, keeps_as, keeps_repeat}
+use Rattle.rt_parse.proofs.Keeps.{AllSound, Keeps, keeps_gives, keeps_then, keeps_or, keeps_as, keeps_repeat}
 
 -- Limits that are not passed.
 

@@ -18,11 +18,11 @@ use Rattle.rt_grammar.specs.Resources.{shared_resources, local, locals}
 use Rattle.rt_grammar.specs.Options.{Options, no_options, Owner, OfTask, is_init, binds_option, priority_option}
 use Rattle.rt_grammar.specs.Options.{capacity_option, listed_resource, shared_option, local_option, option, options}
 use Rattle.rt_grammar.specs.Bodies.{or_empty, body_of, thread_body, parameters, task}
-use Rattle.rt_limits.proofs.Keeps.{Keeps, AreFew, none_are_few, one_more_is_few, keeps_gives, keeps_then, keeps_or}
-use Rattle.rt_limits.proofs.Keeps.{keeps_or_else, keeps_only_if, keeps_as, keeps_repeat, keeps_all, keeps_few}
-use Rattle.rt_limits.proofs.KeepsTokens.{still_below, between, keeps_word, keeps_sign, keeps_this_name, keeps_name}
-use Rattle.rt_limits.proofs.KeepsTokens.{keeps_number, keeps_list}
-use Rattle.rt_limits.proofs.KeepsStatement.{IsBlockKept, keeps_block}
+use Rattle.rt_parse.proofs.Keeps.{Keeps, AreFew, none_are_few, one_more_is_few, keeps_gives, keeps_then, keeps_or}
+use Rattle.rt_parse.proofs.Keeps.{keeps_or_else, keeps_only_if, keeps_as, keeps_repeat, keeps_all, keeps_few}
+use Rattle.rt_parse.proofs.KeepsTokens.{still_below, between, keeps_word, keeps_sign, keeps_this_name, keeps_name}
+use Rattle.rt_parse.proofs.KeepsTokens.{keeps_number, keeps_list}
+use Rattle.rt_parse.proofs.KeepsStatement.{IsBlockKept, keeps_block}
 
 -- Declarations before the bodies.
 

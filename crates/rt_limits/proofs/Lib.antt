@@ -1,7 +1,0 @@
--- The lemmas of this crate, a file each. The folders beside them have the proofs of functions, by file and name.
-pub mod Keeps
-pub mod KeepsTokens
-pub mod KeepsExpression
-pub mod KeepsStatement
-pub mod KeepsDeclaration
-pub mod Keeping

@@ -1,5 +1,0 @@
-use Rattle.rt_limits.proofs.Keeping.{the_law}
-use Rattle.rt_limits.proofs.texts_keep_limits.Goals as goal
-
-pub returns : goal.returns
-returns c = record { law = the_law }
