@@ -22,12 +22,12 @@ use rt_outside::MemSink;
 use rt_report::report;
 use rt_script::{Script, read_script};
 use rt_sim::prepare;
+use rt_top::NoGate;
 use rt_trace::{Trace, read_trace};
 use std::alloc::Global;
 use std::fs;
 use std::rt::Files;
 use std::thread::Threads;
-use test_commands::NoGate;
 use test_tables::{Case, cases};
 
 /// Bytes that a sink has room for.

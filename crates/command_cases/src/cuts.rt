@@ -1,8 +1,9 @@
 // A text cut behind each of its bytes, and a text without one of its lines.
+use crate::ran::{Outside, Ran, run_on};
 use anyhow::{Context, Result};
+use rt_top::NoGate;
 use std::alloc::Global;
 use std::thread::Threads;
-use test_commands::{NoGate, Outside, Ran, run_on};
 use test_tables::Case;
 
 /// Whether a command answered with a line: its first one, or `accepted` where it wrote more than that.

@@ -1,8 +1,9 @@
 // The demonstration applications: each is accepted and its own canonical text.
+use crate::ran::{Outside, run_on};
 use anyhow::{Context, Result};
+use rt_top::NoGate;
 use std::alloc::Global;
 use std::thread::Threads;
-use test_commands::{NoGate, Outside, run_on};
 use test_tables::Case;
 
 /// Whether a text is accepted, and `check` ends with these bytes.

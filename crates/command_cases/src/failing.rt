@@ -1,11 +1,12 @@
 // Runs whose sink fails at its first write, at its second, and so on, until a run makes no such write; and likewise
 // the reads of each source.
 use crate::live::is_audited;
+use crate::ran::{Outside, Ran, run_on};
 use anyhow::{Context, Result};
 use rt_outside::{MemSink, MemSource};
+use rt_top::NoGate;
 use std::alloc::Global;
 use std::thread::Threads;
-use test_commands::{NoGate, Outside, Ran, run_on};
 use test_tables::Case;
 
 /// Bytes that a sink has room for.

@@ -1,13 +1,14 @@
 // Runs in which a gate holds the core and a device, so that it is known which pends meet and when they arrive. A run
 // that does one after the other fails, and so does one that makes its arrivals up: the gate alone knows the step.
 use crate::account::end_of;
+use crate::ran::{Outside, run_on};
 use crate::sides::Sides;
 use anyhow::{Context, Result};
 use rt_ids::Status;
+use rt_top::Gate;
 use std::alloc::Global;
 use std::thread::Threads;
 use std::time::Clock;
-use test_commands::{Gate, Outside, run_on};
 use test_tables::Case;
 
 /// Pends of the device that meet before the core goes on; the pend behind them is held.

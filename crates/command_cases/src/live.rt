@@ -1,11 +1,12 @@
 // Runs beside device threads. When a pend arrives is free, and so is the code of most applications: of the output the
 // total and the account are compared, and the whole of it is audited.
 use crate::account::{end_of, is_account};
+use crate::ran::{Outside, run_on};
 use anyhow::{Context, Result};
 use rt_ids::Status;
+use rt_top::NoGate;
 use std::alloc::Global;
 use std::thread::Threads;
-use test_commands::{NoGate, Outside, run_on};
 use test_tables::Case;
 
 /// Whether `audit` says yes to an output.

@@ -2,8 +2,8 @@
 // differs. What tokens, canonical texts, reports, refusals, listings, traces and verdicts are to be comes from an
 // independent implementation.
 // Promises: nothing: it is a program of tests.
-// Stands on: test_tables, test_commands, rt_ids, rt_lex, rt_outside, rt_app, rt_build, rt_ceil, rt_frames, rt_report,
-// rt_code, rt_core, rt_sim, rt_script, rt_trace, rt_baker, rt_live.
+// Stands on: test_tables, rt_ids, rt_lex, rt_outside, rt_top, rt_app, rt_build, rt_ceil, rt_frames, rt_report, rt_code,
+// rt_core, rt_sim, rt_script, rt_trace, rt_baker, rt_live.
 // Read next: data/commands.
 #![tactic(auto)]
 
@@ -17,10 +17,12 @@ mod live;
 mod meeting;
 mod messages;
 mod pairs;
+mod ran;
 mod sides;
 mod slow;
 mod soaks;
 mod tokens;
+mod wanted;
 
 use anyhow::Result;
 use std::alloc::Global;
@@ -28,8 +30,8 @@ use std::fs;
 use std::rt::Files;
 use std::thread::Threads;
 use std::time::Clock;
-use test_commands::verdict;
 use test_tables::{Case, cases};
+use wanted::verdict;
 
 /// How the cases of a table are run.
 #[derive(Clone, Copy)]

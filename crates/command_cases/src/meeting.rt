@@ -1,14 +1,15 @@
 // Runs in which each device is held at its first pend until all of them have come to theirs. Devices that run one after
 // another do not come through it.
 use crate::live::live_difference;
+use crate::ran::{Outside, run_on};
 use crate::sides::Holds;
 use anyhow::{Context, Result};
+use rt_top::Gate;
 use std::alloc::Global;
 use std::sync::atomic::AtomicU64;
 use std::sync::atomic::Ordering::SeqCst;
 use std::thread::Threads;
 use std::time::Clock;
-use test_commands::{Gate, Outside, run_on};
 use test_tables::Case;
 
 /// A gate that lets no device make a pend before all have come to one.

@@ -1,10 +1,11 @@
 // Cases of applications with messages, as items.
 
 use crate::live::is_audited;
+use crate::ran::{Outside, Ran, run_on};
 use anyhow::{Context, Result};
+use rt_top::NoGate;
 use std::alloc::Global;
 use std::thread::Threads;
-use test_commands::{NoGate, Outside, Ran, run_on};
 use test_tables::Case;
 
 /// Whether an item begins with one of some words.

@@ -2,13 +2,14 @@
 // audited by its own application, its account is compared, and its whole text where all of it is known.
 use crate::account::{end_of, is_account};
 use crate::live::is_audited;
+use crate::ran::{Outside, Ran, run_on};
 use crate::sides::Sides;
 use anyhow::{Context, Result};
 use rt_ids::Status;
+use rt_top::{Gate, NoGate};
 use std::alloc::Global;
 use std::thread::Threads;
 use std::time::Clock;
-use test_commands::{Gate, NoGate, Outside, Ran, run_on};
 use test_tables::Case;
 
 /// The number of the second core.

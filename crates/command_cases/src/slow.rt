@@ -1,13 +1,14 @@
 // A sink that is slow at times: the core of a run beside device threads waits for it, and the devices go on.
 
 use crate::live::live_difference;
+use crate::ran::Outside;
 use anyhow::Result;
 use rt_outside::{Failed, MemSink, Sink};
+use rt_top::{NoGate, rtic};
 use std::alloc::Global;
 use std::thread;
 use std::thread::Threads;
 use std::time::{Clock, Duration};
-use test_commands::{NoGate, Outside, rtic};
 use test_tables::Case;
 
 /// Bytes that the sink has room for.

@@ -1,9 +1,10 @@
 // Many runs of an application whose code is the compiler's choice: what they show differs from compiler to compiler,
 // and is the same for every number of workers.
+use crate::ran::{Outside, Ran, run_on};
 use anyhow::{Context, Result};
+use rt_top::NoGate;
 use std::alloc::Global;
 use std::thread::Threads;
-use test_commands::{NoGate, Outside, Ran, run_on};
 use test_tables::Case;
 
 /// How a command ends whose words stand in a line.
