@@ -4,7 +4,7 @@
     python3 cases.py REFERENCE CRATE
 
 REFERENCE is the folder that has the package `rticref`, an implementation of the core in Python; CRATE, which is
-crates/machine_cases, takes data/cores, and the stdout that is wanted of all tables in data/. The images are those of
+crates/machine_cases, takes data/cores, and the stdout that is wanted of all its cases. The images are those of
 cases.txt beside this file, one for each way to miss a slot, and some made by chance.
 
 An image of cases.txt is a line `= NAME`, lines of its parts, and a line `script:`. A part is `bits N`, `fpu` for a core
@@ -25,6 +25,11 @@ NAMES = Names([(b"i%d" % n, n) for n in range(496)], [b"t%d" % n for n in range(
 TABLES = core.Tables.of(NAMES)
 NOTES = core.NOTE_FORM | core.NOTE_FORM_R17
 MAIN = ["serve ; end init", "wait"]
+# the cases of parts of the machine, which stand in the program and in no table
+PARTS = [
+    "the highest interrupt, then the lowest number", "a pend of an active interrupt", "frames of a region",
+    "frames on each other", "up to four values of a message",
+]
 # each names slot 1 of a frame that has one word, the last ones in their notes
 NO_SLOT = [
     "set 1 0", "copy 1 0", "copy 0 1", "add 1 0 0", "sub 0 1 0", "mul 0 0 1", "load 1 0", "store 0 1", "loadat 1 0 0",
@@ -217,7 +222,7 @@ def main():
     for table in ("instructions", "conditions", "listings", "programs", "traces", "scripts"):
         lines = (crate / "data" / table).read_text().splitlines()
         told += "".join(f"{line[2:]}: ok\n" for line in lines if line.startswith("= "))
-    (crate / "stdout").write_text(told)
+    (crate / "stdout").write_text(told + "".join(f"{name}: ok\n" for name in PARTS))
 
 
 main()

@@ -19,7 +19,7 @@ use std::alloc::Global;
 use test_tables::Case;
 
 /// What is told of a case that comes out as it says.
-const OK: &str = "ok";
+pub const OK: &str = "ok";
 
 /// A table of cases.
 #[derive(Clone, Copy)]

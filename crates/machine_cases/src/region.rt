@@ -1,11 +1,12 @@
-// Tests of the stack's region.
+// Cases of the stack's region.
 
 ghost use Rattle.std.specs.Prelude.{◌≡◌, ◌<◌, ◌≤◌, ◌++◌, slice_set};
 ghost use Rattle.rt_stack.specs.Region.{used_words, top, below};
 
-use crate::equal::assert_same;
+use crate::checks::OK;
+use anyhow::Result;
 use rt_stack::Region;
-use std::test::Fail;
+use std::alloc::Global;
 
 /// Writes one of the last words: the word alone is another.
 fn write(region: &mut Region, words: u32, at: u32, value: u32)
@@ -20,28 +21,33 @@ fn write(region: &mut Region, words: u32, at: u32, value: u32)
 }
 
 /// Frames of two words, of eight and of two fill a region of twelve.
-#[test]
-fn frames_stand_on_each_other(rt: HostRuntime) -> Result<(), Fail> {
-    let mut region = Region::new(rt.alloc(), 48)?;
+pub fn region_difference(alloc: Global) -> Result<&'static str> {
+    let mut region = Region::new(alloc, 48)?;
     for (words, at, value, left) in [(2, 1, 5, 10), (8, 0, 6, 2), (2, 0, 7, 0)] {
-        assert!(rt; region.fits(words));
+        if !region.fits(words) {
+            return Ok("there is no room");
+        }
         region.push(words);
-        assert!(rt; region.used_words() >= words);
+        if region.used_words() < words {
+            return Ok("the words in use differ");
+        }
         write(&mut region, words, at, value);
-        let fits = (region.fits(left), region.fits(left + 1));
-        assert_same(&rt, &fits, &(true, false), "what is left");
+        if (region.fits(left), region.fits(left + 1)) != (true, false) {
+            return Ok("what is left differs");
+        }
     }
-    assert_eq!(rt; region.used_words(), 12);
+    if region.used_words() != 12 {
+        return Ok("the words of all differ");
+    }
     let whole = [0, 5, 6, 0, 0, 0, 0, 0, 0, 0, 7, 0];
-    assert_same(
-        &rt,
-        &region.top_ref(12),
-        &whole.as_slice(),
-        "the whole stack",
-    );
+    if region.top_ref(12) != whole.as_slice() {
+        return Ok("the whole stack differs");
+    }
     region.pop(3);
     region.push(1);
     let rest = [0, 5, 6, 0, 0, 0, 0, 0, 0, 0];
-    assert_same(&rt, &region.top_ref(10), &rest.as_slice(), "the rest");
-    Ok(())
+    if region.top_ref(10) != rest.as_slice() {
+        return Ok("the rest differs");
+    }
+    Ok(OK)
 }

@@ -1,15 +1,16 @@
-// Tests of frames, step by step.
+// Cases of frames, step by step.
 
 ghost use Rattle.std.specs.Prelude.{◌<◌, ◌≤◌, ◌+◌, length};
 ghost use Rattle.rt_context.specs.declared.sizes.TheConstants.{CONTEXTS};
 
+use crate::checks::OK;
 use Answer::{Done, RunsOn};
 use Step::{Back, Call, Enter, Leave, Write};
+use anyhow::Result;
 use rt_code::{BodyRow, Instr, Registers};
 use rt_context::Frames;
 use rt_ids::TaskId;
-use std::process::Abort;
-use std::test::Fail;
+use std::alloc::Global;
 
 /// What a row of the walk does.
 #[derive(Clone, Copy)]
@@ -100,24 +101,26 @@ const WIDE_WALK: [(Step, Answer, u32, &[u32]); 5] = [
     (Leave, RunsOn(None), 8, &[0, 0]),
 ];
 
-/// Each step of a walk answers, and leaves the stack, as its row says.
-fn walks(rt: &impl Abort, frames: &mut Frames, rows: &[(Step, Answer, u32, &[u32])])
+/// The first row of a walk whose step answers, or leaves the stack, in another way than it says.
+fn first_wrong(frames: &mut Frames, rows: &[(Step, Answer, u32, &[u32])]) -> Option<usize>
     requires { length frames.old.below + length rows.now ≤ CONTEXTS }
 {
     for (row, &(step, answer, depth, slots)) in rows.iter().enumerate() {
         let took = take(frames, step);
-        assert_eq!(rt;
-            (took, frames.depth(), frames.slots()),
-            (answer, depth, slots),
-            "row {row}"
-        );
+        if (took, frames.depth(), frames.slots()) != (answer, depth, slots) {
+            return Some(row);
+        }
     }
+    None
 }
 
-/// With the basic frame of 8 words at exception entry, and with the extended one of 26.
-#[test]
-fn frames_stand_on_each_other(rt: HostRuntime) -> Result<(), Fail> {
-    walks(&rt, &mut Frames::new(rt.alloc(), 160, 8, 2)?, &WALK);
-    walks(&rt, &mut Frames::new(rt.alloc(), 160, 26, 2)?, &WIDE_WALK);
-    Ok(())
+/// Frames stand on each other, with the basic frame of 8 words at exception entry, and with the extended one of 26.
+pub fn frames_difference(alloc: Global) -> Result<&'static str> {
+    if first_wrong(&mut Frames::new(alloc, 160, 8, 2)?, &WALK).is_some() {
+        return Ok("a step with the basic frame differs");
+    }
+    if first_wrong(&mut Frames::new(alloc, 160, 26, 2)?, &WIDE_WALK).is_some() {
+        return Ok("a step with the extended frame differs");
+    }
+    Ok(OK)
 }

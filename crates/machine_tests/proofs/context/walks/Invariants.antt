@@ -1,6 +1,0 @@
--- Each row enters at most one handler.
-use Rattle.std.proofs.Common.{◌+◌, ◌≤◌, length}
-use Rattle.machine_tests.proofs.context.walks.Given as goal
-
-abbrev pub invariant-loop-row : goal.invariant-loop-row
-invariant-loop-row g l = length l.frames.below ≤ length l.initial.frames.below + l.row-counter
