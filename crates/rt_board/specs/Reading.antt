@@ -3,15 +3,15 @@
 use Rattle.std.specs.Prelude.{ℕ, List, None}
 use Rattle.std.specs.Str.Lines.{lines}
 use Rattle.rt_ids.specs.declared.limits.TheConstants.{SCRIPT_BYTES}
-use Rattle.rt_lines.specs.Reading.{Reader, IsRead, IsFirstWrong, IsTooLong}
+use Rattle.rt_lines.specs.Reading.{Reader, IsRead}
+use Rattle.rt_lines.specs.Refusal as refusals
+use Rattle.rt_lines.specs.declared.refusal.TextRefused.{TextRefused}
 use Rattle.rt_app.specs.Tree.{App}
 use Rattle.rt_app.specs.Names.{names_of}
 use Rattle.rt_board.specs.Board.{Board, no_board}
 use Rattle.rt_board.specs.Wording.{with_line}
 use Rattle.rt_board.specs.declared.refusal.Cause.{Cause}
 use Rattle.rt_board.specs.declared.refusal.Cause.TheVariants as cause
-use Rattle.rt_board.specs.declared.refusal.BoardRefused.{BoardRefused}
-use Rattle.rt_board.specs.declared.refusal.BoardRefused.TheVariants as refused
 
 -- the reader of boards of an application; a text is as long as a script may be at most
 abbrev pub board_reader : App → Reader Board Cause
@@ -27,12 +27,6 @@ board_reader app = record {
 abbrev pub IsBoardOf : App → List ℕ → Board → Type 0
 IsBoardOf app text board = IsRead (board_reader app) text board
 
--- the refusal of a text at this line
-abbrev pub refused_at : ℕ → Cause → BoardRefused
-refused_at n c = refused.Wrong n c
-
--- the refusal of a text; want of memory has no cause in it
-pub data IsRefused (app : App) (text : List ℕ) : BoardRefused → Type 0 where
-  too_long : IsTooLong (board_reader app) text → IsRefused app text (refused_at 1 cause.TooLong)
-  first_wrong : (n : ℕ) (c : Cause) → IsFirstWrong (board_reader app) text n c → IsRefused app text (refused_at n c)
-  no_memory : IsRefused app text refused.NoMemory
+-- the refusal of a text
+abbrev pub IsRefused : App → List ℕ → TextRefused Cause → Type 0
+IsRefused app text refusal = refusals.IsRefused (board_reader app) cause.TooLong text refusal

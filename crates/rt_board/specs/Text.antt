@@ -1,11 +1,8 @@
 -- What is printed where a board text is refused: the line's number, and the cause by its number and in words.
-use Rattle.std.specs.Prelude.{ℕ, List, ◌++◌, codes, decimal}
+use Rattle.std.specs.Prelude.{ℕ, List, codes}
+use Rattle.rt_lines.specs.Refusal as refusals
 use Rattle.rt_board.specs.declared.refusal.Cause.{Cause}
 use Rattle.rt_board.specs.declared.refusal.Cause.TheVariants as cause
-
--- where it is refused
-abbrev pub place : ℕ → List ℕ
-place line = codes "board:" ++ (decimal line ++ codes " ")
 
 -- the number and the words of a cause
 abbrev pub words : Cause → List ℕ
@@ -19,4 +16,4 @@ words cause.NamedTwice = codes "7 named twice"
 
 -- the line that is printed
 abbrev pub refusal_text : ℕ → Cause → List ℕ
-refusal_text line c = place line ++ (words c ++ codes "\n")
+refusal_text line c = refusals.refusal_text (codes "board") line (words c)

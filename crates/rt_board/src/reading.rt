@@ -34,7 +34,10 @@ pub fn read_board(
     ensures refused { IfErr result (λ refusal. spec.IsRefused (app_of app.now) bytes.now refusal) }
 {
     if bytes.len() > SCRIPT_BYTES as usize {
-        return Err(refused(1, Cause::TooLong));
+        return Err(BoardRefused::Wrong {
+            line: 1,
+            cause: Cause::TooLong,
+        });
     }
     let mut board = Board::new(alloc);
     let mut rest = bytes;
@@ -44,18 +47,16 @@ pub fn read_board(
         number += 1;
         match take_line(&mut board, names, app, line) {
             Ok(Ok(())) => rest = behind,
-            Ok(Err(cause)) => return Err(refused(number, cause)),
+            Ok(Err(cause)) => {
+                return Err(BoardRefused::Wrong {
+                    line: number,
+                    cause,
+                });
+            }
             Err(NoMemory) => return Err(BoardRefused::NoMemory),
         }
     }
     Ok(board)
-}
-
-/// The refusal of a text at a line.
-fn refused(line: u32, cause: Cause) -> BoardRefused
-    ensures { result ≡ spec.refused_at line cause }
-{
-    BoardRefused::Wrong { line, cause }
 }
 
 /// Adds what a line says, or tells what is wrong with the line.

@@ -1,9 +1,10 @@
 // Why a board text is refused, and where.
 
-ghost use Rattle.std.specs.Prelude.{◌≡◌, ◌++◌, IfOk, OnOk};
+ghost use Rattle.std.specs.Prelude.{◌≡◌, IfOk};
 ghost use Rattle.rt_board.specs.Text as spec;
 
-use rt_ids::{NoMemory, push_bytes, push_number};
+use rt_ids::NoMemory;
+use rt_lines::TextRefused;
 use std::alloc::Global;
 
 /// What is wrong with a text, or with a line of it. Of several the first here is told.
@@ -26,32 +27,13 @@ pub enum Cause {
 }
 
 /// Why a text tells no board.
-#[derive(Clone, Copy)]
-pub enum BoardRefused {
-    /// The line of this number, from 1, is the first that is wrong; a text that is too long is refused at line 1.
-    Wrong { line: u32, cause: Cause },
-    /// Memory was wanted and not there.
-    NoMemory,
-}
+pub type BoardRefused = TextRefused<Cause>;
 
 /// What is printed where a text is refused at a line.
 pub fn refusal_text(alloc: Global, line: u32, cause: Cause) -> Result<Vec<u8>, NoMemory>
     ensures { IfOk result (λ text. text.items ≡ spec.refusal_text line cause) }
 {
-    let mut out = Vec::new(alloc);
-    push_place(&mut out, line)?;
-    push_bytes(&mut out, words(cause))?;
-    push_bytes(&mut out, b"\n")?;
-    Ok(out)
-}
-
-/// Appends where a text is refused.
-fn push_place(out: &mut Vec<u8>, line: u32) -> Result<(), NoMemory>
-    ensures { OnOk result (out.new.items ≡ out.old.items ++ spec.place line) }
-{
-    push_bytes(out, b"board:")?;
-    push_number(out, line)?;
-    push_bytes(out, b" ")
+    rt_lines::refusal_text(alloc, b"board", line, words(cause))
 }
 
 /// The number and the words of a cause.

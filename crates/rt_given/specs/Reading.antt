@@ -6,7 +6,9 @@ use Rattle.std.specs.Str.Lines.{lines}
 use Rattle.rt_ids.specs.Names.{Names}
 use Rattle.rt_ids.specs.declared.limits.TheConstants.{SCRIPT_BYTES, SCRIPT_EVENTS}
 use Rattle.rt_lines.specs.Answers.{and_then}
-use Rattle.rt_lines.specs.Reading.{Reader, IsRead, IsFirstWrong, IsTooLong}
+use Rattle.rt_lines.specs.Reading.{Reader, IsRead}
+use Rattle.rt_lines.specs.Refusal as refusals
+use Rattle.rt_lines.specs.declared.refusal.TextRefused.{TextRefused}
 use Rattle.rt_script.specs.Script.{count}
 use Rattle.rt_app.specs.Tree.{App}
 use Rattle.rt_board.specs.Board.{Board}
@@ -15,8 +17,6 @@ use Rattle.rt_given.specs.Wording.{line_of}
 use Rattle.rt_given.specs.declared.line.GivenLine.{GivenLine}
 use Rattle.rt_given.specs.declared.refusal.Cause.{Cause}
 use Rattle.rt_given.specs.declared.refusal.Cause.TheVariants as cause
-use Rattle.rt_given.specs.declared.refusal.GivenRefused.{GivenRefused}
-use Rattle.rt_given.specs.declared.refusal.GivenRefused.TheVariants as refused
 
 -- the script with its next line, where there is one and the events are not too many then
 abbrev pub with_said : List GivenLine → Option GivenLine → Result (List GivenLine) Cause
@@ -40,14 +40,6 @@ module _ (names : Names) (app : App) (board : Board) where
   abbrev pub IsGivenText : List ℕ → List GivenLine → Type 0
   IsGivenText text script = IsRead given_reader text script
 
--- the refusal of a text at this line
-abbrev pub refused_at : ℕ → Cause → GivenRefused
-refused_at n c = refused.Wrong n c
-
--- the refusal of a text; want of memory has no cause in it
-pub data IsRefused (names : Names) (app : App) (board : Board) (text : List ℕ) : GivenRefused → Type 0 where
-  too_long : IsTooLong (given_reader names app board) text → IsRefused names app board text (refused_at 1 cause.TooLong)
-  first_wrong :
-      (n : ℕ) (c : Cause) → IsFirstWrong (given_reader names app board) text n c
-      → IsRefused names app board text (refused_at n c)
-  no_memory : IsRefused names app board text refused.NoMemory
+-- the refusal of a text
+abbrev pub IsRefused : Names → App → Board → List ℕ → TextRefused Cause → Type 0
+IsRefused names app board text refusal = refusals.IsRefused (given_reader names app board) cause.TooLong text refusal

@@ -34,7 +34,10 @@ pub fn read_given(
         spec.IsRefused names.now (app_of app.now) board.now bytes.now refusal) }
 {
     if bytes.len() > SCRIPT_BYTES as usize {
-        return Err(refused(1, Cause::TooLong));
+        return Err(GivenRefused::Wrong {
+            line: 1,
+            cause: Cause::TooLong,
+        });
     }
     let mut script = GivenScript::new(alloc);
     let mut rest = bytes;
@@ -44,18 +47,16 @@ pub fn read_given(
         number += 1;
         match take_line(&mut script, names, app, board, line) {
             Ok(Ok(())) => rest = behind,
-            Ok(Err(cause)) => return Err(refused(number, cause)),
+            Ok(Err(cause)) => {
+                return Err(GivenRefused::Wrong {
+                    line: number,
+                    cause,
+                });
+            }
             Err(NoMemory) => return Err(GivenRefused::NoMemory),
         }
     }
     Ok(script)
-}
-
-/// The refusal of a text at a line.
-fn refused(line: u32, cause: Cause) -> GivenRefused
-    ensures { result ≡ spec.refused_at line cause }
-{
-    GivenRefused::Wrong { line, cause }
 }
 
 /// Adds what a line asks for, or tells what is wrong with the line.

@@ -6,6 +6,8 @@ use Rattle.rt_ids.specs.Names.{Names}
 use Rattle.rt_ids.specs.declared.limits.TheConstants.{TRACE_BYTES}
 use Rattle.rt_lines.specs.Answers.{and_make}
 use Rattle.rt_lines.specs.Parts.{lines}
+use Rattle.rt_lines.specs.Refusal.{refused_at, first_wrong}
+use Rattle.rt_lines.specs.declared.refusal.TextRefused.{TextRefused}
 use Rattle.rt_lines.proofs.Reading.{lead_more}
 use Rattle.rt_app.specs.Names.{names_of}
 use Rattle.rt_app.specs.Tree.{App}
@@ -20,12 +22,11 @@ use Rattle.rt_inputs_audit.specs.Audit.{IsVerdictBeside}
 use Rattle.rt_inputs_audit.specs.Auditor.{standing, Goes, Refuses, Stands, HasAudited, IsJudgedText}
 use Rattle.rt_inputs_audit.specs.Judging.{HasJudged}
 use Rattle.rt_inputs_audit.specs.Reading.{Standing, Told, shown_of, cause_of, line_told, inputs_reader}
-use Rattle.rt_inputs_audit.specs.Reading.{IsInputsText, IsRefused, refused_at, first_wrong}
+use Rattle.rt_inputs_audit.specs.Reading.{IsInputsText, IsRefused}
 use Rattle.rt_inputs_audit.specs.declared.judge.InputsJudge.{InputsJudge}
 use Rattle.rt_inputs_audit.specs.declared.line.TraceLine.{TraceLine}
 use Rattle.rt_inputs_audit.specs.declared.reader.InputsReader.{InputsReader}
 use Rattle.rt_inputs_audit.specs.declared.refusal.Cause.{Cause}
-use Rattle.rt_inputs_audit.specs.declared.refusal.InputsRefused.{InputsRefused}
 
 module _ (app : App) (b : Board) (names : Names) where
   -- what a line tells leads on
@@ -74,14 +75,14 @@ module _ (app : App) (b : Board) (names : Names) where
         })
 
   -- a line behind a wrong one
-  refuses_on : (ls : List (List ℕ)) (line : List ℕ) (refusal : InputsRefused)
+  refuses_on : (ls : List (List ℕ)) (line : List ℕ) (refusal : TextRefused Cause)
       → Refuses app b names ls refusal → Refuses app b names (ls ++ line ∷ []) refusal
   refuses_on ls line refusal refuses =
       λ text behind short parts. refuses text (line ∷ behind) short (parts ∙ append_assoc ls (line ∷ []) behind)
 
   -- and where that is kept
   pub stands_on : (ls : List (List ℕ)) (line : List ℕ) (reader : InputsReader) (judge : InputsJudge)
-      (refusing : Option InputsRefused) (refusal : InputsRefused) → refusing ≡ Some refusal
+      (refusing : Option (TextRefused Cause)) (refusal : TextRefused Cause) → refusing ≡ Some refusal
       → Stands app b names ls reader judge refusing → Stands app b names (ls ++ line ∷ []) reader judge refusing
   stands_on ls line reader judge None refusal some h = absurd cc
   stands_on ls line reader judge (Some kept) refusal some h = refuses_on ls line kept h
@@ -94,7 +95,7 @@ some_board a b e = cc
 
 -- behind all lines of a text
 module _ {chosen : Option App} {on : Option Board} {names : Names} {machine : Machine} {board : Board}
-    {reader : InputsReader} {judge : InputsJudge} {refusing : Option InputsRefused} {app : App} {b : Board}
+    {reader : InputsReader} {judge : InputsJudge} {refusing : Option (TextRefused Cause)} {app : App} {b : Board}
     (text : List ℕ) (is : chosen ≡ Some app) (stood : on ≡ Some b) (short : length text ≤ TRACE_BYTES)
     (h : HasAudited chosen on names machine board reader judge refusing (lines text)) where
   abbrev own : App
@@ -109,14 +110,14 @@ module _ {chosen : Option App} {on : Option Board} {names : Names} {machine : Ma
   same_names : names ≡ names_of app
   same_names = h.named ∙ ap names_of same_app
 
-  refused_there : (refusal : InputsRefused) → IsRefused names own board text refusal
+  refused_there : (refusal : TextRefused Cause) → IsRefused names own board text refusal
       → IsRefused (names_of app) app b text refusal
   refused_there refusal refused =
       subst (λ (d : Board). IsRefused (names_of app) app d text refusal) same_board
       (subst (λ (a : App). IsRefused (names_of app) a board text refusal) same_app
       (subst (λ (n : Names). IsRefused n own board text refusal) same_names refused))
 
-  pub end_wrong : (refusal : InputsRefused) → refusing ≡ Some refusal → IsRefused (names_of app) app b text refusal
+  pub end_wrong : (refusal : TextRefused Cause) → refusing ≡ Some refusal → IsRefused (names_of app) app b text refusal
   end_wrong refusal wrong =
       let refuses = rw wrong at h.stands in
       refused_there refusal (refuses text [] short (sym (append-nil (lines text))))

@@ -4,6 +4,7 @@ use Rattle.rt_ids.specs.Names.{Names}
 use Rattle.rt_ids.specs.declared.limits.TheConstants.{TRACE_BYTES}
 use Rattle.rt_lines.specs.Parts.{lines}
 use Rattle.rt_lines.specs.Reading.{Lead}
+use Rattle.rt_lines.specs.declared.refusal.TextRefused.{TextRefused}
 use Rattle.rt_app.specs.Names.{names_of}
 use Rattle.rt_app.specs.Tree.{App}
 use Rattle.rt_app.specs.View.{app_of}
@@ -17,7 +18,7 @@ use Rattle.rt_inputs_audit.specs.Judging.{HasJudged}
 use Rattle.rt_inputs_audit.specs.Reading.{Standing, Told, inputs_reader, IsInputsText, IsRefused}
 use Rattle.rt_inputs_audit.specs.declared.judge.InputsJudge.{InputsJudge}
 use Rattle.rt_inputs_audit.specs.declared.reader.InputsReader.{InputsReader}
-use Rattle.rt_inputs_audit.specs.declared.refusal.InputsRefused.{InputsRefused}
+use Rattle.rt_inputs_audit.specs.declared.refusal.Cause.{Cause}
 
 -- where the reader stands, behind lines that show these
 abbrev pub standing : InputsReader → List ShownLine → Standing
@@ -32,19 +33,21 @@ pub record Goes (app : App) (b : Board) (names : Names) (ls : List (List ℕ)) (
   pub judged : HasJudged app b shown judge
 
 -- one of the lines is wrong: each text that begins with these lines is refused so
-abbrev pub Refuses : App → Board → Names → List (List ℕ) → InputsRefused → Type 0
+abbrev pub Refuses : App → Board → Names → List (List ℕ) → TextRefused Cause → Type 0
 Refuses app b names ls refusal =
     (text : List ℕ) (behind : List (List ℕ)) → length text ≤ TRACE_BYTES → lines text ≡ ls ++ behind
     → IsRefused names app b text refusal
 
 -- no line is wrong, or the first that is is refused so
-abbrev pub Stands : App → Board → Names → List (List ℕ) → InputsReader → InputsJudge → Option InputsRefused → Type 0
+abbrev pub Stands :
+    App → Board → Names → List (List ℕ) → InputsReader → InputsJudge → Option (TextRefused Cause) → Type 0
 Stands app b names ls reader judge None = Goes app b names ls reader judge
 Stands app b names ls reader judge (Some refusal) = Refuses app b names ls refusal
 
 -- These lines came of a trace with inputs of the chosen application and board.
 pub record HasAudited (chosen : Option App) (on : Option Board) (names : Names) (machine : Machine) (b : Board)
-    (reader : InputsReader) (judge : InputsJudge) (refused : Option InputsRefused) (ls : List (List ℕ)) : Type 0 where
+    (reader : InputsReader) (judge : InputsJudge) (refused : Option (TextRefused Cause)) (ls : List (List ℕ))
+    : Type 0 where
   pub follows : IsMachine machine
   pub chose : chosen ≡ Some (app_of machine.code.now.app.now)
   pub stood : on ≡ Some b

@@ -13,9 +13,11 @@ use Rattle.rt_ids.specs.declared.limits.TheConstants.{TRACE_BYTES}
 use Rattle.rt_lines.specs.Answers.{and_then, and_make}
 use Rattle.rt_lines.specs.Numbers.{number_below}
 use Rattle.rt_lines.specs.Parts.{lines, words}
-use Rattle.rt_lines.specs.Reading.{Reader, IsRead, IsFirstWrong, IsTooLong}
+use Rattle.rt_lines.specs.Reading.{Reader, IsRead}
+use Rattle.rt_lines.specs.Refusal as refusals
 use Rattle.rt_lines.specs.declared.operand.Wrong.{Wrong}
 use Rattle.rt_lines.specs.declared.operand.Wrong.TheVariants as wrong
+use Rattle.rt_lines.specs.declared.refusal.TextRefused.{TextRefused}
 use Rattle.rt_app.specs.Tree.{App}
 use Rattle.rt_board.specs.Board.{Board}
 use Rattle.rt_given.specs.Wording.{input_named}
@@ -28,8 +30,6 @@ use Rattle.rt_inputs_audit.specs.declared.line.TraceLine.{TraceLine}
 use Rattle.rt_inputs_audit.specs.declared.line.TraceLine.TheVariants as told
 use Rattle.rt_inputs_audit.specs.declared.refusal.Cause.{Cause}
 use Rattle.rt_inputs_audit.specs.declared.refusal.Cause.TheVariants as cause
-use Rattle.rt_inputs_audit.specs.declared.refusal.InputsRefused.{InputsRefused}
-use Rattle.rt_inputs_audit.specs.declared.refusal.InputsRefused.TheVariants as refused
 
 -- what a line that is told shows
 abbrev pub shown_of : TraceLine → ShownLine
@@ -122,15 +122,6 @@ module _ (names : Names) (app : App) (board : Board) where
     pub leads : IsRead inputs_reader text reached
     pub tells : read ≡ record { lines = reached.lines; total = traces.total_of reached.phase }
 
--- the refusal of a text at this line
-abbrev pub refused_at : ℕ → Cause → InputsRefused
-refused_at n c = refused.Wrong n c
-
--- the refusal of a text; want of memory has no cause in it
-pub data IsRefused (names : Names) (app : App) (board : Board) (text : List ℕ) : InputsRefused → Type 0 where
-  too_long :
-      IsTooLong (inputs_reader names app board) text → IsRefused names app board text (refused_at 1 cause.TooLong)
-  first_wrong :
-      (n : ℕ) (c : Cause) → IsFirstWrong (inputs_reader names app board) text n c
-      → IsRefused names app board text (refused_at n c)
-  no_memory : IsRefused names app board text refused.NoMemory
+-- the refusal of a text
+abbrev pub IsRefused : Names → App → Board → List ℕ → TextRefused Cause → Type 0
+IsRefused names app board text refusal = refusals.IsRefused (inputs_reader names app board) cause.TooLong text refusal

@@ -1,12 +1,9 @@
 -- What is printed where the text of a trace with inputs is refused: the line's number, and the cause by its number and
 -- in words.
-use Rattle.std.specs.Prelude.{ℕ, List, ◌++◌, codes, decimal}
+use Rattle.std.specs.Prelude.{ℕ, List, codes}
+use Rattle.rt_lines.specs.Refusal as refusals
 use Rattle.rt_inputs_audit.specs.declared.refusal.Cause.{Cause}
 use Rattle.rt_inputs_audit.specs.declared.refusal.Cause.TheVariants as cause
-
--- where it is refused
-abbrev pub place : ℕ → List ℕ
-place line = codes "trace:" ++ (decimal line ++ codes " ")
 
 -- the number and the words of a cause
 abbrev pub words : Cause → List ℕ
@@ -17,4 +14,4 @@ words cause.UnknownInput = codes "4 unknown input"
 
 -- the line that is printed
 abbrev pub refusal_text : ℕ → Cause → List ℕ
-refusal_text line c = place line ++ (words c ++ codes "\n")
+refusal_text line c = refusals.refusal_text (codes "trace") line (words c)

@@ -5,4 +5,5 @@ pub mod Answers
 pub mod Operand
 pub mod Table
 pub mod Reading
+pub mod Refusal
 pub mod Inside

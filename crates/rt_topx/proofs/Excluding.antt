@@ -7,19 +7,21 @@ use Rattle.rt_app.specs.Tree.{App}
 use Rattle.rt_build.specs.Accepted.{IsApplication}
 use Rattle.rt_baker.specs.declared.verdict.Verdict.{Verdict}
 use Rattle.rt_baker.specs.declared.verdict.Verdict.TheVariants as judged
+use Rattle.rt_lines.specs.Refusal.{too_long, first_wrong, no_memory}
+use Rattle.rt_lines.specs.declared.refusal.TextRefused.{TextRefused}
 use Rattle.rt_lines.proofs.Reading.{read_one_way}
 use Rattle.rt_board.specs.Board as boards
 use Rattle.rt_board.specs.Reading.{IsBoardOf, board_reader}
 use Rattle.rt_board.specs.Reading as board
-use Rattle.rt_board.specs.declared.refusal.BoardRefused.{BoardRefused}
+use Rattle.rt_board.specs.declared.refusal.Cause as in_board
 use Rattle.rt_given.specs.Reading.{IsGivenText, given_reader}
 use Rattle.rt_given.specs.Reading as given
 use Rattle.rt_given.specs.declared.line.GivenLine.{GivenLine}
-use Rattle.rt_given.specs.declared.refusal.GivenRefused.{GivenRefused}
+use Rattle.rt_given.specs.declared.refusal.Cause as in_script
 use Rattle.rt_inputs_audit.specs.Audit.{IsVerdictBeside, JudgedBeside}
 use Rattle.rt_inputs_audit.specs.Reading.{Told, Standing, IsInputsText, inputs_reader}
 use Rattle.rt_inputs_audit.specs.Reading as trace
-use Rattle.rt_inputs_audit.specs.declared.refusal.InputsRefused.{InputsRefused}
+use Rattle.rt_inputs_audit.specs.declared.refusal.Cause as in_trace
 use Rattle.rt_trace.specs.Reading.{total_of}
 use Rattle.rt_top.specs.Defined.{Inputs}
 use Rattle.rt_top.proofs.Excluding.{application_passes, application_only, IsReplied, AreDue, due_as}
@@ -35,28 +37,28 @@ use Rattle.rt_topx.specs.Defined.{Writes, Defined, refused, output}
 -- What is read is refused by no line.
 
 -- a board, of an application
-board_read : (app : App) (more line : List ℕ) (b : boards.Board) (r : BoardRefused) → IsBoardOf app more b
+board_read : (app : App) (more line : List ℕ) (b : boards.Board) (r : TextRefused in_board.Cause) → IsBoardOf app more b
     → board.IsRefused app more r → SaysBoard r line → ⊥
-board_read app more line b r is (board.too_long long) says = omega (arith, is.short, long)
-board_read app more line b r is (board.first_wrong n w first) says =
+board_read app more line b r is (too_long long) says = omega (arith, is.short, long)
+board_read app more line b r is (first_wrong n w first) says =
     (read_one_way (board_reader app)).not_both more b n w is first
-board_read app more line b r is board.no_memory says = says
+board_read app more line b r is no_memory says = says
 
 -- a script, over an application and beside a board
-script_read : (app : App) (b : boards.Board) (more line : List ℕ) (s : List GivenLine) (r : GivenRefused)
+script_read : (app : App) (b : boards.Board) (more line : List ℕ) (s : List GivenLine) (r : TextRefused in_script.Cause)
     → IsGivenText (names_of app) app b more s → given.IsRefused (names_of app) app b more r → SaysScript r line → ⊥
-script_read app b more line s r is (given.too_long long) says = omega (arith, is.short, long)
-script_read app b more line s r is (given.first_wrong n w first) says =
+script_read app b more line s r is (too_long long) says = omega (arith, is.short, long)
+script_read app b more line s r is (first_wrong n w first) says =
     (read_one_way (given_reader (names_of app) app b)).not_both more s n w is first
-script_read app b more line s r is given.no_memory says = says
+script_read app b more line s r is no_memory says = says
 
 -- a trace, likewise
-trace_read : (app : App) (b : boards.Board) (more line : List ℕ) (told : Told) (r : InputsRefused)
+trace_read : (app : App) (b : boards.Board) (more line : List ℕ) (told : Told) (r : TextRefused in_trace.Cause)
     → IsInputsText (names_of app) app b more told → trace.IsRefused (names_of app) app b more r → SaysTrace r line → ⊥
-trace_read app b more line told r is (trace.too_long long) says = omega (arith, is.leads.short, long)
-trace_read app b more line told r is (trace.first_wrong n w first) says =
+trace_read app b more line told r is (too_long long) says = omega (arith, is.leads.short, long)
+trace_read app b more line told r is (first_wrong n w first) says =
     (read_one_way (inputs_reader (names_of app) app b)).not_both more is.reached n w is.leads first
-trace_read app b more line told r is trace.no_memory says = says
+trace_read app b more line told r is no_memory says = says
 
 -- what a trace tells is one
 told_only : (app : App) (b : boards.Board) (text : List ℕ) (one other : Told)

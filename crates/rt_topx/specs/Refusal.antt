@@ -1,38 +1,37 @@
 -- The line that refuses a board, or a script or a trace beside a board: which of these it is, the number of its first
 -- wrong line, and what is wrong there. Want of memory refuses nothing.
 use Rattle.std.specs.Prelude.{◌≡◌, ℕ, List}
+use Rattle.rt_lines.specs.declared.refusal.TextRefused.{TextRefused}
+use Rattle.rt_lines.specs.declared.refusal.TextRefused.TheVariants as refused
 use Rattle.rt_app.specs.Names.{names_of}
 use Rattle.rt_app.specs.Tree.{App}
 use Rattle.rt_build.specs.Accepted.{IsApplication}
 use Rattle.rt_board.specs.Board.{Board}
 use Rattle.rt_board.specs.Reading as boards
 use Rattle.rt_board.specs.Text as board_text
-use Rattle.rt_board.specs.declared.refusal.BoardRefused.{BoardRefused}
-use Rattle.rt_board.specs.declared.refusal.BoardRefused.TheVariants as in_board
+use Rattle.rt_board.specs.declared.refusal.Cause as in_board
 use Rattle.rt_given.specs.Reading as given
 use Rattle.rt_given.specs.Text as given_text
-use Rattle.rt_given.specs.declared.refusal.GivenRefused.{GivenRefused}
-use Rattle.rt_given.specs.declared.refusal.GivenRefused.TheVariants as in_script
+use Rattle.rt_given.specs.declared.refusal.Cause as in_script
 use Rattle.rt_inputs_audit.specs.Reading as trace
 use Rattle.rt_inputs_audit.specs.Text as trace_text
-use Rattle.rt_inputs_audit.specs.declared.refusal.InputsRefused.{InputsRefused}
-use Rattle.rt_inputs_audit.specs.declared.refusal.InputsRefused.TheVariants as in_trace
+use Rattle.rt_inputs_audit.specs.declared.refusal.Cause as in_trace
 use Rattle.rt_top.specs.SecondRefusal.{RefusesOver}
 
 -- the line for the refusal of a board
-abbrev pub SaysBoard : BoardRefused → List ℕ → Type 0
-SaysBoard (in_board.Wrong n c) line = line ≡ board_text.refusal_text n c
-SaysBoard in_board.NoMemory line = ⊥
+abbrev pub SaysBoard : TextRefused in_board.Cause → List ℕ → Type 0
+SaysBoard (refused.Wrong n c) line = line ≡ board_text.refusal_text n c
+SaysBoard refused.NoMemory line = ⊥
 
 -- the line for the refusal of a script
-abbrev pub SaysScript : GivenRefused → List ℕ → Type 0
-SaysScript (in_script.Wrong n c) line = line ≡ given_text.refusal_text n c
-SaysScript in_script.NoMemory line = ⊥
+abbrev pub SaysScript : TextRefused in_script.Cause → List ℕ → Type 0
+SaysScript (refused.Wrong n c) line = line ≡ given_text.refusal_text n c
+SaysScript refused.NoMemory line = ⊥
 
 -- the line for the refusal of a trace
-abbrev pub SaysTrace : InputsRefused → List ℕ → Type 0
-SaysTrace (in_trace.Wrong n c) line = line ≡ trace_text.refusal_text n c
-SaysTrace in_trace.NoMemory line = ⊥
+abbrev pub SaysTrace : TextRefused in_trace.Cause → List ℕ → Type 0
+SaysTrace (refused.Wrong n c) line = line ≡ trace_text.refusal_text n c
+SaysTrace refused.NoMemory line = ⊥
 
 -- the line refuses a text that is no board of an application
 abbrev pub RefusesBoard : List ℕ → List ℕ → List ℕ → Type 0

@@ -1,13 +1,14 @@
 use Rattle.std.proofs.Common.{arith, ◌+◌, sym, ap, ◌∙◌}
+use Rattle.rt_lines.specs.Refusal.{too_long, first_wrong, no_memory}
 use Rattle.rt_lines.proofs.Reading.{line_more, wrong_line}
 use Rattle.rt_app.specs.View.{app_of}
-use Rattle.rt_board.specs.Reading.{board_reader, too_long, first_wrong, no_memory}
+use Rattle.rt_board.specs.Reading.{board_reader}
 use Rattle.rt_board.specs.Wording.{with_line}
 use Rattle.rt_board.proofs.Inputs.{lead_fine}
 use Rattle.rt_board.proofs.reading.read_board.Goals as goal
 
 pub returns-then-bytes-clause-refused : goal.returns-then-bytes-clause-refused
-returns-then-bytes-clause-refused c = rw c.refused.ensures (too_long (omega arith))
+returns-then-bytes-clause-refused c = too_long (omega arith)
 
 pub loop-rest-preserved : goal.loop-rest-preserved
 loop-rest-preserved c =
@@ -21,13 +22,12 @@ loop-rest-preserved c =
 pub returns-in-Ok-Err-clause-refused : goal.returns-in-Ok-Err-clause-refused
 returns-in-Ok-Err-clause-refused c =
     let step = rw c.in-Ok-Err.field-0-is at c.in-Ok-Err.ensures.taken in
-    rw c.refused-in-Ok-Err.ensures
-    (first_wrong (c.loop-rest.number + 1) c.in-Ok-Err.cause
+    first_wrong (c.loop-rest.number + 1) c.in-Ok-Err.cause
     (wrong_line (board_reader (app_of c.args.app.now)) c.args.bytes.now c.loop-rest.rest.now
     c.first_line.result.1.now c.first_line.result.0.now c.loop-rest.number c.loop-rest.board c.in-Ok-Err.cause
     c.loop-rest.invariant c.first_line.ensures.lines (omega arith)
     (ap (λ names. with_line names (app_of c.args.app.now) c.loop-rest.board c.first_line.result.0.now)
-    (sym c.requires) ∙ step)))
+    (sym c.requires) ∙ step))
 
 pub returns-in-Err-clause-refused : goal.returns-in-Err-clause-refused
 returns-in-Err-clause-refused c = no_memory

@@ -1,12 +1,13 @@
 use Rattle.std.proofs.Common.{arith, ◌+◌}
+use Rattle.rt_lines.specs.Refusal.{too_long, first_wrong, no_memory}
 use Rattle.rt_lines.proofs.Reading.{line_more, wrong_line}
 use Rattle.rt_app.specs.View.{app_of}
-use Rattle.rt_given.specs.Reading.{given_reader, too_long, first_wrong, no_memory}
+use Rattle.rt_given.specs.Reading.{given_reader}
 use Rattle.rt_given.proofs.Told.{lead_right}
 use Rattle.rt_given.proofs.reading.read_given.Goals as goal
 
 pub returns-then-bytes-clause-refused : goal.returns-then-bytes-clause-refused
-returns-then-bytes-clause-refused c = rw c.refused.ensures (too_long (omega arith))
+returns-then-bytes-clause-refused c = too_long (omega arith)
 
 pub loop-rest-preserved : goal.loop-rest-preserved
 loop-rest-preserved c =
@@ -17,12 +18,11 @@ loop-rest-preserved c =
 
 pub returns-in-Ok-Err-clause-refused : goal.returns-in-Ok-Err-clause-refused
 returns-in-Ok-Err-clause-refused c =
-    rw c.refused-in-Ok-Err.ensures
-    (first_wrong (c.loop-rest.number + 1) c.in-Ok-Err.cause
+    first_wrong (c.loop-rest.number + 1) c.in-Ok-Err.cause
     (wrong_line (given_reader c.args.names.now (app_of c.args.app.now) c.args.board.now) c.args.bytes.now
     c.loop-rest.rest.now c.first_line.result.1.now c.first_line.result.0.now c.loop-rest.number c.loop-rest.script
     c.in-Ok-Err.cause c.loop-rest.invariant c.first_line.ensures.lines (omega arith)
-    (rw c.in-Ok-Err.field-0-is at c.in-Ok-Err.ensures.taken)))
+    (rw c.in-Ok-Err.field-0-is at c.in-Ok-Err.ensures.taken))
 
 pub returns-in-Err-clause-refused : goal.returns-in-Err-clause-refused
 returns-in-Err-clause-refused c = no_memory

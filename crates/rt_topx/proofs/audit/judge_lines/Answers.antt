@@ -1,7 +1,7 @@
 use Rattle.std.proofs.Common.{refl, sym, arith}
+use Rattle.rt_lines.specs.Refusal.{too_long, refused_at}
 use Rattle.rt_app.specs.View.{app_of}
 use Rattle.rt_ids.specs.declared.status.Status.TheVariants as status
-use Rattle.rt_inputs_audit.specs.Reading.{too_long, refused_at}
 use Rattle.rt_inputs_audit.specs.declared.refusal.Cause.TheVariants as cause
 use Rattle.rt_top.specs.Inside.Using.{for_memory, at_fault}
 use Rattle.rt_top.specs.Reads.{given_by}

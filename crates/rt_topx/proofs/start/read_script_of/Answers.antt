@@ -1,7 +1,8 @@
 use Rattle.std.proofs.Common.{refl, subst, ◌∙◌}
 use Rattle.rt_ids.specs.declared.status.Status.TheVariants as status
+use Rattle.rt_lines.specs.Refusal.{too_long, refused_at}
 use Rattle.rt_app.specs.View.{app_of}
-use Rattle.rt_given.specs.Reading.{IsGivenText, IsRefused, too_long, refused_at}
+use Rattle.rt_given.specs.Reading.{IsGivenText, IsRefused}
 use Rattle.rt_given.specs.declared.refusal.Cause.TheVariants as cause
 use Rattle.rt_top.specs.Reads.{given_by}
 use Rattle.rt_topx.specs.Inside.Using.{stop}
