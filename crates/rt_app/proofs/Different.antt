@@ -3,16 +3,11 @@ use Rattle.std.proofs.Common.{◌≡◌, ℕ, zero, suc, List, [], ◌∷◌, �
 use Rattle.std.proofs.Common.{◌∙◌, arith, ◌⊎◌, inl, inr}
 use Rattle.std.proofs.lemmas.Option.{none-some, slice_get_within, get_or_from_slice_get}
 use Rattle.rt_lemmas.proofs.Membership.{contains_here, contains_there, contains_cases, contains_none, contains_at}
+use Rattle.rt_lemmas.proofs.Indices.{get_left}
 use Rattle.rt_ids.specs.Lists.{AreDifferent}
 
--- what stands at an index stands there with more behind the list
-front_index : {X : Type 0} (xs ys : List X) (i : ℕ) (x : X) → slice_get xs i ≡ Some x → slice_get (xs ++ ys) i ≡ Some x
-front_index [] ys i x at = absurd (none-some x at)
-front_index (y ∷ xs) ys zero x at = at
-front_index (y ∷ xs) ys (suc i) x at = front_index xs ys i x at
-
 pub different_front : {X : Type 0} (xs ys : List X) → AreDifferent (xs ++ ys) → AreDifferent xs
-different_front xs ys differ i j x a b = differ i j x (front_index xs ys i x a) (front_index xs ys j x b)
+different_front xs ys differ i j x a b = differ i j x (get_left xs ys i x a) (get_left xs ys j x b)
 
 pub different_tail : {X : Type 0} (y : X) (xs : List X) → AreDifferent (y ∷ xs) → AreDifferent xs
 different_tail y xs differ i j x a b = let same = differ (suc i) (suc j) x a b in omega arith

@@ -3,6 +3,7 @@
 -- of its own. That the highest level takes the dispatcher that is named first is this project's own.
 use Rattle.std.specs.Prelude.{ℕ, ◌+◌, ◌==◌, Bool, nat_lt, List, [], ◌∷◌, ◌++◌, length, filter, flat_map, slice_get}
 use Rattle.std.specs.Prelude.{Option, Some, None, option_map, is_none}
+use Rattle.rt_ids.specs.Lists.{then_from}
 use Rattle.rt_app.specs.declared.app.Mono.{Mono}
 use Rattle.rt_app.specs.Tree.{Task, App}
 use Rattle.rt_app.specs.Level.{levels}
@@ -62,3 +63,7 @@ irq_number app irq = option_map (λ d. d.number) (slice_get app.irqs irq)
 -- a form of applications: there is no monotonic
 abbrev pub has_no_monotonic : App → Bool
 has_no_monotonic app = is_none app.mono
+
+-- the number of the interrupt that a task binds
+abbrev pub bound_number : App → Task → Option ℕ
+bound_number app t = then_from t.binds (irq_number app)

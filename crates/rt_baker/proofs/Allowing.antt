@@ -16,7 +16,7 @@ use Rattle.rt_laws.specs.Allowed.{HasStep, MayStep, Turn, May, state_after_item,
 use Rattle.rt_laws.specs.Run.{RunsOn}
 use Rattle.rt_laws.specs.ByItems.{label_of, after_all, silent}
 use Rattle.rt_laws.specs.Silent.{HasSteps, MaySpend, jobs_after_steps}
-use Rattle.rt_laws.proofs.Silent.{silent_steps_by_cost}
+use Rattle.rt_laws.proofs.Silent.{silent_steps_by_cost, lefts_first}
 use Rattle.rt_baker_work.specs.Work.{IsSettled}
 use Rattle.rt_baker_moves.specs.State.{AuditorState, StateIs, IsEarly}
 use Rattle.rt_baker_moves.proofs.Early.{all_settled, early_held}
@@ -195,17 +195,13 @@ lefts_of : (ns : List ℕ) → AllByRecursion (λ n. 1 ≤ n) ns → AllByRecurs
 lefts_of [] all = tt
 lefts_of (n ∷ ns) all = let here = all.0 in (omega arith, lefts_of ns all.1)
 
-lefts_of_one : (ns : List ℕ) → AllByRecursion (λ n. 0 < n) ns → AllByRecursion (λ n. 1 ≤ n) ns
-lefts_of_one [] all = tt
-lefts_of_one (n ∷ ns) all = let here = all.0 in (omega arith, lefts_of_one ns all.1)
-
 may_step : (js : List laws.Job) → MaySpend 1 js → MayStep js
 may_step [] may = absurd may
 may_step (j ∷ js) may = (step_of j.role j.left may.0, lefts_of j.lefts may.1)
 
 step_needs : (js : List laws.Job) → MayStep js → MaySpend 1 js
 step_needs [] may = absurd may
-step_needs (j ∷ js) may = (steps_of_one j.role j.left may.0, lefts_of_one j.lefts may.1)
+step_needs (j ∷ js) may = (steps_of_one j.role j.left may.0, lefts_first j.lefts may.1)
 
 pub turned : (app : App) (s new : AuditorState) (w : What) → s.owing ≡ false → IsTurn w
     → ((t : laws.State) → StateIs app s t → (preemption.candidate app t ≡ None) × MaySpend 1 t.jobs)

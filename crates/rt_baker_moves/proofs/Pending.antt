@@ -6,8 +6,9 @@ use Rattle.std.proofs.Common.{◌⊎◌, inl, inr}
 use Rattle.std.proofs.lemmas.Bool.{ltb-true, cases_eq, cases_lt}
 use Rattle.std.proofs.lemmas.List.{get_or-set_other}
 use Rattle.rt_lemmas.proofs.Bools.{true_and_false}
-use Rattle.rt_lemmas.proofs.Lists.{mapped_at}
+use Rattle.rt_lemmas.proofs.Lists.{mapped_at, found_passes}
 use Rattle.rt_lemmas.proofs.Membership.{all_at}
+use Rattle.rt_lemmas.proofs.Indices.{now_cleared}
 use Rattle.rt_ids.specs.Lists.{AreDifferent, is_some_and, or_zero}
 use Rattle.rt_trace.specs.Label.{Rang}
 use Rattle.rt_ids.specs.declared.limits.TheConstants.{IRQ_NUMBERS}
@@ -22,7 +23,7 @@ use Rattle.rt_laws.specs.Allowed.{after}
 use Rattle.rt_laws.specs.Preemption.{goes_before}
 use Rattle.rt_laws.specs.Services.{service_at, priority_of, timer_number}
 use Rattle.rt_laws.specs.State as laws
-use Rattle.rt_laws.proofs.Pending.{found_passes, some_number, made_number}
+use Rattle.rt_laws.proofs.Pending.{some_number, made_number}
 use Rattle.rt_baker_moves.specs.State.{AuditorState, with_jobs, StateIs}
 use Rattle.rt_baker_moves.specs.Waiting.{insert_before, chosen_in_order, waits, waiting_irqs}
 use Rattle.rt_baker_moves.specs.Inside.Acts.{held_after_pend}
@@ -30,7 +31,7 @@ use Rattle.rt_baker_moves.specs.Inside.Starts.{held_after_take}
 use Rattle.rt_baker_moves.specs.Inside.Waiting.{waiting_with, without}
 use Rattle.rt_baker_moves.proofs.Resets.{copies_read}
 use Rattle.rt_baker_moves.proofs.Waiting.{one_way, some_way, onward, ordered_alike, ordered_more, ordered_less, not_yet}
-use Rattle.rt_baker_moves.proofs.Waiting.{now_set, now_cleared, set_already}
+use Rattle.rt_baker_moves.proofs.Waiting.{now_set, set_already}
 
 module _ (app : App) where
   abbrev pub numbers : List ℕ

@@ -354,10 +354,5 @@ now_set [] i e = absurd cc
 now_set (x ∷ xs) zero e = refl
 now_set (x ∷ xs) (suc i) e = now_set xs i e
 
-pub now_cleared : (xs : List Bool) (i : ℕ) → slice_index_or (slice_set xs i false) i false ≡ false
-now_cleared [] i = refl
-now_cleared (x ∷ xs) zero = refl
-now_cleared (x ∷ xs) (suc i) = now_cleared xs i
-
 pub set_already : (xs : List Bool) (i : ℕ) → slice_index_or xs i true ≡ true → slice_set xs i true ≡ xs
 set_already xs i e = ap (slice_set xs i) (sym e) ∙ set-get_or xs i true

@@ -135,10 +135,6 @@ oldest_ready app p all m rest old new s read is pushes = record {
       ∙ ap (λ (vars : List ℕ). behind app new.todos later vars (contents s)) (sym pushes.vars);
 }
 
-pub none_by_length : {X : Type 0} (xs : List X) → length xs ≡ 0 → xs ≡ []
-none_by_length [] h = refl
-none_by_length (x ∷ xs) h = absurd (omega (arith, h))
-
 pub empty_by_length : {X : Type 0} (xs : List X) (n : ℕ) → n ≡ length xs → is_empty xs ≡ (n == 0)
 empty_by_length [] n h = rw h refl
 empty_by_length (x ∷ xs) n h = let e : n ≢ 0 = omega (arith, h) in grind (arith, nat_tests)

@@ -9,7 +9,7 @@ use Rattle.std.proofs.lemmas.Bool.{false_from_ne_true}
 use Rattle.std.proofs.lemmas.List.{map-append}
 use Rattle.std.proofs.lemmas.Option.{same_Some, slice_get_within, slice_get-map, get_or_from_slice_get}
 use Rattle.std.proofs.lemmas.Result.{IfOk-at_ok}
-use Rattle.rt_lemmas.proofs.Lists.{all_behind, found, mapped_at}
+use Rattle.rt_lemmas.proofs.Lists.{all_behind, found, mapped_at, found_passes}
 use Rattle.rt_lemmas.proofs.Membership.{all_at, any_passes, contained_any, contains_at, contains_here}
 use Rattle.rt_lemmas.proofs.Texts.{same_text}
 use Rattle.rt_ids.specs.Lists.{AreDifferent, is_some_and, then_from}
@@ -18,7 +18,7 @@ use Rattle.rt_ids.specs.Word.{IsName}
 use Rattle.rt_ids.proofs.Lists.{list_any-map}
 use Rattle.rt_lines.specs.Answers.{and_then}
 use Rattle.rt_lines.specs.Reading.{Lead, IsRead}
-use Rattle.rt_lines.proofs.Found.{found_passes, task_found}
+use Rattle.rt_lines.proofs.Found.{task_found}
 use Rattle.rt_app.specs.Tree.{Task, App}
 use Rattle.rt_app.specs.Accepted.{IsAccepted}
 use Rattle.rt_app.specs.Level.{is_software}

@@ -10,14 +10,15 @@ use Rattle.std.proofs.lemmas.List.Quantifiers.{position-Some}
 use Rattle.std.proofs.lemmas.Option.{slice_get_within, get_or_from_slice_get}
 use Rattle.std.proofs.lemmas.Result.{IfOk-at_ok}
 use Rattle.std.proofs.lemmas.Slice.Eq.{bytes_eq-Decides}
-use Rattle.rt_lemmas.proofs.Lists.{mapped_at, some_at}
+use Rattle.rt_lemmas.proofs.Lists.{mapped_at, some_at, found_passes}
 use Rattle.rt_lemmas.proofs.Options.{if_some-map}
 use Rattle.rt_ids.specs.Lists.{is_some_and, then_from}
 use Rattle.rt_ids.specs.Names.{task_of}
 use Rattle.rt_ids.specs.Word.{is_identifier}
+use Rattle.rt_ids.proofs.Lists.{some_passing}
 use Rattle.rt_lines.specs.Parts.{spaced_words}
 use Rattle.rt_lines.proofs.Decoded.{if_some_from, if_ok_from, if_ok_or, if_ok_chosen, if_ok_then, if_ok_make}
-use Rattle.rt_lines.proofs.Found.{found_passes, found_at}
+use Rattle.rt_lines.proofs.Found.{found_at}
 use Rattle.rt_script.specs.Wording.{is_blank, is_comment, is_loose}
 use Rattle.rt_app.specs.Tree.{Task, App}
 use Rattle.rt_app.specs.Names.{names_of}
@@ -32,18 +33,12 @@ use Rattle.rt_board.specs.Told.{IsSkipped, NamesInput}
 use Rattle.rt_board.specs.declared.board.Input.{Input}
 use Rattle.rt_board.specs.declared.refusal.Cause.TheVariants as cause
 
--- an option whose value passes has one
-passing : {X : Type 0} (test : X → Bool) (o : Option X) → is_some_and test o ≡ true
-    → (x : X) × (o ≡ Some x) × (test x ≡ true)
-passing test None passes = absurd cc
-passing test (Some x) passes = (x, refl, passes)
-
 -- the local resource that a search by name found
 pub named_local : (app : App) (name : List ℕ) (o : Owned)
     → is_some_and (is_named name) (slice_get app.locals o.local) ≡ true
     → (r : Local) × (slice_get app.locals o.local ≡ Some r) × (r.name ≡ name)
 named_local app name o passes =
-    let there = passing (is_named name) (slice_get app.locals o.local) passes in
+    let there = some_passing (is_named name) (slice_get app.locals o.local) passes in
     (there.0, there.1, (bytes_eq-Decides there.0.name name).0 there.2)
 
 module _ (app : App) where

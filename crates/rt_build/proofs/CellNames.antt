@@ -1,11 +1,11 @@
 -- How long the names of cells are.
-use Rattle.std.proofs.Common.{ℕ, ◌+◌, ◌≤◌, ◌/◌, ◌%◌, zero, suc, Bool, true, false, cond, eqb, List, [], ◌∷◌}
+use Rattle.std.proofs.Common.{ℕ, ◌+◌, ◌≤◌, Bool, true, false, List, [], ◌∷◌}
 use Rattle.std.proofs.Common.{◌++◌, codes}
 use Rattle.std.proofs.Common.{decimal, length, map, flat_map, if◌then◌else◌, Option, Some, None, arith}
 use Rattle.std.proofs.Common.{length-append}
-use Rattle.std.specs.Fmt.{digits, digits_onto, digit_glyph}
 use Rattle.std.specs.List.{AllByRecursion, range_with_len}
 use Rattle.rt_lemmas.proofs.Lists.{all_append, all_map}
+use Rattle.rt_lemmas.proofs.Texts.{decimal_few}
 use Rattle.rt_ids.specs.Word.{IsName}
 use Rattle.rt_ids.specs.declared.cell.CellRow.{CellRow}
 use Rattle.rt_app.specs.declared.app.Shared.{Shared}
@@ -16,21 +16,6 @@ use Rattle.rt_app.specs.Level.{is_software, levels, armed_messages}
 use Rattle.rt_app.specs.Names.{HasNames}
 use Rattle.rt_app.specs.Layout.{Cell, resource_cells, local_cells, free_cells, place_cells, task_cells, ready_room}
 use Rattle.rt_app.specs.Layout.{ready_cells, timer_cell, timer_column, timer_cells, memory, layout, row_of}
-
--- a number has at most 64 digits
-digits_few : (k n : ℕ) (more : List ℕ) → length (digits_onto k 10 false n more) ≤ k + length more
-digits_few zero n more = omega arith
-digits_few (suc k) n more = by (digits_few k (n / 10) (digit_glyph false (n % 10) ∷ more)) (eqb (n / 10) 0)
-  where
-    by : length (digits_onto k 10 false (n / 10) (digit_glyph false (n % 10) ∷ more)) ≤ k + suc (length more)
-        → (b : Bool) → length (cond b (digit_glyph false (n % 10) ∷ more)
-        (digits_onto k 10 false (n / 10) (digit_glyph false (n % 10) ∷ more))) ≤ suc k + length more
-    by rest true = omega arith
-    by rest false = omega (arith, rest)
-
-pub decimal_few : (n : ℕ) → length (decimal n) ≤ 64
-unfolding digits
-decimal_few n = digits_few 64 n []
 
 abbrev IsBrief : Cell → Type 0
 IsBrief cell = length cell.name ≤ 168

@@ -3,6 +3,7 @@
 use Rattle.std.proofs.Common.{◌≡◌, ◌==◌, ℕ, zero, suc, ◌+◌, ◌<◌, ◌≤◌, Bool, true, false, not, List, [], ◌∷◌, ◌++◌}
 use Rattle.std.proofs.Common.{length, take, drop, sum_by, Option, Some, None, option_map, slice_get, slice_index}
 use Rattle.std.proofs.Common.{Contains, refl, sym, ap, subst, ◌∙◌, arith, append-nil, length-append, if◌then◌else◌}
+use Rattle.std.proofs.Common.{add-one}
 use Rattle.std.specs.Prelude.{slice_set, position, replicate, IsSome}
 use Rattle.std.specs.List.{AllByRecursion}
 use Rattle.std.proofs.lemmas.List.{take_at, drop_at, take_all, get_or-set_same, length-replicate}
@@ -56,9 +57,6 @@ use Rattle.rt_build.proofs.Grown.{thread_made, thread_kept, tasks_kept, dispatch
 use Rattle.rt_build.proofs.Grown.{timer_absent, dispatcher_put}
 use Rattle.rt_build.proofs.ImageSizes.{all_code}
 use Rattle.rt_build.proofs.Levels.{is_level, index_is}
-
-next : (n : ℕ) → n + 1 ≡ suc n
-next n = omega arith
 
 module _ {app : App} (accepted : IsAccepted app) where
   -- lines that name only what is declared, put after code
@@ -190,7 +188,7 @@ module _ {app : App} (accepted : IsAccepted app) where
       let put = task_put kind n one.0 one.1 has.after has.entries (omega (arith, has.others.long)) in
       let all = next_task app kind n one.0 first has.after put.after start has.entries put.told one.1 has.adds
       has.others has.stands put.adds put.tells in
-      subst (TasksPut kind first start) (next n)
+      subst (TasksPut kind first start) (add-one n)
       (record {
         after = put.after;
         entries = put.told;
@@ -233,7 +231,7 @@ module _ {app : App} (accepted : IsAccepted app) where
       let put : drop entry after ≡ own = drop_at has.after own entry refl in
       let all = next_level app k p entry first has.after after has.entries more one.1 has.counted has.adds has.stands
       refl adds (dispatcher_put app p entry has.after after refl (take_at has.after own entry refl) put) in
-      subst (LevelsPut first) (next k)
+      subst (LevelsPut first) (add-one k)
       (record {
         after = after;
         entries = more;

@@ -11,7 +11,7 @@ use Rattle.std.proofs.lemmas.List.{length-map}
 use Rattle.std.proofs.lemmas.List.Sums.{position_or_len_is}
 use Rattle.std.proofs.lemmas.Option.{same_Some, slice_get-get_or, slice_get_within, get_or_from_slice_get}
 use Rattle.std.proofs.lemmas.Slice.Eq.{bytes_eq-Decides}
-use Rattle.rt_lemmas.proofs.Bools.{true_and_false, left_of_none, right_of_none}
+use Rattle.rt_lemmas.proofs.Bools.{true_and_false, left_of_none, right_of_none, not_so}
 use Rattle.rt_lemmas.proofs.Lists.{all_map, mapped_at}
 use Rattle.rt_lemmas.proofs.Membership.{all_append, any_contained}
 use Rattle.rt_lemmas.proofs.Indices.{there_is}
@@ -36,10 +36,6 @@ use Rattle.rt_code.proofs.Writable.{plain}
 use Rattle.rt_layout.proofs.Few.{cells_are_few}
 use Rattle.rt_build.specs.Entries.{Entries}
 use Rattle.rt_build.specs.Image.{HasTables}
-
-pub not_so : (b : Bool) → (b ≡ true → ⊥) → b ≡ false
-not_so true never = absurd (never refl)
-not_so false never = refl
 
 -- a cell, before which none has its name, is the first of its name
 first_named : (cells : List CellRow) (i : ℕ) (cell : CellRow) → slice_get cells i ≡ Some cell

@@ -5,6 +5,7 @@ use Rattle.std.specs.List.{AllByRecursion}
 use Rattle.std.proofs.lemmas.List.{length-map}
 use Rattle.std.proofs.lemmas.Option.{slice_get_within}
 use Rattle.std.proofs.Math.Nat.{mul-mod_left}
+use Rattle.rt_ids.specs.Naming.{IsTask}
 use Rattle.rt_lemmas.proofs.Lists.{mapped_at, AreFrom, all_from, first_from, rest_from}
 use Rattle.rt_lemmas.proofs.Membership.{all_at, all_append}
 use Rattle.rt_app.specs.declared.app.IrqDecl.{IrqDecl}
@@ -18,7 +19,7 @@ use Rattle.rt_app.specs.Names.{names_of}
 use Rattle.rt_app.proofs.Members.{made_of}
 use Rattle.rt_app.proofs.Different.{contained}
 use Rattle.rt_code.specs.Runnable.{TakeFewArguments, HaveImplementedValues, HaveNumbersApart}
-use Rattle.rt_code.specs.Listable.{IsPlain, IsTask}
+use Rattle.rt_code.specs.Listable.{IsPlain}
 use Rattle.rt_code.specs.declared.image.BodyRow.{BodyRow}
 use Rattle.rt_code.specs.declared.image.Handler.{Handler}
 use Rattle.rt_code.specs.declared.image.IrqRow.{IrqRow}

@@ -11,6 +11,7 @@ use Rattle.rt_ids.specs.declared.ids.BodyId.{BodyId}
 use Rattle.rt_ids.specs.declared.ids.BodyId.TheVariants as body
 use Rattle.rt_ids.specs.declared.ids.Section.TheVariants as section
 use Rattle.rt_ids.specs.declared.cell.CellRow.{CellRow}
+use Rattle.rt_ids.specs.Naming.{IsTask}
 use Rattle.rt_app.specs.Tree.{Body, Task, App}
 use Rattle.rt_app.specs.Accepted.{IsAccepted}
 use Rattle.rt_app.specs.Acceptance.{IsSound}
@@ -21,7 +22,7 @@ use Rattle.rt_app.specs.Level.{levels}
 use Rattle.rt_app.specs.Names.{names_of}
 use Rattle.rt_code.specs.Image.{Image}
 use Rattle.rt_code.specs.Lines.{HasCell, HasLines}
-use Rattle.rt_code.specs.Listable.{IsWord, IsPlain, AreWritable, IsTask, HasInstr, HasNote, IsListable}
+use Rattle.rt_code.specs.Listable.{IsWord, IsPlain, AreWritable, HasInstr, HasNote, IsListable}
 use Rattle.rt_code.specs.Runnable.{TakeFewArguments, HaveImplementedValues, HaveNumbersApart}
 use Rattle.rt_code.specs.Runnable.{HasRightSizes, IsRunnable}
 use Rattle.rt_code.specs.declared.instr.Note.{Note}

@@ -8,7 +8,7 @@ use Rattle.std.specs.Prelude.{is_none, IsPermutation}
 use Rattle.std.specs.List.{AllByRecursion}
 use Rattle.std.proofs.lemmas.List.Sorted.{sum_by-IsPermutation}
 use Rattle.std.proofs.lemmas.List.Sums.{sum_by-cons}
-use Rattle.rt_lemmas.proofs.Lists.{all_append, all_front, all_behind}
+use Rattle.rt_lemmas.proofs.Lists.{all_append, all_front, all_behind, none_asked}
 use Rattle.rt_ids.specs.declared.ids.BodyId.{BodyId}
 use Rattle.rt_ids.specs.declared.ids.BodyId.TheVariants as body
 use Rattle.rt_app.specs.declared.app.IrqDecl.{IrqDecl}
@@ -30,11 +30,6 @@ use Rattle.rt_build.specs.Image.{HasTables, IsImageOf}
 use Rattle.rt_build.specs.Laws.{IsFixedPart, HasFixedCode, FixedCodeHasOneImage, OneImageIsBuilt}
 use Rattle.rt_build.specs.Order.{Part, OfBody, OfLevel, OfTimer, begin_of, IsIdleFormed, IsFormed, task_parts}
 use Rattle.rt_build.specs.Order.{timer_parts, fixed_parts, free_parts, IsPart, AreAbutting, IsInOrder}
-
--- nothing is asked of each
-none_asked : {A : Type 0} (xs : List A) → AllByRecursion (λ x. Unit {0}) xs
-none_asked [] = tt
-none_asked (x ∷ xs) = (tt, none_asked xs)
 
 -- each of nothing is in its order alone
 none_permuted : {A : Type 0} (xs ys : List A) → IsPermutation xs ys → ys ≡ [] → xs ≡ []

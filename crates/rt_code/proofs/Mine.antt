@@ -2,23 +2,16 @@
 -- section closes.
 use Rattle.std.proofs.Common.{◌≡◌, ℕ, zero, suc, ◌+◌, ◌<◌, ◌≤◌, ◌⊎◌, inl, inr, Bool, true, false, if◌then◌else◌, List}
 use Rattle.std.proofs.Common.{[], ◌∷◌, sum_by, refl, ap, arith}
-use Rattle.std.proofs.lemmas.Bool.{eqb-true, eq-eqb, or_left, or_right, or_cases}
+use Rattle.std.proofs.lemmas.Bool.{eq-eqb, or_left, or_right, or_cases}
 use Rattle.std.proofs.lemmas.List.Sums.{sum_by-cons}
 use Rattle.rt_actions.specs.Entry.{Entry, count}
 use Rattle.rt_actions.specs.Location.{Location, Guarded, Own, is_same_section}
 use Rattle.rt_actions.specs.Storage.{Storage, Runner, Home, At, In, Nowhere}
+use Rattle.rt_actions.proofs.Sections.{one_section}
 use Rattle.rt_ids.specs.declared.ids.Section.{Section}
 use Rattle.rt_ids.specs.declared.ids.Section.TheVariants as section
 use Rattle.rt_code.specs.Acting.{with_queue}
 use Rattle.rt_code.specs.Owning.{OpenSection, Configuration, is_open, mine, owns, reads, MayLoad}
-
--- sections that pass for one are one
-pub one_section : (a b : Section) → is_same_section a b ≡ true → a ≡ b
-one_section (section.Res a) (section.Res b) same = ap (λ n. section.Res n) (eqb-true a b same)
-one_section (section.Free a) (section.Free b) same = ap (λ n. section.Free n) (eqb-true a b same)
-one_section (section.Ready a) (section.Ready b) same = ap (λ n. section.Ready n) (eqb-true a b same)
-one_section section.Timer section.Timer same = refl
-one_section a b same = absurd (cc)
 
 -- the places in the queues of open sections
 abbrev pub queued : (Location → List Entry) → Entry → List OpenSection → ℕ

@@ -1,8 +1,8 @@
 -- Code that stands, step by step; it stands before further code, and with more steps than it needs.
 use Rattle.std.proofs.Common.{◌≡◌, ℕ, zero, suc, ◌-◌, ◌<◌, ◌≤◌, List, [], ◌∷◌, ◌++◌, map, drop, slice_get, Option, Some}
 use Rattle.std.proofs.Common.{None, refl, subst, sym, arith}
-use Rattle.std.proofs.lemmas.Option.{none-some}
 use Rattle.std.specs.List.{AllByRecursion}
+use Rattle.rt_lemmas.proofs.Indices.{get_left}
 use Rattle.rt_actions.specs.Storage.{Storage, Runner}
 use Rattle.rt_code.specs.Owning.{Configuration}
 use Rattle.rt_code.specs.Standing.{Stands, LineFits, spend_step}
@@ -66,13 +66,8 @@ least_serves = record { more = least_more; fewer = least_fewer }
 pub record HasLines (code other : List (Instr × Option Note)) : Type 0 where
   pub at : (k : ℕ) (line : Instr × Option Note) → slice_get code k ≡ Some line → slice_get other k ≡ Some line
 
-front_index : {X : Type 0} (xs ys : List X) (i : ℕ) (x : X) → slice_get xs i ≡ Some x → slice_get (xs ++ ys) i ≡ Some x
-front_index [] ys i x h = absurd (none-some x h)
-front_index (x ∷ xs) ys zero y h = h
-front_index (x ∷ xs) ys (suc i) y h = front_index xs ys i y h
-
 pub has_front : (code more : List (Instr × Option Note)) → HasLines code (code ++ more)
-has_front code more = record { at = λ k line h. front_index code more k line h }
+has_front code more = record { at = λ k line h. get_left code more k line h }
 
 module _ (st : Storage) (bodies : List BodyRow) (thread : ℕ) (who : Runner)
     (code more : List (Instr × Option Note)) where

@@ -1,15 +1,13 @@
 -- Which images have a text that no other image over the same names has: each name that the text needs is in the tables
 -- of names, and no name can be taken for another word or for two.
-use Rattle.std.specs.Prelude.{◌≢◌, ℕ, ◌<◌, List, length, map, codes, Option, Some, None, IsSome, [], ◌∷◌}
+use Rattle.std.specs.Prelude.{◌≢◌, ℕ, ◌<◌, List, length, map, codes, Option, Some, None, [], ◌∷◌}
 use Rattle.std.specs.List.{Contains, AllByRecursion}
 use Rattle.rt_ids.specs.Lists.{AreDifferent}
 use Rattle.rt_ids.specs.Names.{Names, AreNames}
-use Rattle.rt_ids.specs.declared.ids.BodyId.{BodyId}
-use Rattle.rt_ids.specs.declared.ids.BodyId.TheVariants as body
 use Rattle.rt_ids.specs.declared.ids.Section.{Section}
 use Rattle.rt_ids.specs.declared.ids.Section.TheVariants as section
 use Rattle.rt_code.specs.Image.{Image}
-use Rattle.rt_ids.specs.Naming.{irq_named}
+use Rattle.rt_ids.specs.Naming.{IsDeclared, IsTask, IsBody}
 use Rattle.rt_code.specs.declared.instr.Instr.{Instr}
 use Rattle.rt_code.specs.declared.instr.Instr.TheVariants as instr
 use Rattle.rt_code.specs.declared.instr.Note.{Note}
@@ -44,24 +42,11 @@ pub record AreWritable (names : Names) : Type 0 where
 abbrev pub NamesAreWritable : Type 0
 NamesAreWritable = (names : Names) → AreNames names → AreWritable names
 
--- the interrupt of this number has a name
-abbrev pub IsDeclared : Names → ℕ → Type 0
-IsDeclared names irq = IsSome (irq_named names irq)
-
--- the task of this number has a name
-abbrev pub IsTask : Names → ℕ → Type 0
-IsTask names task = task < length names.tasks
-
 -- a section has the name that its word is made of, where it is of a resource or a task
 abbrev pub HasSection : Names → Section → Type 0
 HasSection names (section.Res r) = r < length names.shared
 HasSection names (section.Free t) = IsTask names t
 HasSection names s = Unit {0}
-
--- a body has its name, where it is a task's
-abbrev pub HasBody : Names → BodyId → Type 0
-HasBody names (body.Task t) = IsTask names t
-HasBody names b = Unit {0}
 
 -- the interrupt of an instruction has a name, where it pends one or sets its alarm
 abbrev pub HasInstr : Names → Instr → Type 0
@@ -82,7 +67,7 @@ HasNote names (Some (note.Arm t s)) = IsTask names t
 HasNote names (Some (note.Fire t)) = IsTask names t
 HasNote names (Some (note.Cancel t s)) = IsTask names t
 HasNote names (Some (note.Move t s a)) = IsTask names t
-HasNote names (Some (note.End b)) = HasBody names b
+HasNote names (Some (note.End b)) = IsBody names b
 HasNote names None = Unit {0}
 
 -- an image each of whose names is in the tables, and is one word of its text

@@ -106,7 +106,7 @@ all_step : (software : Bool) (p a b n : ℕ) (ns : List ℕ) → AllByRecursion 
 all_step false p a b n ns all rest = ap (λ k. 0 + k) (rest all)
 all_step true p a b n ns all rest = let e = rest all.1 in let h = all.0 in grind (arith, nat_tests)
 
-numbers_if : (b : Bool) (t : Task) (ts : List Task) → map (λ u. u.priority) (cond b (t ∷ ts) ts)
+pub numbers_if : (b : Bool) (t : Task) (ts : List Task) → map (λ u. u.priority) (cond b (t ∷ ts) ts)
     ≡ cond b (t.priority ∷ map (λ u. u.priority) ts) (map (λ u. u.priority) ts)
 numbers_if true t ts = refl
 numbers_if false t ts = refl

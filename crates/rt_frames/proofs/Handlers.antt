@@ -6,6 +6,7 @@ use Rattle.std.specs.List.{list_any}
 use Rattle.std.proofs.lemmas.List.{map_more, map-append}
 use Rattle.std.proofs.lemmas.List.Folds.{list_any-append}
 use Rattle.std.proofs.Math.Bool.{or-false}
+use Rattle.rt_lemmas.proofs.Numbers.{max_alone}
 use Rattle.rt_app.specs.declared.app.Mono.{Mono}
 use Rattle.rt_app.specs.declared.app.Task as code
 use Rattle.rt_app.specs.Tree.{Task, App}
@@ -98,9 +99,6 @@ tasks_need_is p (t ∷ ts) =
 pub need_is : (app : App) (p : ℕ) → need app p ≡ max (greatest (map (need_at p) app.tasks)) (timer_need app p)
 need_is app p = omega (arith, tasks_need_is p app.tasks)
 
-alone : (m n : ℕ) → max m (max n 0) ≡ max m n
-alone m n = omega arith
-
 pub greatest_more : (of_task : Task → ℕ) (xs : List code.Task) (i : ℕ) (x : code.Task) → i < length xs → x
     ≡ get_or xs i x
     → greatest (map of_task (map task_of (take (i + 1) xs))) ≡ max (greatest (map of_task (map task_of (take i xs))))
@@ -110,7 +108,7 @@ greatest_more of_task xs i x h e =
     ∙ ap greatest (map-append of_task (map task_of (take i xs)) (task_of (get_or xs i x) ∷ []))
     ∙ greatest_append (map of_task (map task_of (take i xs))) (of_task (task_of (get_or xs i x)) ∷ [])
     ∙ ap (λ y. max (greatest (map of_task (map task_of (take i xs)))) (max (of_task (task_of y)) 0)) (sym e)
-    ∙ alone (greatest (map of_task (map task_of (take i xs)))) (of_task (task_of x))
+    ∙ max_alone (greatest (map of_task (map task_of (take i xs)))) (of_task (task_of x))
 
 pub bytes_none : (app : App) → bytes_below app 0 ≡ 0
 unfolding bytes_below

@@ -8,6 +8,7 @@ use Rattle.std.proofs.lemmas.Bool.{cases_order}
 use Rattle.std.proofs.lemmas.Bool.Decides.{nat_tests}
 use Rattle.rt_lemmas.proofs.Lists.{map_alike, AreFrom, all_from, first_from, rest_from}
 use Rattle.rt_lemmas.proofs.Bools.{or_left, or_right, or_cases, and_right, and_both}
+use Rattle.rt_lemmas.proofs.Numbers.{max_alone, max_zero}
 use Rattle.rt_ids.specs.Lists.{greatest, or_zero}
 use Rattle.rt_ids.specs.declared.ids.BodyId.TheVariants as body
 use Rattle.rt_ids.specs.declared.ids.Section.TheVariants as section
@@ -82,25 +83,19 @@ one_at : (p priority outer c k d : ℕ) → d ≡ c → amount p
 one_at p priority outer c k d e = counted_and (can p priority outer) (nat_le p c) k
     ∙ ap (λ x. counted (can p priority outer) (if_reaches p x k)) (sym e)
 
-with_none : (n : ℕ) → max n 0 ≡ n
-with_none n = omega arith
-
 alone_at : (p priority outer c k d : ℕ) → d ≡ c
     → most p (record { priority = priority; outer = outer; ceiling = c; cost = k } ∷ [])
     ≡ counted (can p priority outer) (if_reaches p d k)
 alone_at p priority outer c k d e =
-    with_none (amount p (record { priority = priority; outer = outer; ceiling = c; cost = k }))
+    max_zero (amount p (record { priority = priority; outer = outer; ceiling = c; cost = k }))
     ∙ one_at p priority outer c k d e
-
-alone : (m n : ℕ) → max m (max n 0) ≡ max m n
-alone m n = omega arith
 
 two_at : (p priority outer a i b j c d : ℕ) → c ≡ a → d ≡ b
     → most p (record { priority = priority; outer = outer; ceiling = a; cost = i }
     ∷ record { priority = priority; outer = outer; ceiling = b; cost = j } ∷ [])
     ≡ counted (can p priority outer) (max (if_reaches p c i) (if_reaches p d j))
 two_at p priority outer a i b j c d e f =
-    alone (amount p (record { priority = priority; outer = outer; ceiling = a; cost = i }))
+    max_alone (amount p (record { priority = priority; outer = outer; ceiling = a; cost = i }))
     (amount p (record { priority = priority; outer = outer; ceiling = b; cost = j }))
     ∙ ap (λ x. max x (amount p (record { priority = priority; outer = outer; ceiling = b; cost = j })))
     (one_at p priority outer a i c e) ∙ ap (max (counted (can p priority outer) (if_reaches p c i)))

@@ -21,6 +21,7 @@ use Rattle.rt_app.specs.declared.app.Task as code
 use Rattle.rt_frames.specs.Inside.Flags.{flags_with, HasFlags, delayed_targets, level_numbers, thread_spawns}
 use Rattle.rt_frames.specs.Inside.Flags.{task_spawns}
 use Rattle.rt_frames.proofs.Flagging.{flagged_at, armed_both}
+use Rattle.rt_frames.proofs.Below.{numbers_if}
 
 any_step : (passes : Bool) (n k : ℕ) (ns : List ℕ) (rest : Bool) → list_any (λ m. m == k) ns ≡ rest
     → list_any (λ m. m == k) (cond passes (n ∷ ns) ns) ≡ ((passes && (n == k)) || rest)
@@ -82,16 +83,10 @@ armed_are app f0 f1 f2 f3 none e1 e2 e3 long = record {
       ∙ any_armed n (I ++ (D ++ T)) ∙ sym (any_member (arms n) app);
 }
 
--- of software tasks
-level_if : (b : Bool) (t : Task) (ts : List Task) → map (λ u. u.priority) (cond b (t ∷ ts) ts)
-    ≡ cond b (t.priority ∷ map (λ u. u.priority) ts) (map (λ u. u.priority) ts)
-level_if true t ts = refl
-level_if false t ts = refl
-
 any_level : (k : ℕ) (ts : List Task) → list_any (λ m. m == k) (level_numbers ts) ≡ list_any (is_of_level k) ts
 any_level k [] = refl
 any_level k (t ∷ ts) =
-    ap (list_any (λ m. m == k)) (level_if (is_software t) t (filter is_software ts))
+    ap (list_any (λ m. m == k)) (numbers_if (is_software t) t (filter is_software ts))
     ∙ any_step (is_software t) t.priority k (level_numbers ts) (list_any (is_of_level k) ts) (any_level k ts)
 
 pub levels_are : (ts : List Task) (f0 f1 : List Bool) → HasFlags f0 (λ n. false) → f1 ≡ flags_with (level_numbers ts) f0

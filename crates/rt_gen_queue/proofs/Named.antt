@@ -7,8 +7,8 @@ use Rattle.rt_gen_queue.proofs.Vocabulary.{spawn_code, store_code, subst, sym, t
 use Rattle.rt_gen_queue.proofs.Vocabulary.{then_from, true, ℕ, ◌*◌, ◌++◌, ◌+◌, ◌<◌, ◌∷◌, ◌≡◌}
 use Rattle.rt_ids.specs.declared.ids.Section.TheVariants as section
 use Rattle.rt_ids.specs.declared.op.Op.TheVariants as op
+use Rattle.rt_ids.specs.Naming.{IsTask}
 use Rattle.rt_app.specs.declared.app.Dispatcher.{Dispatcher}
-use Rattle.rt_code.specs.Listable.{IsTask}
 use Rattle.rt_code.specs.declared.instr.Instr.TheVariants as instr
 use Rattle.rt_gen_queue.{proofs.Masks.enter_named, proofs.Masks.leave_named, specs.declared.target.Target.Target}
 use Rattle.rt_gen_queue.proofs.Facts.{Spawned, is_there, known, priority}

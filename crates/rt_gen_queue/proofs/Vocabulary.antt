@@ -81,9 +81,9 @@ pub use Rattle.rt_app.proofs.{Representing.the_task}
 pub use Rattle.rt_app.proofs.Counting.{all_counted, count_more, counted, one, one_itself, same_entry}
 pub use Rattle.rt_app.proofs.LaidQueues.{capacity_is, free_is_home, input_is_home, many, ready_is_home}
 -- code, and that it stands
+pub use Rattle.rt_ids.specs.Naming.{IsDeclared}
 pub use Rattle.rt_code.specs.{
   Acting.with_queue,
-  Listable.IsDeclared,
   Processor.Leads,
   Stack.body_frame,
   Stack.caller_frame,
@@ -95,7 +95,8 @@ pub use Rattle.rt_code.specs.Owning.{Agree, OpenSection, Kind, LeavesMine, Marke
 pub use Rattle.rt_code.specs.Owning.{Raised, Configuration, is_open, mine, owns, reads, saved_slot, saved_slots}
 pub use Rattle.rt_code.specs.Standing.{Asks, Goes, KeepsSaved, LineFits, Stands, StandsFrom, spend_step}
 pub use Rattle.rt_code.specs.Standing.{processor_of}
-pub use Rattle.rt_code.proofs.Mine.{may_load, one_section, owns_open, owns_reads, queued, queued_more, queues_same}
+pub use Rattle.rt_actions.proofs.Sections.{one_section}
+pub use Rattle.rt_code.proofs.Mine.{may_load, owns_open, owns_reads, queued, queued_more, queues_same}
 pub use Rattle.rt_code.proofs.Mine.{reads_more, same_section}
 pub use Rattle.rt_code.proofs.Standing.{stands_with_more}
 -- lines, guards, queues and spawns, as code has them

@@ -10,8 +10,8 @@ use Rattle.rt_gen_queue.proofs.Vocabulary.{option_map, or_zero, plain, refl, res
 use Rattle.rt_gen_queue.proofs.Vocabulary.{task_priority, then_from, timer_at, true, ℕ, ◌&&◌, ◌*◌, ◌++◌, ◌+◌, ◌^◌, ◌∙◌}
 use Rattle.rt_gen_queue.proofs.Vocabulary.{◌∷◌, ◌≡◌, ◌≤◌}
 use Rattle.rt_ids.specs.declared.ids.Section.TheVariants as section
+use Rattle.rt_ids.specs.Naming.{IsTask}
 use Rattle.rt_app.specs.{Accepted.IsMonoPlaced, BodyCost.timer_size, Layout.timer_queue_at}
-use Rattle.rt_code.specs.Listable.{IsTask}
 use Rattle.rt_code.specs.declared.instr.Instr.TheVariants as instr
 use Rattle.rt_gen_queue.proofs.{Facts.Spawned, Facts.arguments, Facts.few_arguments, Masks.enter_named}
 use Rattle.rt_gen_queue.proofs.{Masks.leave_named, Nameable.AreClaimed, Nameable.claimed_both, Nameable.irq_declared}

@@ -1,17 +1,15 @@
 -- The line of a device that gives words requests a declared interrupt, and its device is one that there is.
-use Rattle.std.proofs.Common.{◌≡◌, ◌==◌, ℕ, List, [], ◌∷◌, find, bytes_eq, Option, Some, None}
-use Rattle.std.proofs.Common.{Result, Ok, Err, IfOk, IsSome, nat_lt, option_map, refl, ap}
-use Rattle.std.specs.List.{AllByRecursion}
+use Rattle.std.proofs.Common.{◌≡◌, ℕ, List, [], ◌∷◌, find, bytes_eq, Option, Some, None}
+use Rattle.std.proofs.Common.{Result, Ok, Err, IfOk, IsSome, nat_lt, option_map, refl}
 use Rattle.std.specs.Option.{ok_or}
-use Rattle.std.specs.Prelude.{is_some}
-use Rattle.std.proofs.lemmas.Bool.{cond_both, eq-eqb, ltb-true}
-use Rattle.rt_lemmas.proofs.Lists.{find_has, found}
-use Rattle.rt_lemmas.proofs.Membership.{all_from_members, contains_at}
+use Rattle.std.proofs.lemmas.Bool.{cond_both, ltb-true}
+use Rattle.rt_lemmas.proofs.Lists.{find_has}
 use Rattle.rt_ids.specs.Names.{Names}
 use Rattle.rt_ids.specs.Naming.{irq_named}
 use Rattle.rt_ids.specs.declared.limits.TheConstants.{DEVICES}
 use Rattle.rt_lines.specs.Numbers.{short_number}
 use Rattle.rt_lines.proofs.Decoded.{if_ok_chosen, if_ok_then, if_ok_make, if_ok_then_any}
+use Rattle.rt_lines.proofs.Found.{irqs_declared}
 use Rattle.rt_script.specs.Script.{HasName, HasDeviceInRange}
 use Rattle.rt_script.specs.Wording.{count_or_one, irq_at, pends_of, in_range, device_of}
 use Rattle.rt_script.specs.declared.line.Line.{Line}
@@ -24,18 +22,11 @@ module _ (names : Names) where
   abbrev IsDeclared : ℕ → Type 0
   IsDeclared irq = IsSome (irq_named names irq)
 
-  -- a declared interrupt is found by its number
-  all_declared : AllByRecursion (λ irq. IsDeclared irq.1) names.irqs
-  all_declared =
-      all_from_members (λ irq. IsDeclared irq.1) names.irqs
-      (λ irq there. let at = contains_at names.irqs irq there in
-      ap is_some (found (λ other. other.1 == irq.1) names.irqs at.0 irq at.1 (eq-eqb irq.1 irq.1 refl)).1)
-
   by_name : (word : List ℕ) (o : Option (List ℕ × ℕ)) → find (λ irq. bytes_eq word irq.0) names.irqs ≡ o
       → IfOk (ok_or (option_map (λ irq. irq.1) o) wrong.Interrupt) IsDeclared
   by_name word None is = tt
   by_name word (Some irq) is =
-      find_has (λ irq. IsDeclared irq.1) (λ irq. bytes_eq word irq.0) names.irqs irq all_declared is
+      find_has (λ irq. IsDeclared irq.1) (λ irq. bytes_eq word irq.0) names.irqs irq (irqs_declared names) is
 
   irq_declared : (word : List ℕ) → IfOk (irq_at names word) IsDeclared
   irq_declared word =

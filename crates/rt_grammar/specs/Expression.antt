@@ -2,7 +2,7 @@
 --   Expr = Or [ ("==" | "!=" | "<" | "<=" | ">" | ">=") Or ]     Or = Xor { "|" Xor }     Xor = And { "^" And }
 --   And = Shift { "&" Shift }     Shift = Add { ("<<" | ">>") Add }     Add = Mul { ("+" | "-") Mul }
 --   Mul = Atom { ("*" | "/" | "%") Atom }     Atom = Num | Name | "(" Expr ")"
-use Rattle.std.specs.Prelude.{◌≡◌, ℕ, zero, suc, ◌+◌, max, Bool, true, false, nat_lt, nat_le, if◌then◌else◌}
+use Rattle.std.specs.Prelude.{◌≡◌, ℕ, zero, suc, Bool, true, false, nat_lt, nat_le, if◌then◌else◌}
 use Rattle.std.specs.Prelude.{codes, List, [], ◌∷◌, Option, Some, None}
 use Rattle.rt_ids.specs.declared.op.Op.{Op}
 use Rattle.rt_ids.specs.declared.op.Op.TheVariants as op
@@ -10,6 +10,7 @@ use Rattle.rt_ids.specs.declared.limit.Limit.TheVariants as limit
 use Rattle.rt_ids.specs.declared.limits.TheConstants.{PARENTHESES, DEPTH}
 use Rattle.rt_lex.specs.Token.{Token, is_this_sign}
 use Rattle.rt_ast.specs.Tree.{Expression, Num, Read, Oper}
+use Rattle.rt_ast.specs.PrintableBody.{depth_of}
 use Rattle.rt_grammar.specs.Mark.{Ends}
 use Rattle.rt_grammar.specs.Language.{Language, gives, ◌>>=◌, ◌>>◌, ◌or◌, token, repeat}
 use Rattle.rt_grammar.specs.Tokens.{free, limit_if, name, number, sign, limited_sign}
@@ -85,16 +86,10 @@ atom (suc most) opened = plain_atom or (do
   sign (codes ")")
   gives (record { at = at; tree = inner.tree }))
 
--- an atom is 1 deep
-abbrev pub depth : Expression → ℕ
-depth (Num n) = 1
-depth (Read x) = 1
-depth (Oper o left right) = 1 + max (depth left) (depth right)
-
 -- the end of an expression that is part of no other
 abbrev pub ends : Operand × Bool → Language Expression
 ends e marks tree =
-    (marks ≡ Ends e.1 (if nat_lt DEPTH (depth e.0.tree) then Some e.0.at else None) ∷ []) × (tree ≡ e.0.tree)
+    (marks ≡ Ends e.1 (if nat_lt DEPTH (depth_of e.0.tree) then Some e.0.at else None) ∷ []) × (tree ≡ e.0.tree)
 
 -- an expression that is part of no other, with at most so many parentheses inside each other
 abbrev pub expression : ℕ → Language Expression

@@ -5,3 +5,4 @@ pub mod Best
 pub mod Lists
 pub mod Declared
 pub mod Greatest
+pub mod Numbers

@@ -1,7 +1,7 @@
 -- On lists: what stands at an index, and what is found.
 use Rattle.std.proofs.Common.{◌≡◌, ℕ, zero, suc, ◌+◌, ◌<◌, ◌⊎◌, inl, inr, Bool, true, false, cond, not, nat_lt, ◌||◌}
 use Rattle.std.proofs.Common.{List, [], ◌∷◌, ◌++◌, length, map, take, find, position, slice_get, Option, None, Some}
-use Rattle.std.proofs.Common.{is_some, refl, sym, ap, ◌∙◌, arith}
+use Rattle.std.proofs.Common.{is_some, if◌then◌else◌, refl, sym, ap, ◌∙◌, arith}
 use Rattle.std.specs.List.{AllByRecursion, list_any, prefix_len, position_from, position_or_len}
 use Rattle.std.specs.Option.{option_map, option_and_then}
 use Rattle.std.proofs.lemmas.Bool.{false≢true}
@@ -10,6 +10,7 @@ use Rattle.std.proofs.lemmas.List.{length-map, take_more}
 use Rattle.std.proofs.lemmas.Option.{same_Some, none-some, slice_get_within, slice_get_past, get_or_from_slice_get}
 use Rattle.std.proofs.lemmas.List.Folds.{find_at}
 use borrow.Author.Tests.{ltb-false}
+use Rattle.rt_ids.specs.Lists.{is_some_and, those_below}
 
 pub prefix_len-map : {A B : Type 0} (f : A → B) (p : B → Bool) (xs : List A) → prefix_len p (map f xs)
     ≡ prefix_len (λ x. p (f x)) xs
@@ -120,3 +121,15 @@ find_by_position test xs = find_at test xs ∙ by (position_or_len test xs) (nat
         ≡ option_and_then (slice_get xs) (cond b (Some k) None)
     by k true within = refl
     by k false past = slice_get_past xs k (ltb-false k (length xs) past)
+
+-- what passes a test is there
+pub some_passing : {X : Type 0} (test : X → Bool) (o : Option X) → is_some_and test o ≡ true
+    → (x : X) × (o ≡ Some x) × (test x ≡ true)
+some_passing test None passes = absurd cc
+some_passing test (Some x) passes = (x, refl, passes)
+
+-- those below the next number are those below this one, and this one where it passes
+pub those_next : (test : ℕ → Bool) (n : ℕ) → those_below test (suc n) ≡ those_below test n
+    ++ (if test n then n ∷ [] else [])
+unfolding those_below
+those_next test n = refl

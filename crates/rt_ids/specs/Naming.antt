@@ -2,7 +2,7 @@
 -- names that the application declares; queues by the kind of the queue, a dot, and the name of their task or the number
 -- of their level.
 use Rattle.std.specs.Prelude.{ℕ, ◌==◌, List, [], ◌++◌, codes, decimal, find, option_map, unwrap_or, slice_index_or}
-use Rattle.std.specs.Prelude.{Option}
+use Rattle.std.specs.Prelude.{Option, IsSome, ◌<◌, length}
 use Rattle.rt_ids.specs.Names.{Names}
 use Rattle.rt_ids.specs.declared.ids.BodyId.{BodyId}
 use Rattle.rt_ids.specs.declared.ids.BodyId.TheVariants as body
@@ -37,3 +37,16 @@ section_name names (section.Res r) = resource_name names r
 section_name names (section.Free t) = codes "free." ++ task_name names t
 section_name names (section.Ready p) = codes "ready." ++ decimal p
 section_name names section.Timer = codes "timer.0"
+
+-- an interrupt of this number is declared
+abbrev pub IsDeclared : Names → ℕ → Type 0
+IsDeclared names irq = IsSome (irq_named names irq)
+
+-- there is this task
+abbrev pub IsTask : Names → ℕ → Type 0
+IsTask names task = task < length names.tasks
+
+-- there is this body
+abbrev pub IsBody : Names → BodyId → Type 0
+IsBody names (body.Task t) = IsTask names t
+IsBody names other = Unit {0}

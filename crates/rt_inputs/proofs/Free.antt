@@ -29,12 +29,13 @@ use Rattle.rt_sim.specs.Beside.{core_beside, labels_beside, shown_beside, WordsA
 use Rattle.rt_sim.specs.Good.{AreDeclared, is_tick_event, is_arming}
 use Rattle.rt_sim.proofs.Armed.{front_fits}
 use Rattle.rt_sim.proofs.Good.{images_are_good_beside}
+use Rattle.rt_sim.proofs.Reached.{declared_append}
 use Rattle.rt_board.specs.Board.{Board, IsInput, AreInputs}
 use Rattle.rt_board.specs.declared.board.Input.{Input}
 use Rattle.rt_inputs.specs.Inputs.{Happening, Comes, Gives, Registers, no_words, with_word, events_of, AreWords, taken}
 use Rattle.rt_inputs.specs.Inputs.{irq_of, put_for, puts_for, puts_before, moves_from, moves_of}
 use Rattle.rt_inputs.specs.Laws.{GivenWordsAreFree, RunsWithInputsAreGood}
-use Rattle.rt_inputs.proofs.Joined.{things_append, declared_append, take_arms_none, core_append, labels_append}
+use Rattle.rt_inputs.proofs.Joined.{things_append, take_arms_none, core_append, labels_append}
 use Rattle.rt_inputs.proofs.Joined.{state_behind, same_jobs, free_event, free_word}
 use Rattle.rt_inputs.proofs.Moved.{puts_things, events_come}
 use Rattle.rt_inputs.proofs.Unused.{inputs_are_unused}

@@ -19,6 +19,7 @@ use Rattle.rt_laws.specs.DeviceWords.{ones, things}
 use Rattle.rt_laws.proofs.Beside.{things_ones}
 use Rattle.rt_run.specs.Inside.Writing.{Wrote}
 use Rattle.rt_run.proofs.Taking.{wrote_none}
+use Rattle.rt_run.proofs.Reached.{steps_are}
 use Rattle.rt_sim.specs.Beside.{core_beside, labels_beside}
 use Rattle.rt_sim.proofs.Wordless.{labels_ones, core_ones}
 use Rattle.rt_board.specs.Board.{Board}
@@ -33,10 +34,6 @@ use Rattle.rt_inputs.proofs.Reached.{silent_moves, one_core, one_lines, one_step
 
 abbrev numbered : ℕ → What → Item
 numbered n w = record { step = n; what = w }
-
-steps_are : (n : ℕ) → steps (replicate n Step) ≡ n
-steps_are zero = refl
-steps_are (suc n) = ap suc (steps_are n)
 
 same_registers : (n : ℕ) (registers : Registers) → registers_after registers (replicate n (Comes Step)) ≡ registers
 same_registers zero registers = refl

@@ -2,7 +2,7 @@
 use Rattle.std.proofs.Common.{◌≡◌, ◌⊎◌, ◌<◌, ◌^◌, inl, inr, ℕ, suc, cond, List, [], ◌∷◌, ◌++◌, count_by, length}
 use Rattle.std.proofs.Common.{Some, None, refl, sym, ap, subst, ◌∙◌, append_assoc, arith}
 use Rattle.std.proofs.lemmas.List.Sums.{sum_by-cons}
-use Rattle.rt_ids.specs.Event.{Event, Arrive, Tick, Step}
+use Rattle.rt_ids.specs.Event.{Event}
 use Rattle.rt_trace.specs.Label.{Label, Arrived, Ticked, Rang, Stepped, items_of}
 use Rattle.rt_trace.specs.declared.item.Item.{Item}
 use Rattle.rt_trace.specs.declared.item.What.TheVariants as what
@@ -14,19 +14,12 @@ use Rattle.rt_laws.specs.DeviceWords.{WithWords, One, Puts, ones, things, IsUnus
 use Rattle.rt_laws.specs.State.{State, first}
 use Rattle.rt_laws.proofs.Beside.{moves_append}
 use Rattle.rt_sim.specs.Beside.{core_after_put, core_beside, labels_beside, shown_beside, WordsAreFree}
-use Rattle.rt_sim.specs.Good.{AreDeclared, is_arming}
+use Rattle.rt_sim.specs.Good.{is_arming}
 
 pub things_append : {A : Type 0} (xs ys : List (WithWords A)) → things (xs ++ ys) ≡ things xs ++ things ys
 things_append [] ys = refl
 things_append (One x ∷ xs) ys = ap (λ zs. x ∷ zs) (things_append xs ys)
 things_append (Puts n word ∷ xs) ys = things_append xs ys
-
-pub declared_append : (app : App) (xs ys : List Event) → AreDeclared app xs → AreDeclared app ys
-    → AreDeclared app (xs ++ ys)
-declared_append app [] ys front back = back
-declared_append app (Arrive irq ∷ xs) ys front back = (front.0, declared_append app xs ys front.1 back)
-declared_append app (Tick ∷ xs) ys front back = declared_append app xs ys front back
-declared_append app (Step ∷ xs) ys front back = declared_append app xs ys front back
 
 -- a take behind labels shows no arming
 pub take_arms_none : (ls : List Label) (n irq depth : ℕ)

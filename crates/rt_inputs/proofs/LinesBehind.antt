@@ -2,25 +2,11 @@
 use Rattle.std.proofs.Common.{◌≡◌, ℕ, ◌+◌, List, [], ◌∷◌, ◌++◌, map, refl, sym, ap, ◌∙◌, append_assoc}
 use Rattle.std.proofs.Common.{append-nil, arith}
 use Rattle.std.proofs.lemmas.List.{map-append}
-use Rattle.rt_trace.specs.Label.{Label, Arrived, Ticked, Rang, Stepped, items_of, steps_of}
+use Rattle.rt_trace.specs.Label.{Label, items_of, steps_of}
+use Rattle.rt_trace.proofs.LabelsShown.{steps_cons}
 use Rattle.rt_laws.specs.DeviceWords.{WithWords, One, Puts, ones, things}
 use Rattle.rt_run.proofs.Advancing.{items-append}
 use Rattle.rt_inputs.specs.Shown.{ShownLine, Shows, Input, lines_from}
-
--- the steps of a label, and of those behind it
-pub steps_cons : (l : Label) (ls : List Label) → steps_of (l ∷ ls) ≡ steps_of (l ∷ []) + steps_of ls
-steps_cons (Arrived irq) ls = omega arith
-steps_cons Ticked ls = omega arith
-steps_cons Rang ls = omega arith
-steps_cons (Stepped w) ls = omega arith
-
-pub steps_join : (ls ms : List Label) → steps_of (ls ++ ms) ≡ steps_of ls + steps_of ms
-steps_join [] ms = omega arith
-steps_join (l ∷ ls) ms =
-    let front = steps_cons l ls in
-    let whole = steps_cons l (ls ++ ms) in
-    let rest = steps_join ls ms in
-    omega (arith, front, whole, rest)
 
 -- behind a label no word is left to be shown
 pub lines_behind : (front : List (WithWords Label)) (l : Label) (more : List (WithWords Label)) (n : ℕ)

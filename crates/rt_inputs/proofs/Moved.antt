@@ -12,6 +12,7 @@ use Rattle.rt_core.specs.Trace.{ring, happen, labels}
 use Rattle.rt_core.specs.Transfer.{core_after_pend}
 use Rattle.rt_core.specs.declared.alarm.Alarm.{Alarm}
 use Rattle.rt_trace.specs.Label.{Label, Arrived, Ticked, Rang, Stepped, steps_of}
+use Rattle.rt_trace.proofs.LabelsShown.{steps_join}
 use Rattle.rt_laws.specs.DeviceWords.{WithWords, One, Puts, ones, things}
 use Rattle.rt_laws.proofs.Beside.{things_behind, ones_append}
 use Rattle.rt_run.proofs.Advancing.{steps-append}
@@ -24,7 +25,7 @@ use Rattle.rt_inputs.specs.Inputs.{puts_for, puts_before, moves_from}
 use Rattle.rt_inputs.specs.Shown.{lines_from}
 use Rattle.rt_inputs.specs.Going.{registers_after}
 use Rattle.rt_inputs.proofs.Joined.{things_append, core_append, labels_append}
-use Rattle.rt_inputs.proofs.LinesBehind.{steps_join, lines_behind}
+use Rattle.rt_inputs.proofs.LinesBehind.{lines_behind}
 
 -- what devices put is no event
 module _ (app : App) (img : Image) (board : Board) (registers : Registers) where

@@ -26,6 +26,7 @@ use Rattle.rt_run.proofs.Weighing.{weight, labels_weigh}
 use Rattle.rt_sim.specs.Beside.{core_after_put, core_beside, labels_beside, shown_beside, CountsFitBeside}
 use Rattle.rt_sim.specs.Good.{AreDeclared, is_tick_event, is_arming}
 use Rattle.rt_sim.proofs.Wordless.{labels_ones}
+use Rattle.rt_sim.proofs.Reached.{declared_append}
 use Rattle.rt_board.specs.Board.{Board, no_board}
 use Rattle.rt_given.specs.Given.{asked, GiveInputs}
 use Rattle.rt_given.specs.Words.{given_words}
@@ -39,7 +40,6 @@ use Rattle.rt_inputs.specs.Script.{happenings, moves_under}
 use Rattle.rt_inputs.specs.Shown.{lines_from, line_text}
 use Rattle.rt_inputs.specs.Runs.{RunsWithInputsAreShown, RunsWithoutInputsAreRuns}
 use Rattle.rt_inputs.proofs.Free.{runs_with_inputs_are_good}
-use Rattle.rt_inputs.proofs.Joined.{declared_append}
 use Rattle.rt_inputs.proofs.LinesBehind.{lines_of_ones}
 use Rattle.rt_inputs.proofs.Moved.{happened_more, events_come}
 use Rattle.rt_inputs.proofs.Plain.{text_of_items}

@@ -8,6 +8,7 @@ use Rattle.std.proofs.lemmas.List.Sums.{sum_by-cons}
 use Rattle.std.proofs.lemmas.Option.{slice_get_within}
 use Rattle.rt_lemmas.proofs.Indices.{there_is}
 use Rattle.rt_lemmas.proofs.Membership.{all_at, all_weaker}
+use Rattle.rt_lemmas.proofs.Lists.{flat_map_next}
 use Rattle.rt_ids.specs.Event.{Event, Arrive, Tick, Step, steps}
 use Rattle.rt_ids.specs.Lists.{is_empty}
 use Rattle.rt_ids.specs.Names.{Names}
@@ -50,7 +51,7 @@ use Rattle.rt_inputs.proofs.Advancing.{goes_on, cut_behind, cut_before, text_spl
 use Rattle.rt_inputs.proofs.Known.{steps_led, time_led}
 use Rattle.rt_inputs.proofs.Moved.{happened_more, events_come}
 use Rattle.rt_inputs.proofs.Requests.{requests_many}
-use Rattle.rt_inputs.proofs.Words.{flat_more, flat_rest, front_all, behind_all}
+use Rattle.rt_inputs.proofs.Words.{flat_rest, front_all, behind_all}
 
 same_events : (n : ℕ) (e : Event) → length (events_of (replicate n (Comes e))) ≡ n
 same_events zero e = refl
@@ -91,7 +92,7 @@ happened_length (line ∷ script) =
 module _ (script : List GivenLine) (i : ℕ) (line : GivenLine) (below : i < length script)
     (is : line ≡ get_or script i line) where
   pub happenings_more : happenings (take (i + 1) script) ≡ happenings (take i script) ++ line_happenings line
-  happenings_more = flat_more line_happenings script i line below is
+  happenings_more = flat_map_next line_happenings script i line below is
 
   -- so many events have come before the line, and the line is so many
   pub room : IsScript (asked script)
@@ -113,7 +114,7 @@ module _ (script : List GivenLine) (i : ℕ) (line : GivenLine) (below : i < len
   pub one_named : (names : Names) → HasNames names (asked script) → HasNames names (asked_line line)
   one_named names declared =
       let front = flat_rest asked_line script (i + 1) in
-      let one = flat_more asked_line script i line below is in
+      let one = flat_map_next asked_line script i line below is in
       behind_all (HasName names) (asked (take i script)) (asked_line line)
       (subst (AllByRecursion (HasName names)) one
       (front_all (HasName names) (asked (take (i + 1) script)) (asked (drop (i + 1) script))

@@ -3,7 +3,8 @@ use Rattle.std.proofs.Common.{◌≡◌, ℕ, ◌+◌, ◌<◌, ◌==◌, Bool, 
 use Rattle.std.proofs.Common.{take, drop, get_or, length, Option, Some, refl, ap, sym, ◌∙◌, append-nil, length-set}
 use Rattle.std.specs.List.{AllByRecursion}
 use Rattle.std.proofs.lemmas.Grind.{flat_map-append}
-use Rattle.std.proofs.lemmas.List.{take_more, take-append-drop}
+use Rattle.std.proofs.lemmas.List.{take-append-drop}
+use Rattle.rt_lemmas.proofs.Lists.{flat_map_next}
 use Rattle.rt_ids.specs.Event.{Event}
 use Rattle.rt_ids.specs.Lists.{is_some_and}
 use Rattle.rt_app.specs.Tree.{App}
@@ -19,14 +20,6 @@ use Rattle.rt_inputs.specs.Shown as shown
 use Rattle.rt_inputs.specs.Shown.{line_text}
 use Rattle.rt_inputs.specs.Inside.Placed.{text_for, lines_of_words}
 use Rattle.rt_inputs.proofs.Joined.{core_append}
-
--- one more of a list, by a function to lists
-pub flat_more : {A B : Type 0} (f : A → List B) (xs : List A) (i : ℕ) (x : A) → i < length xs → x ≡ get_or xs i x
-    → flat_map f (take (i + 1) xs) ≡ flat_map f (take i xs) ++ f x
-flat_more f xs i x within is =
-    ap (flat_map f) (take_more xs i x within)
-    ∙ flat_map-append f (take i xs) (get_or xs i x ∷ [])
-    ∙ ap (λ t. flat_map f (take i xs) ++ t) (append-nil (f (get_or xs i x)) ∙ ap f (sym is))
 
 -- and those behind it
 pub flat_rest : {A B : Type 0} (f : A → List B) (xs : List A) (i : ℕ)
@@ -57,7 +50,7 @@ module _ (app : App) (img : Image) where
       → core_beside app img c (flat_map f (take (i + 1) inputs))
       ≡ core_beside app img (core_beside app img c (flat_map f (take i inputs))) (f input)
   put_more f inputs i input c within is =
-      ap (core_beside app img c) (flat_more f inputs i input within is)
+      ap (core_beside app img c) (flat_map_next f inputs i input within is)
       ∙ core_append app img (flat_map f (take i inputs)) (f input) c
 
 -- lines of words, some behind others

@@ -1,8 +1,8 @@
 // One event of a run with inputs, with its line.
 ghost use Rattle.std.specs.Prelude.{◌≡◌, ◌<◌, ◌+◌, ◌-◌, ◌^◌, [], ◌∷◌, replicate, IfOk, OnOk, OnErr};
 ghost use Rattle.rt_ids.specs.Event.{Arrive, Tick, Step};
+ghost use Rattle.rt_ids.specs.Naming.{IsDeclared};
 ghost use Rattle.rt_outside.specs.Faults.{HasCause};
-ghost use Rattle.rt_lines.specs.Operand.{IsDeclared};
 ghost use Rattle.rt_app.specs.View.{app_of};
 ghost use Rattle.rt_run.specs.Writable.{IsWritable};
 ghost use Rattle.rt_run.specs.Inside.Writing as writing;

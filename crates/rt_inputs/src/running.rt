@@ -2,9 +2,9 @@
 // its task.
 ghost use Rattle.std.specs.Prelude.{◌≡◌, ◌<◌, ◌≤◌, ◌+◌, ◌^◌, ◌++◌, length, replicate, OnOk, OnErr};
 ghost use Rattle.rt_ids.specs.Event.{Arrive, Tick, Step};
+ghost use Rattle.rt_ids.specs.Naming.{IsDeclared};
 ghost use Rattle.rt_outside.specs.Faults.{HasCause};
 ghost use Rattle.rt_outside.specs.Bytes.{Took, TookPrefix};
-ghost use Rattle.rt_lines.specs.Operand.{IsDeclared};
 ghost use Rattle.rt_app.specs.Accepted.{IsAccepted};
 ghost use Rattle.rt_app.specs.View.{app_of};
 ghost use Rattle.rt_build.specs.Image.{IsImageOf};

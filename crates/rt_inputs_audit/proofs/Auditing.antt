@@ -2,6 +2,7 @@
 use Rattle.std.proofs.Common.{◌≡◌, ℕ, suc, ◌+◌, ◌≤◌, List, [], ◌∷◌, ◌++◌, length, Option, Some, None, Result, Ok, Err}
 use Rattle.std.proofs.Common.{sym, ap, subst, ◌∙◌, arith, append_assoc, append-nil, length-append, option_map}
 use Rattle.std.proofs.Common.{option_to_list}
+use Rattle.std.proofs.lemmas.Option.{same_Some}
 use Rattle.rt_ids.specs.Names.{Names}
 use Rattle.rt_ids.specs.declared.limits.TheConstants.{TRACE_BYTES}
 use Rattle.rt_lines.specs.Answers.{and_make}
@@ -87,9 +88,6 @@ module _ (app : App) (b : Board) (names : Names) where
   stands_on ls line reader judge None refusal some h = absurd cc
   stands_on ls line reader judge (Some kept) refusal some h = refuses_on ls line kept h
 
-some_app : (a b : App) → Some a ≡ Some b → a ≡ b
-some_app a b e = cc
-
 some_board : (a b : Board) → Some a ≡ Some b → a ≡ b
 some_board a b e = cc
 
@@ -102,7 +100,7 @@ module _ {chosen : Option App} {on : Option Board} {names : Names} {machine : Ma
   own = app_of machine.code.now.app.now
 
   same_app : own ≡ app
-  same_app = some_app own app (sym h.chose ∙ is)
+  same_app = same_Some own app (sym h.chose ∙ is)
 
   same_board : board ≡ b
   same_board = some_board board b (sym h.stood ∙ stood)

@@ -4,11 +4,12 @@ use Rattle.std.proofs.Common.{Some, refl, sym, ap, subst, ◌∙◌, if◌then�
 use Rattle.std.proofs.lemmas.Option.{same_Some, none-some}
 use Rattle.rt_lemmas.proofs.Bools.{both_of_none, or_left, or_right, or_neither, true_and_false}
 use Rattle.rt_actions.specs.Location.{is_same_section}
+use Rattle.rt_actions.proofs.Sections.{one_section}
 use Rattle.rt_ids.specs.declared.ids.Section.{Section}
 use Rattle.rt_judge.specs.Inside.Entering.{has_row, AreApart, with_entering, row_with_entering}
 use Rattle.rt_judge.specs.Inside.Entering.{rows_with_entering}
 use Rattle.rt_judge.specs.declared.entering.Entering.{Entering}
-use Rattle.rt_code.proofs.Mine.{one_section, same_section}
+use Rattle.rt_code.proofs.Mine.{same_section}
 
 apart_same : (x y : Section) → is_same_section x y ≡ false → is_same_section y x ≡ false
 apart_same x y apart = elim (is_same_section y x) as (λ b. is_same_section y x ≡ b → b ≡ false) [

@@ -10,6 +10,7 @@ use Rattle.rt_lemmas.proofs.Bools.{or_left, both_of_none, not_true}
 use Rattle.rt_lemmas.proofs.Membership.{all_append, any_left, any_right}
 use Rattle.rt_ids.specs.Choice.{IsIn}
 use Rattle.rt_actions.specs.Location.{is_same_section}
+use Rattle.rt_actions.proofs.Sections.{one_section}
 use Rattle.rt_ids.specs.declared.ids.Section.{Section}
 use Rattle.rt_code.specs.Image.{Image}
 use Rattle.rt_code.specs.declared.instr.Instr.{Instr}
@@ -28,7 +29,7 @@ use Rattle.rt_judge.specs.declared.entering.Sections.{Sections}
 use Rattle.rt_judge.proofs.EnteringRows.{added_here, added_apart, any_added, apart_with}
 use Rattle.rt_judge.proofs.Lines.{instr_in, section_in, told_line, note_in, line_of}
 use Rattle.rt_judge.proofs.Seen.{tells_more, any_inside, inside_any, all_front}
-use Rattle.rt_code.proofs.Mine.{one_section, same_section}
+use Rattle.rt_code.proofs.Mine.{same_section}
 
 is_not : (b : Bool) → ¬ (b ≡ true) → not b ≡ true
 is_not true h = absurd (h refl)

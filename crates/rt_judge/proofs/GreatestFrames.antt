@@ -1,8 +1,9 @@
 -- The greatest frame of a priority value, row after row.
-use Rattle.std.proofs.Common.{◌≡◌, ◌+◌, ◌*◌, ◌==◌, true, false, ℕ, max, List, [], ◌∷◌, map, filter, Option, Some}
+use Rattle.std.proofs.Common.{◌≡◌, ◌+◌, ◌*◌, ◌==◌, true, false, ℕ, List, [], ◌∷◌, map, filter, Option, Some}
 use Rattle.std.proofs.Common.{None}
 use Rattle.std.proofs.Common.{suc, cond, if◌then◌else◌, refl, sym, ap, ◌∙◌, arith}
 use Rattle.std.specs.List.{cons_option}
+use Rattle.rt_lemmas.proofs.Numbers.{max_zero}
 use Rattle.rt_ids.specs.Lists.{greatest}
 use Rattle.rt_code.specs.declared.image.Handler.{Handler}
 use Rattle.rt_code.specs.declared.image.IrqRow.{IrqRow}
@@ -16,9 +17,6 @@ frames value irqs = map (λ (h : Handler). h.frame) (filter (λ (h : Handler). h
 abbrev pub greatest_or_none : List ℕ → Option ℕ
 greatest_or_none [] = None
 greatest_or_none (f ∷ fs) = Some (greatest (f ∷ fs))
-
-max_zero : (f : ℕ) → max f 0 ≡ f
-max_zero f = omega arith
 
 more_frames : (f : ℕ) (fs : List ℕ) → greater (Some f) (greatest_or_none fs) ≡ greatest_or_none (f ∷ fs)
 more_frames f [] = ap Some (sym (max_zero f))

@@ -5,6 +5,7 @@ use Rattle.std.proofs.Common.{None, option_map, refl, sym, ap, subst, ◌∙◌,
 use Rattle.std.proofs.lemmas.Bool.{cases_lt}
 use Rattle.std.proofs.lemmas.List.{length-map}
 use Rattle.std.proofs.lemmas.Option.{slice_get_past}
+use Rattle.rt_lemmas.proofs.Lists.{none_by_length}
 use Rattle.rt_code.specs.Image.{Image}
 use Rattle.rt_points.specs.Point.{Point}
 use Rattle.rt_points.specs.declared.point.Opened.{Opened}
@@ -29,7 +30,7 @@ use Rattle.rt_judge.proofs.Following.{none_reached}
 use Rattle.rt_judge.proofs.Nestings.{spots_more}
 use Rattle.rt_judge.proofs.Seen.{all_front, all_last}
 use Rattle.rt_judge.proofs.Walking.{walks_first, walks_past, walks_in, walked, nearer_inside, nearer_outside}
-use Rattle.rt_judge.proofs.Walking.{none_of_none, point_here}
+use Rattle.rt_judge.proofs.Walking.{point_here}
 
 -- an address that was not come to is not in the table
 pub absent_found : (opened : List Opened) (o : Option Nesting) → option_map (inside_of opened) o ≡ None → o ≡ None
@@ -147,6 +148,6 @@ looks_last img owner starts table ws bs old now ended looking =
       done = looking.done;
       walked = walked img owner starts (reached_in opened table) looking.done (spots opened bs.list.items)
           (subst (λ (vs : List Visit). IsWalking img owner starts (reached_in opened table) looking.done
-          (spots opened vs) (spots opened bs.list.items)) (none_of_none ws ended) looking.walking);
+          (spots opened vs) (spots opened bs.list.items)) (none_by_length ws ended) looking.walking);
       finds = looking.finds;
     }

@@ -7,11 +7,12 @@ use Rattle.rt_lemmas.proofs.Bools.{and_parts, and_both, or_left, or_right, or_ca
 use Rattle.rt_lemmas.proofs.Membership.{all_append}
 use Rattle.rt_ids.specs.Choice.{IsIn}
 use Rattle.rt_actions.specs.Location.{is_same_section}
+use Rattle.rt_actions.proofs.Sections.{one_section}
 use Rattle.rt_ids.specs.declared.ids.Section.{Section}
 use Rattle.rt_points.specs.Point.{Point, sections}
 use Rattle.rt_points.specs.declared.point.Opened.{Opened}
 use Rattle.rt_judge.specs.Inside.Kept.{TellsOfAll}
-use Rattle.rt_code.proofs.Mine.{one_section, same_section}
+use Rattle.rt_code.proofs.Mine.{same_section}
 
 pub all_front : {A : Type 0} (P : A → Type 0) (xs : List A) (x : A) → AllByRecursion P (xs ++ x ∷ [])
     → AllByRecursion P xs

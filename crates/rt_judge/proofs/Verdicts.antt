@@ -10,6 +10,7 @@ use Rattle.rt_lemmas.proofs.Bools.{and_left, and_right, not_false}
 use Rattle.rt_lemmas.proofs.Membership.{all_has, all_at, all_weaker, any_one}
 use Rattle.rt_ids.specs.Choice.{IsIn}
 use Rattle.rt_actions.specs.Location.{is_same_section}
+use Rattle.rt_actions.proofs.Sections.{one_section}
 use Rattle.rt_ids.specs.declared.ids.Section.{Section}
 use Rattle.rt_code.specs.Access.{Access}
 use Rattle.rt_code.specs.Image.{Image}
@@ -33,7 +34,6 @@ use Rattle.rt_judge.specs.Inside.Looks.{Looked}
 use Rattle.rt_judge.specs.declared.entering.Entering.{Entering}
 use Rattle.rt_judge.specs.declared.touching.Touching.{Touching}
 use Rattle.rt_judge.specs.declared.findings.Findings.{Findings}
-use Rattle.rt_code.proofs.Mine.{one_section}
 
 -- rules by their numbers
 module _ (img : Image) (n : ℕ) (a : 1 < n → NestsInOneWay img) (b : 2 < n → HasRightNumbers img)

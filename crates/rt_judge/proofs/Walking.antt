@@ -266,7 +266,3 @@ pub nearer_outside : (img : Image) (owner : Owner) (spot : Spot) (old new rest b
 nearer_outside img owner spot old new rest before after same none was is =
     let no : length (waits img owner spot) ≡ 0 = ap (λ (line : Option Line). length (waits_by line owner spot)) none in
     omega (arith, same, was, is, no)
-
-pub none_of_none : {X : Type 0} (xs : List X) → length xs ≡ 0 → xs ≡ []
-none_of_none [] e = refl
-none_of_none (x ∷ xs) e = absurd (omega (arith, e))

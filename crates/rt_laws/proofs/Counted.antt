@@ -1,13 +1,14 @@
 -- How often items name a task agrees with where its places are, whatever an action changes that fits the hands.
 use Rattle.std.proofs.Common.{◌≡◌, ℕ, ◌+◌, ◌-◌, ◌==◌, ◌≤◌, Bool, true, false, not, cond, if◌then◌else◌, count_by, find}
 use Rattle.std.proofs.Common.{List, [], ◌∷◌, ◌++◌, map, drop, slice_get, Option, Some, None, option_map, refl, sym, ap}
-use Rattle.std.proofs.Common.{subst, ◌∙◌, arith, eq-eqb}
+use Rattle.std.proofs.Common.{subst, ◌∙◌, arith, eq-eqb, add-zero}
 use Rattle.std.specs.List.{AllByRecursion, position_or_len, remove}
 use Rattle.std.proofs.lemmas.Bool.{eqb-true}
 use Rattle.std.proofs.lemmas.Option.{same_Some, none-some}
 use Rattle.std.proofs.lemmas.List.Sums.{sum_by-cons, sum_by_push}
 use Rattle.rt_lemmas.proofs.Bools.{and_parts}
 use Rattle.rt_lemmas.proofs.Numbers.{one_add}
+use Rattle.rt_lemmas.proofs.Lists.{found_passes}
 use Rattle.rt_ids.specs.Lists.{is_some_and, or_zero}
 use Rattle.rt_actions.specs.Location.{Guarded}
 use Rattle.rt_actions.specs.Content.{Message, Armed, Values, Number, Messages, number, messages, delays, has_instant}
@@ -28,7 +29,6 @@ use Rattle.rt_laws.specs.Places.{in_transit, arming_count, ready_of}
 use Rattle.rt_laws.specs.Queues.{KeepsOrder}
 use Rattle.rt_laws.specs.MessagesByItems.{TaskCounts, task_counts}
 use Rattle.rt_laws.proofs.Fine.{OfLevel, SameQueues, Queued, ActsFine}
-use Rattle.rt_laws.proofs.Pending.{found_passes}
 use Rattle.rt_laws.proofs.Hands.{InTransit, Bare, Forwards, GivesBack, hand_of, transit_then, Suits}
 use Rattle.rt_laws.proofs.ItemCounts.{one_if, forwards, gives_back, Whereabouts, whereabouts, Agrees, Change}
 use Rattle.rt_laws.proofs.ItemCounts.{agrees_more}
@@ -90,9 +90,6 @@ module _ (t : ℕ) (hands : List InTransit) where
   back_same : (n : ℕ) → count_by (gives_back t) (Forwards n ∷ hands) ≡ count_by (gives_back t) (Bare ∷ hands)
   back_same n = back_first (Forwards n) ∙ sym (back_first Bare)
 
-add_none : (n : ℕ) → n ≡ n + 0
-add_none n = omega arith
-
 turned : (n k : ℕ) → n + k ≡ k + n
 turned n k = omega arith
 
@@ -122,7 +119,7 @@ module _ (app : App) (t : ℕ) (vs : Values) where
       go : (b : Bool) → (n == t) ≡ b
           → number (if b then Number (out n + 1) else vs (Guarded (section.Free t))) ≡ out t + one_if b
       go true same = ap (λ k. out k + 1) (eqb-true n t same)
-      go false other = add_none (out t)
+      go false other = sym (add-zero (out t))
 
   -- a place less is out, where one is
   freed_out : (n : ℕ) → one_if (n == t) ≤ out t
@@ -135,7 +132,7 @@ module _ (app : App) (t : ℕ) (vs : Values) where
       go : (b : Bool) → (n == t) ≡ b → one_if b ≤ out t
           → number (if b then Number (out n - 1) else vs (Guarded (section.Free t))) + one_if b ≡ out t
       go true same has = ap (λ k. out k - 1 + 1) (eqb-true n t same) ∙ less (out t) has
-      go false other has = sym (add_none (out t))
+      go false other has = add-zero (out t)
 
   armed_more : (i : ℕ) (m : Message) → arming_count t (effect (Arms i m) vs)
       ≡ arming_count t vs + one_if (m.task == t)
@@ -181,7 +178,7 @@ module _ (app : App) (t : ℕ) (vs : Values) where
           ∙ ap (λ k. ready_in (ready k) + one_if (m.task == t)) (eqb-true p level same)
       go false true other here = let same = same_level p m own here in absurd cc
       go false false other here =
-          add_none (ready_in (ready level)) ∙ ap (λ b. ready_in (ready level) + one_if b) (sym here)
+          sym (add-zero (ready_in (ready level))) ∙ ap (λ b. ready_in (ready level) + one_if b) (sym here)
 
   started_less : (p : ℕ) (m : Message) (more : List Message) → p ≡ task_priority app m.task → ready p ≡ m ∷ more
       → ready_of app t (effect (Starts p m) vs) + one_if (m.task == t) ≡ ready_of app t vs
@@ -198,7 +195,7 @@ module _ (app : App) (t : ℕ) (vs : Values) where
           ∙ ap (λ k. ready_in (ready k)) (eqb-true p level same)
       go false true other here = let same = same_level p m own here in absurd cc
       go false false other here =
-          ap (λ b. ready_in (ready level) + one_if b) here ∙ sym (add_none (ready_in (ready level)))
+          ap (λ b. ready_in (ready level) + one_if b) here ∙ add-zero (ready_in (ready level))
 
 -- a message of a level is of a task of that priority
 pub level_of : (app : App) (p : ℕ) (m : Message) → OfLevel app p m → p ≡ task_priority app m.task
@@ -283,7 +280,7 @@ module _ (app : App) (ws : List What) (hands : List InTransit) (vs : Values) whe
 hand_split : (t : ℕ) (hand : InTransit) → one_if (is_some_and (λ u. u == t) (hand_of hand))
     ≡ one_if (forwards t hand) + one_if (gives_back t hand)
 hand_split t Bare = refl
-hand_split t (Forwards u) = add_none (one_if (u == t))
+hand_split t (Forwards u) = sym (add-zero (one_if (u == t)))
 hand_split t (GivesBack u) = none_add (one_if (u == t))
   where
     none_add : (n : ℕ) → n ≡ 0 + n

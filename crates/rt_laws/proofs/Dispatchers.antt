@@ -2,7 +2,7 @@
 use Rattle.std.proofs.Common.{◌≡◌, ℕ, ◌<◌, ◌==◌, Contains, List, [], ◌∷◌, ◌++◌, map, slice_get, flat_map, Option, Some}
 use Rattle.std.proofs.Common.{None, option_map, IsSome, refl, sym, ap, subst, ◌∙◌, inl, inr, eq-eqb}
 use Rattle.std.proofs.lemmas.Option.{same_Some}
-use Rattle.rt_lemmas.proofs.Lists.{some_at, mapped_at, find_has, found}
+use Rattle.rt_lemmas.proofs.Lists.{some_at, mapped_at, find_has, found, found_passes}
 use Rattle.rt_lemmas.proofs.Membership.{all_at, contains_at, contains_here, contains_cases, contains_none}
 use Rattle.rt_ids.specs.Lists.{or_zero, then_from, is_some_and}
 use Rattle.rt_ids.specs.Choice.{IsIn}
@@ -18,7 +18,7 @@ use Rattle.rt_app.specs.Acceptance.{IsSound}
 use Rattle.rt_app.proofs.Sound.{accepted_are_sound}
 use Rattle.rt_app.proofs.Different.{contains_front, contains_back}
 use Rattle.rt_laws.specs.Services.{service_at, timer_number}
-use Rattle.rt_laws.proofs.Pending.{found_passes, some_number, made_number}
+use Rattle.rt_laws.proofs.Pending.{some_number, made_number}
 use Rattle.rt_laws.proofs.FineHandlers.{all_in}
 
 flat_contains : {X Y : Type 0} (f : X → List Y) (xs : List X) (x : X) (y : Y) → Contains xs x → Contains (f x) y

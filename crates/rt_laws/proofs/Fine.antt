@@ -18,6 +18,7 @@ use Rattle.rt_actions.specs.Content.{with_cancelled, with_moved}
 use Rattle.rt_actions.specs.Action.{Action, Enters, Leaves, Places, FindsFull, Frees, Readies, Starts, Arms, Fires, Cancels}
 use Rattle.rt_actions.specs.Action.{Moves, Ends, Returns, effect}
 use Rattle.rt_actions.specs.Doing.{Doing, over, does}
+use Rattle.rt_actions.proofs.Sections.{one_section}
 use Rattle.rt_ids.specs.declared.ids.BodyId.TheVariants as body
 use Rattle.rt_ids.specs.declared.ids.Section.{Section}
 use Rattle.rt_ids.specs.declared.ids.Section.TheVariants as section
@@ -266,20 +267,12 @@ module _ (app : App) (vs : Values) (queued : Queued app vs) where
   queued_effect role q held action fine time order =
       record { ready = queued.ready; timer = queued.timer; handles = queued.handles; out = queued.out }
 
--- what is put at one section is elsewhere not seen
-pub same_section : (x y : Section) → is_same_section x y ≡ true → x ≡ y
-same_section (section.Res a) (section.Res b) h = ap section.Res (eqb-true a b h)
-same_section (section.Free a) (section.Free b) h = ap section.Free (eqb-true a b h)
-same_section (section.Ready a) (section.Ready b) h = ap section.Ready (eqb-true a b h)
-same_section section.Timer section.Timer h = refl
-same_section x y h = cc
-
 put_beside : (x y : Section) (content : Content) (vs : Values) → ¬ (x ≡ y)
     → values_with vs (Guarded x) content (Guarded y) ≡ vs (Guarded y)
 put_beside x y content vs differs = go (is_same_section x y) refl
   where
     go : (b : Bool) → is_same_section x y ≡ b → (if b then content else vs (Guarded y)) ≡ vs (Guarded y)
-    go true same = absurd (differs (same_section x y same))
+    go true same = absurd (differs (one_section x y same))
     go false other = refl
 
 -- an action changes no queue but the one whose section is open

@@ -17,6 +17,7 @@ use Rattle.rt_ids.specs.declared.ids.BodyId.TheVariants as body
 use Rattle.rt_ids.specs.declared.ids.Section.{Section}
 use Rattle.rt_ids.specs.declared.ids.Section.TheVariants as section
 use Rattle.rt_ids.proofs.Greatest.{greatest_has}
+use Rattle.rt_ids.proofs.Lists.{some_passing}
 use Rattle.rt_app.specs.declared.costs.TheConstants.{FREE_COST, READY_COST}
 use Rattle.rt_app.specs.declared.app.Mono.{Mono}
 use Rattle.rt_app.specs.Tree.{Body, Task, App}
@@ -34,7 +35,6 @@ use Rattle.rt_app.specs.Sending.{Rest, act, act_all, ready_actions, dispatcher_n
 use Rattle.rt_app.specs.Doings.{nothing, declared_doing, init_doing, idle_doing, task_doing, start_doing}
 use Rattle.rt_app.specs.Doings.{dispatcher_doing, due, fire_doing, timer_doing, handler_doing}
 use Rattle.rt_app.specs.Accepted.{IsAccepted}
-use Rattle.rt_app.specs.Acceptance.{IsSound}
 use Rattle.rt_app.proofs.Sound.{accepted_are_sound}
 use Rattle.rt_app.proofs.SoundCeilings.{those_all}
 use Rattle.rt_app.proofs.TimerCeilings.{timer_within, mover_within}
@@ -50,11 +50,6 @@ all_in P (x ∷ xs) each = (each x (0, refl), all_in P xs (λ y is. each y (suc 
 all_unit : {X : Type 0} (xs : List X) → AllByRecursion (λ x. Unit {0}) xs
 all_unit [] = tt
 all_unit (x ∷ xs) = (tt, all_unit xs)
-
-some_passing : {X : Type 0} (test : X → Bool) (o : Option X) → is_some_and test o ≡ true
-    → (x : X) × (o ≡ Some x) × (test x ≡ true)
-some_passing test None h = cc
-some_passing test (Some x) h = (x, refl, h)
 
 all_hold : (a b c : Bool) → a ≡ true → b ≡ true → c ≡ true → (a && b && c) ≡ true
 all_hold a b c x y z = rw (x, y, z) refl
@@ -174,9 +169,6 @@ module _ (app : App) where
   }
 
 module _ (app : App) (accepted : IsAccepted app) where
-  sound : IsSound app
-  sound = accepted_are_sound app accepted
-
   pub init_fine : FineRest app Init (2 ^ app.bits) [] (init_doing app)
   init_fine = go app.init refl
     where
@@ -191,7 +183,7 @@ module _ (app : App) (accepted : IsAccepted app) where
           block_fine app Init (2 ^ app.bits) (init_member b) (λ s. Unit {0}) (λ c h. tt)
           (λ outer c cost u p above top below within. absurd (omega arith))
           b.block 0 [] [] 0 (λ vars. act (Ends body.Init) nothing)
-          (sound.bodies body.Init (init_member b) (ap (option_map init_member) is))
+          ((accepted_are_sound app accepted).bodies body.Init (init_member b) (ap (option_map init_member) is))
           (all_unit (block_sections app (2 ^ app.bits) 0 b.block)) refl (λ vars. last)
           ([] ++ replicate (variables b.block) 0)
 
@@ -207,7 +199,8 @@ module _ (app : App) (accepted : IsAccepted app) where
       go (Some b) is counted =
           block_fine app Idle 0 (thread_member b) (Bounded app) (λ c h. h) (count app Idle 0)
           b.block 0 [] [] 0 (λ vars. act (Ends body.Idle) nothing)
-          (sound.bodies body.Idle (thread_member b) (ap (option_map thread_member) is)) counted refl (λ vars. last)
+          ((accepted_are_sound app accepted).bodies body.Idle (thread_member b) (ap (option_map thread_member) is)) counted
+          refl (λ vars. last)
           ([] ++ replicate (variables b.block) 0)
 
   module _ (irq : ℕ) where
@@ -220,7 +213,7 @@ module _ (app : App) (accepted : IsAccepted app) where
         subst (λ o. FineServing t.priority [] (declared_doing app (then_from o (λ t. Some t.body)) args rest)) (sym at)
         (block_fine app (Serving irq) t.priority (task_member n t) (Bounded app) (λ c h. h)
         (count app (Serving irq) t.priority) t.body.block t.args [] [] 0 (λ vars. rest)
-        (sound.bodies (body.Task n) (task_member n t) (ap (option_map (task_member n)) at))
+        ((accepted_are_sound app accepted).bodies (body.Task n) (task_member n t) (ap (option_map (task_member n)) at))
         (all_front (Bounded app) (block_sections app t.priority 0 t.body.block) (dispatcher_sections app n t)
         (bounded_at app n t at)) refl (λ vars. fine) (args ++ replicate (variables t.body.block) 0))
 

@@ -1,8 +1,8 @@
 -- An arming and a move put their message last in the timer queue, and of the messages of the least instant the first
 -- there is the least.
-use Rattle.std.proofs.Common.{◌≡◌, ℕ, suc, ◌+◌, ◌<◌, ◌≤◌, ◌==◌, min, Bool, true, false, cond, if◌then◌else◌, find, List}
+use Rattle.std.proofs.Common.{◌≡◌, ℕ, ◌<◌, ◌≤◌, ◌==◌, min, Bool, true, false, cond, if◌then◌else◌, find, List}
 use Rattle.std.proofs.Common.{[], ◌∷◌, ◌++◌, Option, Some, None, IfSome, refl, sym, ap, subst, ◌∙◌, le_refl, eq-eqb}
-use Rattle.std.proofs.Common.{arith}
+use Rattle.std.proofs.Common.{arith, add-one}
 use Rattle.std.specs.List.{AllByRecursion}
 use Rattle.std.proofs.lemmas.Bool.{eqb-true}
 use Rattle.std.proofs.lemmas.Option.{same_Some, none-some}
@@ -43,9 +43,6 @@ by_return before after Idle w is = absurd (none-some w is)
 by_return before after Waiting w is = absurd (none-some w is)
 by_return before after (Serving irq) w is = subst (GoesLast before after) (same_Some (what.Ret irq) w is) tt
 
-next_number : (n : ℕ) → n + 1 ≡ suc n
-next_number n = omega arith
-
 module _ (app : App) (s : State) (queued : Queued app s.values) where
   module _ (role : Role) (q k : ℕ) (held : List Section) (base : Values) (job : Job) (others : List Job) where
     abbrev Asked : Doing Values → Type 0
@@ -76,10 +73,10 @@ module _ (app : App) (s : State) (queued : Queued app s.values) where
           message = m;
           of_task = refl;
           given = ap (λ (c : Content). (timer_content c).given) same
-              ∙ next_number (timer_content (s.values (Guarded section.Timer))).given;
+              ∙ add-one (timer_content (s.values (Guarded section.Timer))).given;
           last = ap delays same
               ∙ ap (λ n. delays (s.values (Guarded section.Timer)) ++ record { instant = i; message = m; handle = n }
-              ∷ []) (next_number (timer_content (s.values (Guarded section.Timer))).given);
+              ∷ []) (add-one (timer_content (s.values (Guarded section.Timer))).given);
         })
     goes_last (does (Moves n h i) made next) asked w is =
         let found = asked.1.1 in

@@ -1,12 +1,12 @@
 -- Which interrupts are pending, and which one is to be taken.
-use Rattle.std.proofs.Common.{if◌then◌else◌, ◌≡◌, ℕ, zero, suc, ◌≤◌, ◌<◌, ◌==◌, nat_lt, Bool, true, false, ◌&&◌, List}
-use Rattle.std.proofs.Common.{[], ◌∷◌, map, slice_get, slice_set, slice_index_or, find, Option, Some, None, option_map}
+use Rattle.std.proofs.Common.{◌≡◌, ℕ, zero, suc, ◌≤◌, ◌<◌, ◌==◌, nat_lt, Bool, true, false, ◌&&◌, List}
+use Rattle.std.proofs.Common.{[], ◌∷◌, map, slice_get, slice_set, slice_index_or, Option, Some, None, option_map}
 use Rattle.std.proofs.Common.{refl, sym, ap, subst, ◌∙◌, arith, ⊎_elim}
 use Rattle.std.proofs.lemmas.Bool.{ltb-true, ltb-false, eqb-true}
 use Rattle.std.proofs.lemmas.Option.{same_Some, none-some}
 use Rattle.rt_lemmas.proofs.Bools.{and_parts, and_both}
 use Rattle.rt_lemmas.proofs.Membership.{all_at}
-use Rattle.rt_lemmas.proofs.Lists.{mapped_at}
+use Rattle.rt_lemmas.proofs.Lists.{mapped_at, found_passes}
 use Rattle.rt_ids.specs.Lists.{is_some_and, or_zero}
 use Rattle.rt_ids.specs.Choice.{IsIn, IsBest}
 use Rattle.rt_app.specs.Tree.{App}
@@ -31,16 +31,6 @@ still_beside (x ∷ xs) zero zero b differs h = absurd (differs refl)
 still_beside (x ∷ xs) zero (suc j) b differs h = h
 still_beside (x ∷ xs) (suc i) zero b differs h = h
 still_beside (x ∷ xs) (suc i) (suc j) b differs h = still_beside xs i j b (λ same. differs (ap suc same)) h
-
--- what is found passes
-pub found_passes : {X : Type 0} (test : X → Bool) (xs : List X) (y : X) → find test xs ≡ Some y → test y ≡ true
-found_passes test [] y h = absurd (none-some y h)
-found_passes {X} test (x ∷ xs) y h = one (test x) refl (found_passes test xs y) h
-  where
-    one : (pass : Bool) → test x ≡ pass → (find test xs ≡ Some y → test y ≡ true)
-        → (if pass then Some x else find test xs) ≡ Some y → test y ≡ true
-    one true own before is = subst (λ z. test z ≡ true) (same_Some x y is) own
-    one false own before is = before is
 
 pub some_number : (o : Option ℕ) (n : ℕ) → is_some_and (λ k. k == n) o ≡ true → o ≡ Some n
 some_number None n h = cc

@@ -75,7 +75,7 @@ lefts_more : (k : ℕ) (ns : List ℕ) → AllByRecursion (λ n. 0 < n) ns → A
 lefts_more k [] some all = tt
 lefts_more k (n ∷ ns) some all = let one = some.0 in let here = all.0 in (omega arith, lefts_more k ns some.1 all.1)
 
-lefts_first : (ns : List ℕ) → AllByRecursion (λ n. 0 < n) ns → AllByRecursion (λ n. 1 ≤ n) ns
+pub lefts_first : (ns : List ℕ) → AllByRecursion (λ n. 0 < n) ns → AllByRecursion (λ n. 1 ≤ n) ns
 lefts_first [] some = tt
 lefts_first (n ∷ ns) some = let one = some.0 in (omega arith, lefts_first ns some.1)
 

@@ -11,6 +11,7 @@ use Rattle.std.proofs.lemmas.List.Sums.{sum_by-cons, fold-append}
 use Rattle.rt_lemmas.proofs.Membership.{all_weaker}
 use Rattle.rt_ids.specs.Lists.{those_below}
 use Rattle.rt_ids.specs.declared.cell.CellRow.{CellRow}
+use Rattle.rt_ids.proofs.Lists.{those_next}
 use Rattle.rt_app.specs.declared.app.App as code
 use Rattle.rt_app.specs.declared.app.Task as code_task
 use Rattle.rt_app.specs.declared.app.Mono.{Mono}
@@ -28,7 +29,7 @@ use Rattle.rt_layout.proofs.Growing.{tasks_inputs, tasks_ready, tasks_timer, lev
 use Rattle.rt_layout.proofs.Growing.{levels_inputs, levels_free, levels_timer, mono_cells, mono_inputs, mono_free}
 use Rattle.rt_layout.proofs.Growing.{mono_ready}
 use Rattle.rt_layout.proofs.Laying.{rows_are, free_are, inputs_are, ready_are, length-task_cells, length-ready}
-use Rattle.rt_layout.proofs.Laying.{those_next, those_less}
+use Rattle.rt_layout.proofs.Laying.{those_less}
 use Rattle.rt_layout.proofs.Few.{few_cells}
 
 those_alike : (a b : ℕ → Bool) (n : ℕ) → ((p : ℕ) → p < n → a p ≡ b p) → those_below a n ≡ those_below b n

@@ -25,6 +25,7 @@ use Rattle.rt_actions.specs.Location.{Guarded}
 use Rattle.rt_actions.specs.Storage.{At}
 use Rattle.rt_ids.specs.declared.ids.Section.TheVariants as section
 use Rattle.rt_ids.specs.declared.cell.CellRow.{CellRow}
+use Rattle.rt_ids.proofs.Lists.{those_next}
 use Rattle.rt_layout.specs.Inside.Rows.{row, task_front, resource_row, local_row, free_rows, input_rows, queue_rows}
 use Rattle.rt_layout.specs.Inside.Rows.{task_rows, ready_front, ready_rows, zero_rows, timed_rows}
 use Rattle.rt_layout.proofs.Growing.{free_from, inputs_from, rows_of_levels, ready_from}
@@ -200,11 +201,6 @@ all_pass p [] all = refl
 all_pass p (q ∷ ps) all =
     ap (λ b. if b then q ∷ filter (λ q. nat_lt q p) ps else filter (λ q. nat_lt q p) ps) (lt-ltb q p all.0)
     ∙ ap (λ rest. q ∷ rest) (all_pass p ps all.1)
-
-pub those_next : (test : ℕ → Bool) (n : ℕ) → those_below test (suc n) ≡ those_below test n
-    ++ (if test n then n ∷ [] else [])
-unfolding those_below
-those_next test n = refl
 
 pub those_less : (test : ℕ → Bool) (n : ℕ) → AllByRecursion (λ q. q < n) (those_below test n)
 those_less test n = those_all (λ q. q < n) test n (λ q below is. below)

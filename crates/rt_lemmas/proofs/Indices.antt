@@ -1,6 +1,6 @@
 -- On what stands at an index of a list that is one behind another.
 use Rattle.std.proofs.Common.{◌≡◌, ◌⊎◌, ℕ, zero, suc, ◌+◌, ◌<◌, List, [], ◌∷◌, ◌++◌, length, map, get_or, Some}
-use Rattle.std.proofs.Common.{slice_get, refl, ap, inl, inr, arith}
+use Rattle.std.proofs.Common.{slice_get, slice_set, Bool, false, refl, ap, inl, inr, arith}
 use Rattle.std.proofs.lemmas.Option.{same_Some, none-some}
 
 pub at_front : {X : Type 0} (xs ys : List X) (i : ℕ) → i < length xs → slice_get (xs ++ ys) i ≡ slice_get xs i
@@ -40,3 +40,15 @@ pub there_is : {X : Type 0} (xs : List X) (i : ℕ) → i < length xs → (x : X
 there_is [] i within = absurd (omega arith)
 there_is (x ∷ xs) zero within = (x, refl)
 there_is (x ∷ xs) (suc i) within = there_is xs i (omega arith)
+
+-- what stands at an index of the front list stands there in both
+pub get_left : {X : Type 0} (xs ys : List X) (i : ℕ) (x : X) → slice_get xs i ≡ Some x → slice_get (xs ++ ys) i ≡ Some x
+get_left [] ys i x at = absurd (none-some x at)
+get_left (z ∷ xs) ys zero x at = at
+get_left (z ∷ xs) ys (suc i) x at = get_left xs ys i x at
+
+-- of a list of tests, the one at an index is false once it is cleared
+pub now_cleared : (xs : List Bool) (i : ℕ) → get_or (slice_set xs i false) i false ≡ false
+now_cleared [] i = refl
+now_cleared (x ∷ xs) zero = refl
+now_cleared (x ∷ xs) (suc i) = now_cleared xs i

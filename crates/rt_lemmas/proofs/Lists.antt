@@ -236,3 +236,23 @@ found {X} test (y ∷ xs) i x at is = go (test y) refl i at (λ i at. found test
     go true e i at others = (y, refl)
     go false e zero at others = absurd (true_and_false (test y) (ap test (same_Some y x at) ∙ is) e)
     go false e (suc i) at others = others i at
+
+-- what is found passes the test
+pub found_passes : {X : Type 0} (test : X → Bool) (xs : List X) (y : X) → find test xs ≡ Some y → test y ≡ true
+found_passes test [] y is = absurd (none-some y is)
+found_passes test (x ∷ xs) y is = one (found_passes test xs y) (test x) refl is
+  where
+    one : (find test xs ≡ Some y → test y ≡ true) → (pass : Bool) → test x ≡ pass → cond pass (Some x) (find test xs)
+        ≡ Some y → test y ≡ true
+    one rest true e is = subst (λ z. test z ≡ true) (same_Some x y is) e
+    one rest false e is = rest is
+
+-- a list of no length is the empty one
+pub none_by_length : {X : Type 0} (xs : List X) → length xs ≡ 0 → xs ≡ []
+none_by_length [] none = refl
+none_by_length (x ∷ xs) none = absurd (omega (arith, none))
+
+-- nothing is asked of each
+pub none_asked : {A : Type 0} (xs : List A) → AllByRecursion (λ x. Unit {0}) xs
+none_asked [] = tt
+none_asked (x ∷ xs) = (tt, none_asked xs)

@@ -25,3 +25,9 @@ max_if false false n = refl
 pub below_suc : (P : ℕ → Type 0) (count : ℕ) → ((k : ℕ) → k < count → P k) → P count → (k : ℕ) → k < suc count → P k
 below_suc P count before at k l = ⊎_elim (before k) (λ ge. let e : count ≡ k = omega arith in subst P e at)
     (cases_lt k count)
+
+pub max_zero : (n : ℕ) → max n 0 ≡ n
+max_zero n = omega arith
+
+pub max_alone : (m n : ℕ) → max m (max n 0) ≡ max m n
+max_alone m n = omega arith

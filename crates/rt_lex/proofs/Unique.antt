@@ -7,7 +7,7 @@ use Rattle.std.proofs.lemmas.Bool.{eqb-true, leb-true}
 use Rattle.std.proofs.lemmas.List.{length-drop, drop-drop}
 use Rattle.std.proofs.lemmas.List.Sums.{fold-append}
 use Rattle.std.proofs.Math.Seq.{take-add, take-length}
-use Rattle.rt_lemmas.proofs.Bools.{and_left, and_right, or_cases, or_left, or_right, true_and_false, not_true}
+use Rattle.rt_lemmas.proofs.Bools.{and_left, and_right, or_cases, or_left, or_right, true_and_false, not_true, not_so}
 use Rattle.rt_lemmas.proofs.Texts.{any_text_is}
 use Rattle.rt_lex.specs.declared.token.Kind.{Kind}
 use Rattle.rt_lex.specs.declared.token.Kind.TheVariants as kind
@@ -161,13 +161,8 @@ letter_high b h =
       | inr line ↦ omega (arith, eqb-true b 95 line)
     ]
 
--- what decides the kind of a text that is whole
-none_true : (x : Bool) → (x ≡ true → ⊥) → x ≡ false
-none_true true f = absurd (f refl)
-none_true false f = refl
-
 whole_no_blank : (b : ℕ) (text : List ℕ) → is_whole (b ∷ text) ≡ true → is_blank b ≡ false
-whole_no_blank b text h = none_true (is_blank b) (λ blank.
+whole_no_blank b text h = not_so (is_blank b) (λ blank.
     elim (or_cases (is_identifier (b ∷ text) || is_number (b ∷ text)) (is_sign (b ∷ text)) h) [
       | inl other ↦ elim (or_cases (is_identifier (b ∷ text)) (is_number (b ∷ text)) other) [
         | inl name ↦ omega (arith, blank_low b blank, letter_high b (and_left (is_letter b) _ name))
@@ -293,7 +288,7 @@ stuck_at b text false e dark plain = let step : after_byte Outside b ≡ Lost = 
 
 no_slashes : (n b : ℕ) (text : List ℕ) → starts_with eqb (b ∷ text) (47 ∷ 47 ∷ []) ≡ false
     → starts_with eqb (b ∷ take n text) (47 ∷ 47 ∷ []) ≡ false
-no_slashes zero b text e = none_true (starts_with eqb (b ∷ []) (47 ∷ 47 ∷ []))
+no_slashes zero b text e = not_so (starts_with eqb (b ∷ []) (47 ∷ 47 ∷ []))
     (λ h. true_and_false false (and_right (eqb 47 b) false h) refl)
 no_slashes (suc n) b [] e = e
 no_slashes (suc n) b (c ∷ text) e = e

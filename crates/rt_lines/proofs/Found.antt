@@ -1,30 +1,21 @@
 -- What is found in a list passes the test and stands there, and names that differ are found where they stand.
-use Rattle.std.proofs.Common.{◌≡◌, ◌==◌, ◌<◌, ℕ, Bool, true, false, cond, List, [], ◌∷◌, length, map, get_or, find}
-use Rattle.std.proofs.Common.{position, bytes_eq, Option, Some, None, IsSome, refl, ap, sym, ◌∙◌, subst, arith}
+use Rattle.std.proofs.Common.{◌≡◌, ◌==◌, ◌<◌, ℕ, Bool, true, List, [], length, map, get_or, find}
+use Rattle.std.proofs.Common.{position, bytes_eq, Option, Some, None, IsSome, refl, ap, sym, ◌∙◌, arith}
 use Rattle.std.proofs.Common.{slice_index_or, slice_get}
 use Rattle.std.specs.Bool.{Decides}
 use Rattle.std.specs.List.{AllByRecursion, position_or_len}
-use Rattle.std.proofs.lemmas.Bool.{false_from_ne_true, lt-ltb, eqb-true}
+use Rattle.std.proofs.lemmas.Bool.{false_from_ne_true, lt-ltb, eqb-true, eq-eqb}
 use Rattle.std.proofs.lemmas.List.Folds.{find_at}
 use Rattle.std.proofs.lemmas.List.Sums.{position_or_len_is}
-use Rattle.std.proofs.lemmas.Option.{slice_get-get_or, same_Some, none-some, slice_get_within, get_or_from_slice_get}
+use Rattle.std.proofs.lemmas.Option.{slice_get-get_or, slice_get_within, get_or_from_slice_get}
 use Rattle.std.proofs.lemmas.Slice.Eq.{bytes_eq-Decides}
-use Rattle.rt_lemmas.proofs.Lists.{find_has, mapped_at}
-use Rattle.rt_lemmas.proofs.Membership.{all_at}
+use Rattle.std.specs.Prelude.{is_some}
+use Rattle.rt_lemmas.proofs.Lists.{find_has, mapped_at, found_passes, found}
+use Rattle.rt_lemmas.proofs.Membership.{all_at, all_from_members, contains_at}
 use Rattle.rt_ids.specs.Lists.{AreDifferent}
 use Rattle.rt_ids.specs.Names.{Names, AreNames, irq_of, task_of, resource_of}
-use Rattle.rt_ids.specs.Naming.{irq_named, irq_name, task_name, resource_name}
+use Rattle.rt_ids.specs.Naming.{irq_named, irq_name, task_name, resource_name, IsDeclared, IsTask}
 use Rattle.rt_ids.specs.Word.{IsName, is_identifier}
-use Rattle.rt_lines.specs.Operand.{IsDeclared, IsTask}
-
-pub found_passes : {X : Type 0} (test : X → Bool) (xs : List X) (y : X) → find test xs ≡ Some y → test y ≡ true
-found_passes test [] y is = absurd (none-some y is)
-found_passes test (x ∷ xs) y is = one (found_passes test xs y) (test x) refl is
-  where
-    one : (find test xs ≡ Some y → test y ≡ true) → (pass : Bool) → test x ≡ pass → cond pass (Some x) (find test xs)
-        ≡ Some y → test y ≡ true
-    one rest true e is = subst (λ z. test z ≡ true) (same_Some x y is) e
-    one rest false e is = rest is
 
 pub found_at : {X : Type 0} (test : X → Bool) (xs : List X) (y : X) → find test xs ≡ Some y → (i : ℕ)
     × (slice_get xs i ≡ Some y)
@@ -95,3 +86,10 @@ irq_known names irq are declared =
 pub name_at : (texts : List (List ℕ)) (i : ℕ) → AllByRecursion IsName texts → i < length texts
     → IsName (slice_index_or texts i [])
 name_at texts i all within = all_at IsName texts i (slice_index_or texts i []) all (slice_get-get_or texts i [] within)
+
+-- a declared interrupt is found by its number
+pub irqs_declared : (names : Names) → AllByRecursion (λ irq. IsDeclared names irq.1) names.irqs
+irqs_declared names =
+    all_from_members (λ irq. IsDeclared names irq.1) names.irqs
+    (λ irq there. let at = contains_at names.irqs irq there in
+    ap is_some (found (λ other. other.1 == irq.1) names.irqs at.0 irq at.1 (eq-eqb irq.1 irq.1 refl)).1)

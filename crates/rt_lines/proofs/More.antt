@@ -10,13 +10,14 @@ use Rattle.std.specs.List.{AllByRecursion, starts_with}
 use Rattle.std.specs.Option.{ok_or, option_or, unwrap_or}
 use Rattle.std.proofs.lemmas.Bool.{leb-true}
 use Rattle.std.proofs.lemmas.List.Folds.{find-append}
-use Rattle.std.proofs.lemmas.Option.{none-some, slice_get-get_or, slice_get_within}
+use Rattle.std.proofs.lemmas.Option.{slice_get-get_or, slice_get_within}
 use Rattle.std.proofs.lemmas.Slice.Eq.{bytes_eq-Decides}
-use Rattle.rt_lemmas.proofs.Lists.{find_has, mapped_at}
+use Rattle.rt_lemmas.proofs.Lists.{find_has, mapped_at, found_passes}
 use Rattle.rt_lemmas.proofs.Membership.{all_at}
+use Rattle.rt_lemmas.proofs.Indices.{get_left}
 use Rattle.rt_ids.specs.Lists.{AreDifferent}
 use Rattle.rt_ids.specs.Names.{Names, AreNames, irq_of, task_of, resource_of}
-use Rattle.rt_ids.specs.Naming.{irq_named, irq_name, task_name, resource_name, section_name}
+use Rattle.rt_ids.specs.Naming.{irq_named, irq_name, task_name, resource_name, section_name, IsDeclared}
 use Rattle.rt_ids.specs.Word.{is_identifier}
 use Rattle.rt_ids.specs.declared.ids.BodyId.TheVariants as body
 use Rattle.rt_ids.specs.declared.ids.Section.{Section}
@@ -24,7 +25,7 @@ use Rattle.rt_ids.specs.declared.ids.Section.TheVariants as section
 use Rattle.rt_lines.specs.Answers.{and_then, and_make}
 use Rattle.rt_lines.specs.Numbers.{number_below}
 use Rattle.rt_lines.specs.Operand.{Kind, Number, IrqName, FirstIrqName, TaskName, BodyName, LockName, QueueName}
-use Rattle.rt_lines.specs.Operand.{SectionName, Value, HasWord, IsDeclared, IsQueue, IsSection, word, read_at}
+use Rattle.rt_lines.specs.Operand.{SectionName, Value, HasWord, IsQueue, IsSection, word, read_at}
 use Rattle.rt_lines.specs.Operand.{number_at}
 use Rattle.rt_lines.specs.Operand.{index_or_wrong, section_at}
 use Rattle.rt_lines.specs.Operand.{irq_at, first_irq_at, task_at, lock_at, queue_at}
@@ -34,7 +35,7 @@ use Rattle.rt_lines.specs.Table.{two_at, numbers_at, shape_at, said_at, operand_
 use Rattle.rt_lines.specs.Table.{is_plain}
 use Rattle.rt_lines.specs.declared.operand.Wrong.{Wrong}
 use Rattle.rt_lines.specs.declared.operand.Wrong.TheVariants as wrong
-use Rattle.rt_lines.proofs.Found.{found_at, found_passes}
+use Rattle.rt_lines.proofs.Found.{found_at}
 use Rattle.rt_lines.proofs.Numerals.{number_read}
 use Rattle.rt_lines.proofs.Spelled.{first_irq_read}
 use Rattle.rt_lines.proofs.Told.{said_by, said_each, IsPlain, operands_plain}
@@ -250,12 +251,6 @@ name_identifier texts i all within = all_at (λ name. is_identifier name ≡ tru
 index_name : (w : List ℕ) (index : Option ℕ) → is_identifier w ≡ true → IsOkOrName (index_or_wrong w index)
 index_name w None named = rw named tt
 index_name w (Some n) named = rw named tt
-
--- indices in two lists, one behind the other
-get_left : {X : Type 0} (xs ys : List X) (i : ℕ) (x : X) → slice_get xs i ≡ Some x → slice_get (xs ++ ys) i ≡ Some x
-get_left [] ys i x at = absurd (none-some x at)
-get_left (z ∷ xs) ys zero x at = at
-get_left (z ∷ xs) ys (suc i) x at = get_left xs ys i x at
 
 get_right : {X : Type 0} (xs ys : List X) (j : ℕ) (x : X) → slice_get ys j ≡ Some x
     → slice_get (xs ++ ys) (length xs + j) ≡ Some x

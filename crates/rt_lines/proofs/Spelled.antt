@@ -12,18 +12,19 @@ use Rattle.std.proofs.lemmas.List.Quantifiers.{position-Some}
 use Rattle.std.proofs.lemmas.Result.{IfOk-weaker}
 use Rattle.std.proofs.lemmas.Slice.Eq.{bytes_eq-Decides}
 use Rattle.rt_lemmas.proofs.Options.{if_some-map}
+use Rattle.rt_lemmas.proofs.Lists.{found_passes}
 use Rattle.rt_ids.specs.declared.ids.BodyId.{BodyId}
 use Rattle.rt_ids.specs.declared.ids.BodyId.TheVariants as body
 use Rattle.rt_ids.specs.declared.ids.Section.{Section}
 use Rattle.rt_ids.specs.declared.ids.Section.TheVariants as section
 use Rattle.rt_ids.specs.Lists.{AreDifferent}
 use Rattle.rt_ids.specs.Names.{Names, AreNames, irq_of}
-use Rattle.rt_ids.specs.Naming.{irq_named, irq_name, task_name, section_name, body_name}
+use Rattle.rt_ids.specs.Naming.{irq_named, irq_name, task_name, section_name, body_name, IsDeclared, IsTask, IsBody}
 use Rattle.rt_ids.specs.Word.{IsName, is_word, is_identifier}
 use Rattle.rt_lines.specs.Numbers.{number_below}
 use Rattle.rt_lines.specs.Operand.{Kind, Number, IrqName, FirstIrqName, TaskName, BodyName, LockName, QueueName}
 use Rattle.rt_lines.specs.Operand.{SectionName, Value}
-use Rattle.rt_lines.specs.Operand.{HasWord, IsDeclared, IsTask, IsBody, IsLock, IsQueue, IsSection, word, read_at}
+use Rattle.rt_lines.specs.Operand.{HasWord, IsLock, IsQueue, IsSection, word, read_at}
 use Rattle.rt_lines.specs.Operand.{number_at}
 use Rattle.rt_lines.specs.Operand.{index_or_wrong, irq_at, if_first, first_irq_at, task_at, body_at, lock_at, queue_at}
 use Rattle.rt_lines.specs.Operand.{section_at}
@@ -31,7 +32,7 @@ use Rattle.rt_lines.specs.Table.{is_plain}
 use Rattle.rt_lines.specs.declared.operand.Wrong.{Wrong}
 use Rattle.rt_lines.specs.declared.operand.Wrong.TheVariants as wrong
 use Rattle.rt_lines.proofs.Decoded.{if_some_from, if_ok_or, if_ok_chosen, if_ok_then, if_ok_make}
-use Rattle.rt_lines.proofs.Found.{found_passes, found_at, irq_known, key_found, name_at, resource_found, task_found}
+use Rattle.rt_lines.proofs.Found.{found_at, irq_known, key_found, name_at, resource_found, task_found}
 use Rattle.rt_lines.proofs.Numerals.{number_read, number_spelling}
 
 module _ (w : List ℕ) {A : Type 0} (P : A → Type 0) where

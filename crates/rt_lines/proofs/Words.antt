@@ -14,11 +14,11 @@ use Rattle.rt_ids.specs.declared.ids.Section.{Section}
 use Rattle.rt_ids.specs.declared.ids.Section.TheVariants as section
 use Rattle.rt_ids.specs.Byte.{is_letter, is_name_byte}
 use Rattle.rt_ids.specs.Names.{Names, AreNames}
-use Rattle.rt_ids.specs.Naming.{section_name}
+use Rattle.rt_ids.specs.Naming.{section_name, IsTask}
 use Rattle.rt_ids.specs.Word.{is_identifier}
 use Rattle.rt_lines.specs.Operand.{Kind, Number, IrqName, FirstIrqName, TaskName, BodyName, LockName, QueueName}
 use Rattle.rt_lines.specs.Operand.{SectionName, Value}
-use Rattle.rt_lines.specs.Operand.{HasWord, IsTask, IsSection, word}
+use Rattle.rt_lines.specs.Operand.{HasWord, IsSection, word}
 use Rattle.rt_lines.specs.Parts.{parts, words}
 use Rattle.rt_lines.specs.Table.{Operand, IsWritten, operand_word, spaced_text}
 use Rattle.rt_lines.proofs.Found.{irq_known, name_at}

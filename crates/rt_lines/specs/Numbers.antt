@@ -25,5 +25,5 @@ number_below bound word =
     then Some (digits_value 10 word) else None
 
 -- a number of 32 bits
-abbrev pub IsWord : ℕ → Type 0
-IsWord n = n < 2 ^ 32
+abbrev pub Is32Bits : ℕ → Type 0
+Is32Bits n = n < 2 ^ 32

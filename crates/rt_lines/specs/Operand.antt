@@ -2,11 +2,11 @@
 -- bodies. Of each kind it is said which values have a word, how that is written, and what a word is read as. A word
 -- that is of no form is told from a name that stands in no table.
 use Rattle.std.specs.Prelude.{ℕ, ◌<◌, ◌^◌, nat_eq, if◌then◌else◌, bytes_eq, codes, decimal, List, length, drop, Option}
-use Rattle.std.specs.Prelude.{IsSome, Result, Ok, Err}
+use Rattle.std.specs.Prelude.{Result, Ok, Err}
 use Rattle.std.specs.List.{starts_with}
 use Rattle.std.specs.Option.{ok_or}
 use Rattle.rt_ids.specs.Names.{Names, irq_of, task_of, resource_of}
-use Rattle.rt_ids.specs.Naming.{irq_named, irq_name, task_name, section_name, body_name}
+use Rattle.rt_ids.specs.Naming.{irq_name, task_name, section_name, body_name, IsDeclared, IsTask, IsBody}
 use Rattle.rt_ids.specs.Word.{is_identifier}
 use Rattle.rt_ids.specs.declared.ids.BodyId.{BodyId}
 use Rattle.rt_ids.specs.declared.ids.BodyId.TheVariants as body
@@ -43,19 +43,6 @@ Value BodyName = BodyId
 Value LockName = Section
 Value QueueName = Section
 Value SectionName = Section
-
--- an interrupt of this number is declared
-abbrev pub IsDeclared : Names → ℕ → Type 0
-IsDeclared names irq = IsSome (irq_named names irq)
-
--- there is this task
-abbrev pub IsTask : Names → ℕ → Type 0
-IsTask names task = task < length names.tasks
-
--- there is this body
-abbrev pub IsBody : Names → BodyId → Type 0
-IsBody names (body.Task t) = IsTask names t
-IsBody names other = Unit {0}
 
 -- it is the section of a resource that there is
 abbrev pub IsLock : Names → Section → Type 0
@@ -156,3 +143,8 @@ read_at BodyName names word = body_at names word
 read_at LockName names word = lock_at names word
 read_at QueueName names word = queue_at names word
 read_at SectionName names word = section_at names word
+
+-- the level in the name of a section, where there is one, is of 8 bits
+abbrev pub HasLevel : Section → Type 0
+HasLevel (section.Ready level) = level < 2 ^ 8
+HasLevel s = Unit {0}

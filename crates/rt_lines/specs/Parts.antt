@@ -1,6 +1,6 @@
 -- The lines and words of a text. A line ends with a line feed, which the last may lack; single spaces separate words.
 -- This is this project's own form of texts; `str::lines` of Rust also takes a carriage return off each line.
-use Rattle.std.specs.Prelude.{ℕ, ◌==◌, not, List, [], ◌∷◌, filter, Option, Some, None, if◌then◌else◌}
+use Rattle.std.specs.Prelude.{ℕ, ◌==◌, not, List, [], ◌∷◌, ◌++◌, filter, Option, Some, None, if◌then◌else◌}
 use Rattle.std.specs.List.{slice_split}
 use Rattle.std.specs.Borrow.{Bor}
 use Rattle.rt_ids.specs.Lists.{is_empty}
@@ -31,3 +31,7 @@ words_of (Some text) = words text.now
 -- the words that one or more spaces separate
 abbrev pub spaced_words : List ℕ → List (List ℕ)
 spaced_words line = filter (λ word. not (is_empty word)) (words line)
+
+-- a line with the feed that ends it
+abbrev pub line_with_feed : List ℕ → List ℕ
+line_with_feed line = line ++ 10 ∷ []

@@ -9,8 +9,9 @@ use Rattle.std.proofs.lemmas.Slice.Eq.{bytes_eq-Decides}
 use Rattle.rt_lemmas.proofs.Lists.{all_both, all_map}
 use Rattle.rt_lemmas.proofs.Membership.{all_weaker}
 use Rattle.rt_ids.specs.Names.{Names}
+use Rattle.rt_ids.specs.Naming.{IsTask}
 use Rattle.rt_code.specs.Image.{Image}
-use Rattle.rt_code.specs.Listable.{IsListable, AreWritable, IsTask, HasInstr, HasNote, IsWord, IsPlain, blanks}
+use Rattle.rt_code.specs.Listable.{IsListable, AreWritable, HasInstr, HasNote, IsWord, IsPlain, blanks}
 use Rattle.rt_code.specs.declared.image.Handler.{Handler}
 use Rattle.rt_code.specs.declared.instr.Instr.{Instr}
 use Rattle.rt_code.specs.declared.instr.Note.{Note}

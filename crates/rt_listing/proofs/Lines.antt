@@ -5,7 +5,7 @@ use Rattle.std.proofs.Common.{decimal, Contains, Option, Some, None, refl, ap, s
 use Rattle.std.proofs.Common.{append-nil, ne_eqb, arith}
 use Rattle.std.specs.List.{AllByRecursion}
 use Rattle.std.proofs.lemmas.List.Concat.{flat_map-append}
-use Rattle.rt_lemmas.proofs.Lists.{all_append}
+use Rattle.rt_lemmas.proofs.Lists.{all_append, none_asked}
 use Rattle.rt_ids.specs.Names.{Names}
 use Rattle.rt_ids.specs.declared.cell.CellRow.{CellRow}
 use Rattle.rt_code.specs.Image.{Image}
@@ -193,10 +193,6 @@ numbered_all Q P row each n [] more all rest = rest
 numbered_all Q P row each n (x ∷ xs) more all rest =
     (each n x all.0, numbered_all Q P row each (suc n) xs more all.1 rest)
 
-pub every : {A : Type 0} (xs : List A) → AllByRecursion (λ x. Unit {0}) xs
-every [] = tt
-every (x ∷ xs) = (tt, every xs)
-
 -- what holds of the row of each thing holds of all rows
 pub rows_all : (Q : Row → Type 0) (C : CellRow → Type 0) (I : IrqRow → Type 0) (img : Image)
     → Q (first_row img (length img.code) (length img.cells)) → ((n : ℕ) (cell : CellRow) → C cell → Q (cell_row n cell))
@@ -206,9 +202,9 @@ pub rows_all : (Q : Row → Type 0) (C : CellRow → Type 0) (I : IrqRow → Typ
 rows_all Q C I img first cell irq body code cells irqs =
     let names = img.names in
     let coded = subst (AllByRecursion Q) (append-nil (code_rows names img))
-    (numbered_all Q (λ c. Unit {0}) (code_row names) (λ n c any. code n c) 0 img.code [] (every img.code) tt) in
+    (numbered_all Q (λ c. Unit {0}) (code_row names) (λ n c any. code n c) 0 img.code [] (none_asked img.code) tt) in
     let bodied = numbered_all Q (λ b. Unit {0}) (λ n. body_row names) (λ n b any. body b) 0 img.bodies
-    (code_rows names img) (every img.bodies) coded in
+    (code_rows names img) (none_asked img.bodies) coded in
     let numbered_irqs = numbered_all Q I (λ n. irq_row) (λ n row. irq row) 0 img.irqs (body_rows names img) irqs bodied
     in
     (first, numbered_all Q C cell_row cell 0 img.cells (irq_rows names img) cells numbered_irqs)

@@ -14,12 +14,12 @@ use Rattle.std.proofs.lemmas.Bool.{eqb-true, ne_eqb, false_from_ne_true}
 use Rattle.rt_lemmas.proofs.Lists.{all_front, is_some_within}
 use Rattle.rt_ids.specs.Lists.{AreDifferent}
 use Rattle.rt_ids.specs.Names.{Names}
-use Rattle.rt_ids.specs.Naming.{irq_name, task_name, section_name, body_name}
+use Rattle.rt_ids.specs.Naming.{irq_name, task_name, section_name, body_name, IsDeclared, IsTask, IsBody}
 use Rattle.rt_ids.specs.declared.ids.BodyId.{BodyId}
 use Rattle.rt_ids.specs.declared.ids.BodyId.TheVariants as body
 use Rattle.rt_ids.specs.declared.ids.Section.{Section}
 use Rattle.rt_ids.specs.declared.ids.Section.TheVariants as section
-use Rattle.rt_code.specs.Listable.{IsPlain, AreWritable, IsDeclared, IsTask, HasSection, HasBody, HasInstr, HasNote}
+use Rattle.rt_code.specs.Listable.{IsPlain, AreWritable, HasSection, HasInstr, HasNote}
 use Rattle.rt_code.specs.declared.instr.Instr.{Instr}
 use Rattle.rt_code.specs.declared.instr.Instr.TheVariants as instr
 use Rattle.rt_code.specs.declared.instr.Note.{Note}
@@ -113,7 +113,7 @@ module _ (names : Names) (good : AreWritable names) where
   section_back (section.Ready p) here short = ap section.Ready (number_back p short.0)
   section_back section.Timer here short = refl
 
-  body_back : (b : BodyId) → HasBody names b → body_of names (body_name names b) ≡ b
+  body_back : (b : BodyId) → IsBody names b → body_of names (body_name names b) ≡ b
   body_back body.Init here = refl
   body_back body.Idle here = refl
   body_back (body.Task t) here =
@@ -127,7 +127,7 @@ module _ (names : Names) (good : AreWritable names) where
   HasName (Number bound) n = IsShort n
   HasName FirstIrqName irq = IsDeclared names irq
   HasName TaskName t = IsTask names t
-  HasName BodyName b = HasBody names b
+  HasName BodyName b = IsBody names b
   HasName SectionName s = HasSection names s × AreShort (section_numbers s)
   HasName k v = ⊥
 

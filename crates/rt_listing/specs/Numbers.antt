@@ -9,8 +9,9 @@ use Rattle.rt_code.specs.declared.image.Handler.{Handler}
 use Rattle.rt_code.specs.declared.instr.Instr.{Instr}
 use Rattle.rt_code.specs.declared.instr.Note.{Note}
 use Rattle.rt_code.specs.declared.instr.Note.TheVariants as note
-use Rattle.rt_lines.specs.Operand.{Kind, Number, SectionName, Value}
+use Rattle.rt_lines.specs.Operand.{Kind, Number, SectionName, Value, HasLevel}
 use Rattle.rt_lines.specs.Table.{Operand}
+use Rattle.rt_lines.specs.Numbers.{Is32Bits}
 use Rattle.rt_listing.specs.Words.{instr_operands, note_operands}
 
 -- a number of 64 bits
@@ -21,13 +22,9 @@ IsShort n = n < 2 ^ 64
 abbrev pub AreShort : List ℕ → Type 0
 AreShort = AllByRecursion IsShort
 
--- a number of 32 bits
-abbrev pub IsWord : ℕ → Type 0
-IsWord n = n < 2 ^ 32
-
 -- numbers of 32 bits
 abbrev pub AreWords : List ℕ → Type 0
-AreWords = AllByRecursion IsWord
+AreWords = AllByRecursion Is32Bits
 
 -- the numbers of a handler, where the interrupt is enabled
 abbrev pub handler_numbers : Option Handler → List ℕ
@@ -58,11 +55,6 @@ abbrev pub note_numbers : Option Note → List ℕ
 note_numbers None = []
 note_numbers (Some n) = operand_numbers (note_operands n)
 
--- the level in the name of a section, where there is one, is of 8 bits
-abbrev pub HasLevel : Section → Type 0
-HasLevel (section.Ready p) = p < 2 ^ 8
-HasLevel s = Unit {0}
-
 -- the level that a note names, where it names one, is of 8 bits
 abbrev pub NamesLevel : Option Note → Type 0
 NamesLevel (Some (note.Enter s)) = HasLevel s
@@ -84,6 +76,6 @@ pub record HasShortNumbers (img : Image) : Type 0 where
 -- bits, and levels of 8 bits.
 pub record HasTypedNumbers (img : Image) : Type 0 where
   pub short : HasShortNumbers img
-  pub cells : AllByRecursion (λ cell. IsWord cell.first) img.cells
+  pub cells : AllByRecursion (λ cell. Is32Bits cell.first) img.cells
   pub instrs : AllByRecursion (λ line. AreWords (instr_numbers line.0)) img.code
   pub levels : AllByRecursion (λ line. NamesLevel line.1) img.code

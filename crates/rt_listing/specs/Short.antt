@@ -1,11 +1,12 @@
 -- Rows of an image that have only short numbers, and such in the range of their types.
 use Rattle.std.specs.Prelude.{[], ◌∷◌, Option}
+use Rattle.rt_lines.specs.Numbers.{Is32Bits}
 use Rattle.rt_ids.specs.declared.cell.CellRow.{CellRow}
 use Rattle.rt_code.specs.declared.image.IrqRow.{IrqRow}
 use Rattle.rt_code.specs.declared.image.BodyRow.{BodyRow}
 use Rattle.rt_code.specs.declared.instr.Instr.{Instr}
 use Rattle.rt_code.specs.declared.instr.Note.{Note}
-use Rattle.rt_listing.specs.Numbers.{IsShort, AreShort, handler_numbers, instr_numbers, note_numbers, IsWord, AreWords}
+use Rattle.rt_listing.specs.Numbers.{IsShort, AreShort, handler_numbers, instr_numbers, note_numbers, AreWords}
 use Rattle.rt_listing.specs.Numbers.{NamesLevel}
 
 -- the first value of a cell is of 64 bits
@@ -30,7 +31,7 @@ HasShortNote line = AreShort (note_numbers line.1)
 
 -- the first value of a cell is of 32 bits
 abbrev pub IsWordCell : CellRow → Type 0
-IsWordCell cell = IsWord cell.first
+IsWordCell cell = Is32Bits cell.first
 
 -- the operands of an instruction are of 32 bits
 abbrev pub HasWordInstr : Instr × Option Note → Type 0

@@ -4,9 +4,11 @@ ghost use Rattle.std.specs.Prelude.{◌≡◌, ◌∷◌, ◌++◌, flat_map, On
 ghost use Rattle.rt_ids.specs.Naming.{section_name};
 ghost use Rattle.rt_ids.specs.Naming as name;
 ghost use Rattle.rt_lines.specs.Table.{spaced_text};
+ghost use Rattle.rt_lines.specs.Numbers.{Is32Bits};
+ghost use Rattle.rt_lines.specs.Operand.{HasLevel};
 ghost use Rattle.rt_listing.specs.Words.{spaced_number, instr_words, note_words, noted_words};
 ghost use Rattle.rt_listing.specs.Words as word;
-ghost use Rattle.rt_listing.specs.Numbers.{IsShort, AreShort, IsWord, AreWords, HasLevel, NamesLevel};
+ghost use Rattle.rt_listing.specs.Numbers.{IsShort, AreShort, AreWords, NamesLevel};
 ghost use Rattle.rt_listing.specs.Numbers.{instr_numbers, section_numbers, note_numbers};
 
 use crate::names::{body_name, irq_name, resource_name, task_name};
@@ -18,7 +20,7 @@ use rt_ids::{Irq, Names, NoMemory, Op, Section, TaskId, push_bytes, push_number}
 pub(crate) fn push_spaced(out: &mut Vec<u8>, number: u32) -> Result<(), NoMemory>
     ensures text { OnOk result (out.new.items ≡ out.old.items ++ spaced_number number) }
     ensures short { IsShort number }
-    ensures word { IsWord number }
+    ensures word { Is32Bits number }
 {
     push_bytes(out, b" ")?;
     push_number(out, number)

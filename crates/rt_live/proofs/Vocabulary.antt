@@ -59,7 +59,7 @@ pub use Rattle.rt_code.specs.{Image.Image, Lines.HasLines}
 pub use Rattle.rt_core.specs.{Core.Core, Core.reset, Machine.IsFresh, Machine.Machine, Stepping.step, Trace.core_after}
 pub use Rattle.rt_core.specs.{Trace.labels, Trace.trace}
 pub use Rattle.rt_devices.specs.{Work.interrupt_asked, Work.requests, declared.device.Device.Device as DeviceThread}
-pub use Rattle.rt_lines.specs.{Operand.IsDeclared}
+pub use Rattle.rt_ids.specs.Naming.{IsDeclared}
 pub use Rattle.rt_outside.specs.{Bytes.Took, Bytes.TookPrefix}
 pub use Rattle.rt_run.specs.{Done.Leads, Sending.Breaks, Sending.Sends, Sending.lines_of}
 pub use Rattle.rt_trace.specs.{Label.items_of, Text.text, Text.total_text, declared.item.What.What}

@@ -3,7 +3,7 @@ use Rattle.std.specs.Int.{bit_at}
 use Rattle.std.specs.Prelude.{Option, Some, length, ℕ, ◌*◌, ◌+◌, ◌-◌, ◌<◌, ◌^◌, ◌≡◌, ◌≤◌}
 use Rattle.rt_core.specs.Machine.{Machine}
 use Rattle.rt_ids.specs.{Names.Names, declared.limits.TheConstants.IRQ_NUMBERS}
-use Rattle.rt_lines.specs.Operand.{IsDeclared}
+use Rattle.rt_ids.specs.Naming.{IsDeclared}
 use Rattle.rt_run.specs.Writable.{IsWritable}
 use Rattle.rt_words.specs.Lines.{Line, Row, count}
 use Rattle.rt_words.specs.{Object.IsPending, Row.bit_in_row, Row.word_in_row, declared.row.TheConstants.CORE_WORDS}

@@ -4,7 +4,7 @@ use Rattle.std.specs.List.{AllByRecursion}
 use Rattle.std.specs.Prelude.{Bool, List, Option, [], false, if◌then◌else◌, length, map, true, ℕ, ◌++◌, ◌∷◌, ◌≡◌, ◌≤◌}
 use Rattle.rt_core.specs.Machine.{Machine}
 use Rattle.rt_ids.specs.{Event.Event, Names.Names}
-use Rattle.rt_lines.specs.Operand.{IsDeclared}
+use Rattle.rt_ids.specs.Naming.{IsDeclared}
 use Rattle.rt_run.specs.Sending.{Breaks, Sends}
 use Rattle.rt_trace.specs.declared.item.What.{What}
 use Rattle.rt_words.specs.{Row.word_in_row, declared.call.Call.Call, declared.row.TheConstants.CORE_WORDS, Lines.Line}

@@ -6,11 +6,11 @@ use Rattle.std.proofs.lemmas.Bool.{eqb-true, ne_eqb}
 use Rattle.std.proofs.lemmas.List.Splits.{join_with_byte-slice_split}
 use Rattle.rt_lemmas.proofs.Bools.{true_and_false}
 use Rattle.rt_lemmas.proofs.Membership.{all_weaker}
-use Rattle.rt_lines.specs.Parts.{parts}
+use Rattle.rt_lines.specs.Parts.{parts, line_with_feed}
 use Rattle.rt_lines.proofs.Apart.{same_cons}
 use Rattle.rt_lines.proofs.Splitting.{split_some}
 use Rattle.rt_lines.proofs.Words.{first_part}
-use Rattle.rt_load.specs.Reading.{line_with_feed, IsOneLine, Form}
+use Rattle.rt_load.specs.Reading.{IsOneLine, Form}
 use Rattle.rt_load.specs.Inside.Reader.{fed_lines, ended, take, told, step, listing_reader}
 use Rattle.rt_load.specs.declared.front.Front.{Front}
 

@@ -18,8 +18,9 @@ use Rattle.rt_listing.specs.Listing.{form_word, first_words, first_line}
 use Rattle.rt_listing.proofs.Lines.{row_text, first_row, cell_row, irq_row, body_row, code_row, numbered}
 use Rattle.rt_listing.proofs.Lines.{code_rows, body_rows, irq_rows, listing_rows}
 use Rattle.rt_lines.proofs.Numerals.{number_spelled}
-use Rattle.rt_load.specs.Loadable.{IsLoadable, IsLineWithin, Is32Bits}
-use Rattle.rt_load.specs.Reading.{line_with_feed}
+use Rattle.rt_lines.specs.Numbers.{Is32Bits}
+use Rattle.rt_lines.specs.Parts.{line_with_feed}
+use Rattle.rt_load.specs.Loadable.{IsLoadable, IsLineWithin}
 use Rattle.rt_load.specs.Inside.Operand.{number_at, word_at, of_line}
 use Rattle.rt_load.specs.Inside.Noting.{line_at}
 use Rattle.rt_load.specs.Inside.Rows.{three_at}

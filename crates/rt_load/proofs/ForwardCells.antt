@@ -14,9 +14,10 @@ use Rattle.rt_ids.proofs.Declared.{next_resource}
 use Rattle.rt_code.specs.Image.{Image}
 use Rattle.rt_code.specs.Listable.{IsWord}
 use Rattle.rt_lines.specs.Answers.{and_then, and_make}
+use Rattle.rt_lines.specs.Numbers.{Is32Bits}
 use Rattle.rt_listing.specs.Listing.{cell_line}
 use Rattle.rt_listing.proofs.Lines.{cell_row, numbered}
-use Rattle.rt_load.specs.Loadable.{IsLoadable, Is32Bits, has_dot}
+use Rattle.rt_load.specs.Loadable.{IsLoadable, has_dot}
 use Rattle.rt_load.specs.Inside.Rows.{cell_at}
 use Rattle.rt_load.specs.Inside.Taking.{if_line, has_blank, is_new_resource, may_name_cell, is_in_cells, may_add_cell}
 use Rattle.rt_load.specs.Inside.Taking.{with_name_of, and_cell, next_cell, take_words, take_line}

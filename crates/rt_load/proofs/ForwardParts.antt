@@ -12,8 +12,8 @@ use Rattle.rt_ids.specs.Word.{IsName}
 use Rattle.rt_code.specs.Listable.{IsWord}
 use Rattle.rt_lines.specs.Reading.{Lead}
 use Rattle.rt_lines.proofs.Reading.{lead_append}
+use Rattle.rt_lines.specs.Parts.{line_with_feed}
 use Rattle.rt_listing.proofs.Lines.{Row, row_text}
-use Rattle.rt_load.specs.Reading.{line_with_feed}
 use Rattle.rt_load.specs.Inside.Taking.{if_line, may_declare, has_blank, take_line}
 use Rattle.rt_load.specs.Inside.Reader.{told, listing_reader}
 use Rattle.rt_load.specs.declared.front.Front.{Front}

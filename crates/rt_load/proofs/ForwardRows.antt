@@ -22,8 +22,8 @@ use Rattle.rt_listing.specs.Listing.{irq_line, body_line, handler_words}
 use Rattle.rt_listing.proofs.Lines.{irq_row, body_row, numbered}
 use Rattle.rt_lines.specs.Table.{spaced_text}
 use Rattle.rt_lines.proofs.Numerals.{number_spelled}
+use Rattle.rt_lines.specs.Parts.{line_with_feed}
 use Rattle.rt_load.specs.Loadable.{IsLoadable, IsIrqWithin, IsHandlerWithin, IsBodyWithin}
-use Rattle.rt_load.specs.Reading.{line_with_feed}
 use Rattle.rt_load.specs.Inside.Operand.{number_at, word_at}
 use Rattle.rt_load.specs.Inside.Rows.{handler_at, irq_row_at, body_row_at}
 use Rattle.rt_load.specs.Inside.Taking.{if_line, is_new_irq, is_new_task, may_add_irq, may_add_body, has_cells, and_irq}

@@ -3,6 +3,7 @@ use Rattle.std.proofs.Common.{◌≡◌, ◌⊎◌, ◌≤◌, ◌+◌, ℕ, zer
 use Rattle.std.proofs.Common.{length, flat_map, if◌then◌else◌, refl, ap, sym, ◌∙◌, arith, append_assoc, append-nil}
 use Rattle.std.specs.List.{Contains}
 use Rattle.std.proofs.lemmas.List.Concat.{flat_map-append}
+use Rattle.rt_lines.specs.Numbers.{Is32Bits}
 use Rattle.rt_lemmas.proofs.Bools.{not_true, left_of_none, right_of_none, true_and_false}
 use Rattle.rt_ids.specs.Lists.{is_empty}
 use Rattle.rt_ids.specs.Names.{Names, resource_of}
@@ -10,7 +11,7 @@ use Rattle.rt_ids.specs.declared.limits.TheConstants.{CODE_SIZE, SHARED}
 use Rattle.rt_code.specs.Image.{Image}
 use Rattle.rt_code.specs.Listable.{IsWord, blanks}
 use Rattle.rt_listing.specs.Listing.{first_line, lines_with_numbers, cell_line, irq_line, body_line, code_line}
-use Rattle.rt_load.specs.Loadable.{IsLoadable, Is32Bits, has_dot}
+use Rattle.rt_load.specs.Loadable.{IsLoadable, has_dot}
 use Rattle.rt_load.specs.Inside.Taking.{has_blank, may_name_cell, is_new_resource}
 use Rattle.rt_load.specs.declared.front.Front.{Front}
 use Rattle.rt_load.proofs.Declared.{IsNew, new_from}

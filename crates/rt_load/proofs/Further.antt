@@ -12,7 +12,7 @@ use Rattle.std.proofs.lemmas.List.Folds.{find-append}
 use Rattle.std.proofs.lemmas.Option.{none-some, same_Some}
 use Rattle.std.proofs.lemmas.Slice.Eq.{bytes_eq-Decides}
 use Rattle.rt_lemmas.proofs.Bools.{and_left, and_right, not_true}
-use Rattle.rt_lemmas.proofs.Lists.{all_front, all_behind, all_unmap, mapped_at}
+use Rattle.rt_lemmas.proofs.Lists.{all_front, all_behind, all_unmap, mapped_at, found_passes}
 use Rattle.rt_lemmas.proofs.Membership.{any_left, any_right}
 use Rattle.rt_lemmas.proofs.Texts.{same_text}
 use Rattle.rt_ids.specs.Lists.{AreDifferent}
@@ -24,7 +24,7 @@ use Rattle.rt_ids.proofs.Lists.{is_some-position, is_some-find}
 use Rattle.rt_lines.specs.Answers.{and_then}
 use Rattle.rt_lines.specs.Operand.{irq_at, if_first, first_irq_at}
 use Rattle.rt_lines.specs.declared.operand.Wrong.TheVariants as wrong
-use Rattle.rt_lines.proofs.Found.{found_at, found_passes, key_found}
+use Rattle.rt_lines.proofs.Found.{found_at, key_found}
 use Rattle.rt_lines.proofs.More.{IsOk, IsOkOrName, HasNames}
 use Rattle.rt_lines.proofs.Spelled.{has_name}
 use Rattle.rt_load.specs.Reading.{AreMore}

@@ -2,12 +2,12 @@
 use Rattle.std.proofs.Common.{◌≡◌, false, ℕ, List, [], ◌∷◌, ◌++◌, length, map, flat_map, codes, refl, ap, sym, ◌∙◌}
 use Rattle.std.specs.List.{AllByRecursion}
 use Rattle.std.proofs.lemmas.List.Concat.{flat_map-append}
-use Rattle.rt_lemmas.proofs.Lists.{all_append, all_map}
+use Rattle.rt_lemmas.proofs.Lists.{all_append, all_map, none_asked}
 use Rattle.rt_code.specs.Image.{Image}
 use Rattle.rt_code.specs.Lines.{HasLines}
 use Rattle.rt_lines.proofs.Unbroken.{IsUnbroken, fed}
 use Rattle.rt_listing.specs.Listing.{listing}
-use Rattle.rt_listing.proofs.Lines.{row_text, first_row, cell_rows, listing_rows, IsFreeRow, row_unbroken, every}
+use Rattle.rt_listing.proofs.Lines.{row_text, first_row, cell_rows, listing_rows, IsFreeRow, row_unbroken}
 use Rattle.rt_listing.proofs.Lines.{rows_all}
 use Rattle.rt_trace.specs.Reading.{ends_listing}
 use Rattle.rt_trace.specs.TraceLines.{IsListing}
@@ -32,7 +32,7 @@ heading_unbroken img lines =
 rows_endless : (img : Image) → AllByRecursion (λ row. ends_listing (row_text row) ≡ false) (listing_rows img)
 rows_endless img =
     rows_all (λ row. ends_listing (row_text row) ≡ false) (λ cell. Unit {0}) (λ row. Unit {0}) img refl
-    (λ n cell any. refl) (λ row any. refl) (λ row. refl) (λ n code. refl) (every img.cells) (every img.irqs)
+    (λ n cell any. refl) (λ row any. refl) (λ row. refl) (λ n code. refl) (none_asked img.cells) (none_asked img.irqs)
 
 pub heading_passed : (img : Image) → IsListing (heading_of img)
 heading_passed img =

@@ -4,9 +4,10 @@ use Rattle.std.proofs.Common.{refl, ap, sym, ◌∙◌, subst, append_assoc, app
 use Rattle.std.specs.List.{AllByRecursion}
 use Rattle.rt_code.specs.Image.{Image}
 use Rattle.rt_lines.specs.Reading.{Lead}
+use Rattle.rt_lines.specs.Parts.{line_with_feed}
 use Rattle.rt_listing.specs.Listing.{listing}
 use Rattle.rt_load.specs.Loadable.{IsLoadable}
-use Rattle.rt_load.specs.Reading.{line_with_feed, IsOneLine, Fault}
+use Rattle.rt_load.specs.Reading.{IsOneLine, Fault}
 use Rattle.rt_load.specs.Inside.Reader.{fed_lines, fault_of, take, told, listing_reader}
 use Rattle.rt_load.specs.declared.front.Front.{Front}
 use Rattle.rt_load.specs.declared.operand.Wrong.{Wrong}

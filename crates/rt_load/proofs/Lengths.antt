@@ -1,11 +1,11 @@
 -- How long a listing gets.
-use Rattle.std.proofs.Common.{ℕ, zero, suc, ◌+◌, ◌*◌, ◌≤◌, ◌/◌, ◌%◌, Bool, true, false, cond, eqb, List, [], ◌∷◌}
+use Rattle.std.proofs.Common.{ℕ, suc, ◌+◌, ◌*◌, ◌≤◌, Bool, true, false, List, [], ◌∷◌}
 use Rattle.std.proofs.Common.{◌++◌, length, map, codes, decimal, Option, Some, None, Contains, ap}
 use Rattle.std.proofs.Common.{arith, length-append}
-use Rattle.std.specs.Fmt.{digits, digits_onto, digit_glyph}
 use Rattle.std.specs.List.{AllByRecursion}
 use Rattle.std.proofs.lemmas.List.Concat.{flat_map-append}
 use Rattle.rt_lemmas.proofs.Membership.{all_has}
+use Rattle.rt_lemmas.proofs.Texts.{decimal_few}
 use Rattle.rt_ids.specs.Names.{Names, AreNames}
 use Rattle.rt_ids.specs.Naming.{section_name, task_name}
 use Rattle.rt_ids.specs.Word.{IsName}
@@ -34,21 +34,6 @@ use Rattle.rt_listing.specs.Words.{op_word, instr_first, instr_operands, instr_w
 use Rattle.rt_listing.specs.Words.{noted_words}
 use Rattle.rt_listing.proofs.Lines.{Row, row_text, first_row, cell_row, irq_row, body_row, code_row, listing_rows}
 use Rattle.rt_listing.proofs.Lines.{rows_text, listing_text, rows_all, rows_long}
-
--- a number has at most 64 digits
-digits_few : (k n : ℕ) (more : List ℕ) → length (digits_onto k 10 false n more) ≤ k + length more
-digits_few zero n more = omega arith
-digits_few (suc k) n more = by (digits_few k (n / 10) (digit_glyph false (n % 10) ∷ more)) (eqb (n / 10) 0)
-  where
-    by : length (digits_onto k 10 false (n / 10) (digit_glyph false (n % 10) ∷ more)) ≤ k + suc (length more)
-        → (b : Bool) → length (cond b (digit_glyph false (n % 10) ∷ more)
-        (digits_onto k 10 false (n / 10) (digit_glyph false (n % 10) ∷ more))) ≤ suc k + length more
-    by rest true = omega arith
-    by rest false = omega (arith, rest)
-
-pub decimal_few : (n : ℕ) → length (decimal n) ≤ 64
-unfolding digits
-decimal_few n = digits_few 64 n []
 
 -- words have no more than so many bytes, each
 abbrev AreFew : List (List ℕ) → List ℕ → Type 0

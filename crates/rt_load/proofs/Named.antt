@@ -18,7 +18,7 @@ use Rattle.rt_code.specs.declared.instr.Note.{Note}
 use Rattle.rt_lines.specs.Answers.{and_then, and_make}
 use Rattle.rt_lines.specs.Numbers.{number_below}
 use Rattle.rt_lines.specs.Operand as operand
-use Rattle.rt_lines.specs.Parts.{words}
+use Rattle.rt_lines.specs.Parts.{words, line_with_feed}
 use Rattle.rt_lines.specs.Table.{Row, both}
 use Rattle.rt_lines.specs.declared.operand.Wrong as answer
 use Rattle.rt_lines.specs.declared.operand.Wrong.TheVariants as word
@@ -28,7 +28,7 @@ use Rattle.rt_lines.proofs.Words.{spaced_words_of}
 use Rattle.rt_listing.specs.Listing.{code_line, code_words}
 use Rattle.rt_listing.specs.Words.{instr_rows, note_rows}
 use Rattle.rt_load.specs.Loadable.{IsIrqWithin}
-use Rattle.rt_load.specs.Reading.{line_with_feed, IsOfUnknownName, AreMore}
+use Rattle.rt_load.specs.Reading.{IsOfUnknownName, AreMore}
 use Rattle.rt_load.specs.Inside.Operand.{number_at, of_line, is_end, in_front, behind}
 use Rattle.rt_load.specs.Inside.Noting.{words_at, note_after, line_at}
 use Rattle.rt_load.specs.Inside.Rows.{only, three, three_at, cell_at, service_at, handler_at, irq_row_at, body_row_at}

@@ -8,8 +8,8 @@ use Rattle.rt_code.specs.declared.image.IrqRow.{IrqRow}
 use Rattle.rt_ids.specs.Names.{Names, with_task}
 use Rattle.rt_code.specs.declared.image.BodyRow.{BodyRow}
 use Rattle.rt_lines.specs.Answers.{and_then, and_make}
+use Rattle.rt_lines.specs.Parts.{line_with_feed}
 use Rattle.rt_listing.specs.Listing.{cell_line, irq_line, body_line}
-use Rattle.rt_load.specs.Reading.{line_with_feed}
 use Rattle.rt_load.specs.Inside.Rows.{cell_at, irq_row_at, body_row_at}
 use Rattle.rt_load.specs.Inside.Taking.{if_line, may_name_cell, is_in_cells, may_add_cell, has_cells, is_new_irq}
 use Rattle.rt_load.specs.Inside.Taking.{may_add_irq, may_add_body, next_cell, next_irq, and_body, take_body}

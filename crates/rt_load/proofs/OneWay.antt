@@ -11,10 +11,11 @@ use Rattle.rt_lines.proofs.Apart.{same_cons}
 use Rattle.rt_lines.proofs.Reading as reading
 use Rattle.rt_lines.specs.Reading as reader
 use Rattle.rt_lines.specs.Reading.{Lead, IsRead, IsWrongNext}
+use Rattle.rt_lines.specs.Parts.{line_with_feed}
 use Rattle.rt_listing.specs.Listing.{listing}
 use Rattle.rt_load.specs.Laws.{AreReadOneWay}
 use Rattle.rt_load.specs.Loadable.{IsLoadable}
-use Rattle.rt_load.specs.Reading.{IsListingText, IsViablePrefix, line_with_feed, IsOneLine, IsFirstWrongLine, IsWrong}
+use Rattle.rt_load.specs.Reading.{IsListingText, IsViablePrefix, IsOneLine, IsFirstWrongLine, IsWrong}
 use Rattle.rt_load.specs.Reading.{IsFault}
 use Rattle.rt_load.specs.Reading.{Fault, Form, Name}
 use Rattle.rt_load.specs.Inside.Reader.{fed_lines, is_whole, listing_reader}

@@ -14,11 +14,11 @@ use Rattle.rt_code.specs.declared.image.IrqRow.{IrqRow}
 use Rattle.rt_code.specs.declared.image.BodyRow.{BodyRow}
 use Rattle.rt_code.specs.declared.image.Handler.{Handler}
 use Rattle.rt_lines.specs.Answers.{and_then, and_make}
-use Rattle.rt_lines.specs.Parts.{words}
+use Rattle.rt_lines.specs.Parts.{words, line_with_feed}
 use Rattle.rt_lines.proofs.Words.{spaced_words_of}
+use Rattle.rt_lines.specs.Numbers.{Is32Bits}
 use Rattle.rt_listing.specs.Listing.{first_line, cell_line, irq_line, body_line, code_line, code_words}
-use Rattle.rt_load.specs.Loadable.{IsIrqWithin, IsHandlerWithin, IsBodyWithin, Is32Bits}
-use Rattle.rt_load.specs.Reading.{line_with_feed}
+use Rattle.rt_load.specs.Loadable.{IsIrqWithin, IsHandlerWithin, IsBodyWithin}
 use Rattle.rt_load.specs.Inside.Operand.{number_at, word_at, of_line}
 use Rattle.rt_load.specs.Inside.Noting.{line_at}
 use Rattle.rt_load.specs.Inside.Rows.{only, three, three_at, cell_at, service_at, handler_at, irq_row_at, body_row_at}

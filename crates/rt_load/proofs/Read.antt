@@ -4,11 +4,10 @@ use Rattle.std.proofs.Common.{Result, Ok, Err, if◌then◌else◌, refl, ap, ar
 use Rattle.std.specs.Option.{ok_or}
 use Rattle.std.proofs.lemmas.Slice.Eq.{bytes_eq-Decides}
 use Rattle.rt_lines.specs.Answers.{and_then, and_make}
-use Rattle.rt_lines.specs.Numbers.{number_below}
+use Rattle.rt_lines.specs.Numbers.{number_below, Is32Bits}
 use Rattle.rt_lines.specs.declared.operand.Wrong as answer
 use Rattle.rt_lines.proofs.Numerals.{number_spelled, number_spelling}
-use Rattle.rt_load.specs.Loadable.{Is32Bits}
-use Rattle.rt_load.specs.Reading.{line_with_feed}
+use Rattle.rt_lines.specs.Parts.{line_with_feed}
 use Rattle.rt_load.specs.Inside.Operand.{number_at, word_at, of_line}
 use Rattle.rt_load.specs.Inside.Taking.{if_line}
 use Rattle.rt_load.specs.declared.operand.Wrong.{Wrong}

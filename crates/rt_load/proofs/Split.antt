@@ -1,6 +1,7 @@
 -- The lines of a listing.
 use Rattle.std.proofs.Common.{◌≡◌, map, flat_map, sym, ◌∙◌, arith, refl}
 use Rattle.std.specs.List.{AllByRecursion}
+use Rattle.rt_lines.specs.Parts.{line_with_feed}
 use Rattle.rt_lemmas.proofs.Lists.{all_map, flat_map-map}
 use Rattle.rt_code.specs.Image.{Image}
 use Rattle.rt_code.specs.Listable.{IsListable}
@@ -8,7 +9,7 @@ use Rattle.rt_listing.specs.Listing.{listing}
 use Rattle.rt_listing.proofs.Apart.{free_of}
 use Rattle.rt_listing.proofs.Lines.{row_text, listing_rows, listing_text, IsFreeRow, rows_free}
 use Rattle.rt_load.specs.Loadable.{IsLoadable}
-use Rattle.rt_load.specs.Reading.{line_with_feed, IsOneLine}
+use Rattle.rt_load.specs.Reading.{IsOneLine}
 use Rattle.rt_load.proofs.{Lines.line_of_free, Forward.listing_lines}
 
 pub listing_fed : (img : Image) → listing img ≡ flat_map line_with_feed (map row_text (listing_rows img))

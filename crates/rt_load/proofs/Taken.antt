@@ -6,25 +6,26 @@ use Rattle.std.specs.List.{AllByRecursion}
 use Rattle.std.proofs.lemmas.Bool.{ltb-true, eqb-true}
 use Rattle.std.proofs.lemmas.List.{map_push, get_or_push, get_or_append_left}
 use Rattle.std.proofs.lemmas.List.Elements.{filter-append}
+use Rattle.rt_lines.specs.Numbers.{Is32Bits}
 use Rattle.rt_lemmas.proofs.Bools.{and_parts}
 use Rattle.rt_lemmas.proofs.Membership.{all_weaker}
 use Rattle.rt_lemmas.proofs.Lists.{map_alike}
 use Rattle.rt_ids.specs.Lists.{is_empty}
 use Rattle.rt_ids.specs.Names.{Names, AreNames, irq_of, task_of, with_irq, with_task}
-use Rattle.rt_ids.specs.Naming.{task_name}
+use Rattle.rt_ids.specs.Naming.{task_name, IsTask}
 use Rattle.rt_ids.specs.declared.cell.CellRow.{CellRow}
 use Rattle.rt_ids.specs.declared.limits.TheConstants.{IRQS, TASKS}
 use Rattle.rt_ids.proofs.Lists.{all_push}
 use Rattle.rt_ids.proofs.Declared.{irq_added, task_added, resource_added}
 use Rattle.rt_code.specs.Image.{Image}
-use Rattle.rt_code.specs.Listable.{IsWord, IsPlain, IsTask, HasInstr, HasNote}
+use Rattle.rt_code.specs.Listable.{IsWord, IsPlain, HasInstr, HasNote}
 use Rattle.rt_code.proofs.Writable.{names_writable, plain}
 use Rattle.rt_code.specs.declared.image.IrqRow.{IrqRow}
 use Rattle.rt_code.specs.declared.image.BodyRow.{BodyRow}
 use Rattle.rt_code.specs.declared.instr.Instr.{Instr}
 use Rattle.rt_code.specs.declared.instr.Note.{Note}
 use Rattle.rt_listing.specs.Listing.{first_line, lines_with_numbers, cell_line, irq_line, body_line, code_line}
-use Rattle.rt_load.specs.Loadable.{IsLoadable, IsIrqWithin, IsBodyWithin, IsLineWithin, Is32Bits, has_dot}
+use Rattle.rt_load.specs.Loadable.{IsLoadable, IsIrqWithin, IsBodyWithin, IsLineWithin, has_dot}
 use Rattle.rt_load.specs.Inside.Taking.{with_name_of, may_name_cell, is_in_cells, has_cells, may_add_cell, may_add_irq}
 use Rattle.rt_load.specs.Inside.Taking.{may_add_body, may_add_line, and_cell, and_irq, and_body, and_line, is_new_irq}
 use Rattle.rt_load.specs.Inside.Taking.{is_new_task}

@@ -13,7 +13,7 @@ use Rattle.rt_code.specs.declared.instr.Instr.{Instr}
 use Rattle.rt_code.specs.declared.instr.Instr.TheVariants as instr
 use Rattle.rt_code.specs.declared.instr.Note.{Note}
 use Rattle.rt_lines.specs.Answers.{and_make}
-use Rattle.rt_lines.specs.Parts.{parts, words}
+use Rattle.rt_lines.specs.Parts.{parts, words, line_with_feed}
 use Rattle.rt_lines.specs.Reading.{Lead}
 use Rattle.rt_lines.specs.Table.{both, spaced_text}
 use Rattle.rt_lines.specs.declared.operand.Wrong as answer
@@ -21,13 +21,14 @@ use Rattle.rt_lines.specs.declared.operand.Wrong.TheVariants as word
 use Rattle.rt_lines.proofs.Apart.{same_cons}
 use Rattle.rt_lines.proofs.Reading.{kept}
 use Rattle.rt_lines.proofs.More.{AreKnown, IsOkOrName, made_name, both_name, said_over}
+use Rattle.rt_lines.specs.Numbers.{Is32Bits}
 use Rattle.rt_listing.specs.Listing.{cell_line, irq_line, body_line, code_words}
 use Rattle.rt_listing.specs.Words.{instr_rows, instr_first, instr_operands, instr_words, note_rows, note_first}
 use Rattle.rt_listing.specs.Words.{note_operands, note_words, noted_words}
 use Rattle.rt_listing.proofs.Lines.{code_row}
 use Rattle.rt_listing.proofs.Told.{IsAny, instrs_agree, notes_agree}
-use Rattle.rt_load.specs.Loadable.{Is32Bits, IsNoteWithin}
-use Rattle.rt_load.specs.Reading.{line_with_feed, IsOneLine, AreMore, IsOfUnknownName}
+use Rattle.rt_load.specs.Loadable.{IsNoteWithin}
+use Rattle.rt_load.specs.Reading.{IsOneLine, AreMore, IsOfUnknownName}
 use Rattle.rt_load.specs.Inside.Operand.{of_line, behind}
 use Rattle.rt_load.specs.Inside.Noting.{words_at, note_after, line_at}
 use Rattle.rt_load.specs.Inside.Rows.{cell_at, irq_row_at, body_row_at}

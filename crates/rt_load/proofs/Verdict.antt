@@ -8,9 +8,10 @@ use Rattle.std.proofs.lemmas.Option.{none-some}
 use Rattle.rt_lemmas.proofs.Bools.{and_parts, and_both}
 use Rattle.rt_code.specs.Image.{Image}
 use Rattle.rt_lines.specs.Reading.{Lead, IsWrongNext}
+use Rattle.rt_lines.specs.Parts.{line_with_feed}
 use Rattle.rt_listing.specs.Listing.{listing}
 use Rattle.rt_load.specs.Loadable.{IsLoadable}
-use Rattle.rt_load.specs.Reading.{IsViablePrefix, line_with_feed, IsOneLine, Fault, Form, IsFault, IsOfUnknownName}
+use Rattle.rt_load.specs.Reading.{IsViablePrefix, IsOneLine, Fault, Form, IsFault, IsOfUnknownName}
 use Rattle.rt_load.specs.Inside.Reader.{fed_lines, fault_of, take, is_whole, listing_reader}
 use Rattle.rt_load.specs.Inside.Taking.{front_of, is_complete, has_cells}
 use Rattle.rt_load.specs.declared.front.Front.{Front}

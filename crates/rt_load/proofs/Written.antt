@@ -9,14 +9,15 @@ use Rattle.rt_ids.specs.declared.ids.BodyId.TheVariants as body
 use Rattle.rt_ids.specs.declared.ids.Section.{Section}
 use Rattle.rt_ids.specs.declared.ids.Section.TheVariants as section
 use Rattle.rt_ids.specs.Names.{Names, AreNames}
-use Rattle.rt_code.specs.Listable.{HasSection, HasBody, HasInstr, HasNote}
+use Rattle.rt_ids.specs.Naming.{IsBody}
+use Rattle.rt_code.specs.Listable.{HasSection, HasInstr, HasNote}
 use Rattle.rt_code.specs.declared.instr.Instr.{Instr}
 use Rattle.rt_code.specs.declared.instr.Instr.TheVariants as instr
 use Rattle.rt_code.specs.declared.instr.Note.{Note}
 use Rattle.rt_code.specs.declared.instr.Note.TheVariants as note
 use Rattle.rt_lines.specs.Answers.{and_make}
-use Rattle.rt_lines.specs.Numbers.{number_below}
-use Rattle.rt_lines.specs.Operand.{IsBody, IsSection, number_at}
+use Rattle.rt_lines.specs.Numbers.{number_below, Is32Bits}
+use Rattle.rt_lines.specs.Operand.{IsSection, number_at, HasLevel}
 use Rattle.rt_lines.specs.Table.{both, IsWritten, said_at}
 use Rattle.rt_lines.specs.declared.operand.Wrong.{Wrong}
 use Rattle.rt_lines.specs.declared.operand.Wrong.TheVariants as wrong
@@ -28,7 +29,7 @@ use Rattle.rt_listing.specs.Numbers.{instr_numbers}
 use Rattle.rt_listing.specs.Words.{instr_rows, instr_first, instr_operands, instr_words, note_rows, note_first}
 use Rattle.rt_listing.specs.Words.{note_operands, noted_words}
 use Rattle.rt_listing.proofs.Told.{IsAny, instrs_agree, notes_agree}
-use Rattle.rt_load.specs.Loadable.{Is32Bits, HasLevel, IsNoteWithin, IsLineWithin}
+use Rattle.rt_load.specs.Loadable.{IsNoteWithin, IsLineWithin}
 use Rattle.rt_load.specs.Inside.Operand.{in_front, behind}
 use Rattle.rt_load.specs.Inside.Noting.{words_at, note_after, line_at}
 use Rattle.rt_load.proofs.Lines.{code_cut, words_cut, note_part, noted_is, end_words}
@@ -47,11 +48,7 @@ section_right names (section.Free t) h = (h, tt)
 section_right names (section.Ready p) h = (tt, h)
 section_right names section.Timer h = (tt, tt)
 
-body_has : (names : Names) (b : BodyId) → HasBody names b → IsBody names b
-body_has names (body.Task t) has = has
-body_has names b has = tt
-
-body_right : (names : Names) (b : BodyId) → IsBody names b → HasBody names b
+body_right : (names : Names) (b : BodyId) → IsBody names b → IsBody names b
 body_right names (body.Task t) h = h
 body_right names b h = tt
 
@@ -75,7 +72,7 @@ note_has names (note.Start t s) has within = (has, (within, tt))
 note_has names (note.Arm t s) has within = (has, (within, tt))
 note_has names (note.Cancel t s) has within = (has, (within, tt))
 note_has names (note.Move t s a) has within = (has, (within.0, (within.1, tt)))
-note_has names (note.End b) has within = (body_has names b has, tt)
+note_has names (note.End b) has within = (has, tt)
 note_has names n has within = (has, tt)
 
 note_right : (names : Names) (n : Note) → AllByRecursion (IsWritten names) (note_operands n)

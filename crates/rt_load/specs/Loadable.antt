@@ -3,10 +3,10 @@
 -- do, so that the listing alone tells them. The limits and the listing are this project's own. The code reads lines.
 use Rattle.std.specs.Prelude.{◌≡◌, ℕ, ◌<◌, ◌≤◌, ◌^◌, ◌==◌, Bool, not, List, length, map, filter, Option, Some, None}
 use Rattle.std.specs.List.{AllByRecursion, list_any}
+use Rattle.rt_lines.specs.Numbers.{Is32Bits}
+use Rattle.rt_lines.specs.Operand.{HasLevel}
 use Rattle.rt_ids.specs.Names.{Names, AreNames}
 use Rattle.rt_ids.specs.Naming.{task_name}
-use Rattle.rt_ids.specs.declared.ids.Section.{Section}
-use Rattle.rt_ids.specs.declared.ids.Section.TheVariants as section
 use Rattle.rt_ids.specs.declared.limits.TheConstants.{IRQ_NUMBERS, ARGUMENTS, CODE_SIZE, LEAST_BITS, MOST_BITS}
 use Rattle.rt_code.specs.Image.{Image}
 use Rattle.rt_code.specs.Listable.{IsListable}
@@ -17,10 +17,6 @@ use Rattle.rt_code.specs.declared.instr.Instr.{Instr}
 use Rattle.rt_code.specs.declared.instr.Note.{Note}
 use Rattle.rt_code.specs.declared.instr.Note.TheVariants as note
 use Rattle.rt_listing.specs.Numbers.{instr_numbers}
-
--- a number of 32 bits
-abbrev pub Is32Bits : ℕ → Type 0
-Is32Bits n = n < 2 ^ 32
 
 -- a priority value of 8 bits, an address and a frame
 abbrev pub IsHandlerWithin : Option Handler → Type 0
@@ -37,11 +33,6 @@ pub record IsBodyWithin (row : BodyRow) : Type 0 where
   pub entry : Is32Bits row.entry
   pub frame : Is32Bits row.frame
   pub args : row.args ≤ ARGUMENTS
-
--- a level of 8 bits, where the section is that of a level
-abbrev pub HasLevel : Section → Type 0
-HasLevel (section.Ready level) = level < 2 ^ 8
-HasLevel s = Unit {0}
 
 -- what a note says in numbers
 abbrev pub IsNoteWithin : Option Note → Type 0

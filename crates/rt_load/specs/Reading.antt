@@ -4,6 +4,7 @@
 use Rattle.std.specs.Prelude.{◌≡◌, ◌≢◌, ℕ, suc, ◌≤◌, ◌<◌, true, List, [], ◌∷◌, ◌++◌, length, map, flat_map, Option}
 use Rattle.std.specs.Prelude.{None}
 use Rattle.std.specs.List.{AllByRecursion}
+use Rattle.rt_lines.specs.Parts.{line_with_feed}
 use Rattle.rt_ids.specs.Lists.{AreDifferent}
 use Rattle.rt_ids.specs.Names.{Names}
 use Rattle.rt_ids.specs.Word.{is_identifier}
@@ -30,10 +31,6 @@ pub record IsViablePrefix (front : List ℕ) : Type 0 where
   pub loadable : IsLoadable image
   pub behind : List ℕ
   pub is : listing image ≡ front ++ behind
-
--- a line with the line feed that ends it
-abbrev pub line_with_feed : List ℕ → List ℕ
-line_with_feed line = line ++ 10 ∷ []
 
 -- bytes without a line feed, as one line
 abbrev pub IsOneLine : List ℕ → Type 0

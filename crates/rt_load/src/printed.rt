@@ -1,8 +1,8 @@
 // Prints a row again, and compares it with the line.
 
 ghost use Rattle.std.specs.Prelude.{◌≡◌, IfOk, bytes_eq};
+ghost use Rattle.rt_lines.specs.Parts.{line_with_feed};
 ghost use Rattle.rt_listing.specs.Listing as text;
-ghost use Rattle.rt_load.specs.Reading.{line_with_feed};
 
 use rt_code::{BodyRow, Image, IrqRow};
 use rt_ids::{CellRow, Names, NoMemory};

@@ -7,9 +7,10 @@ use Rattle.rt_ids.specs.declared.limits.TheConstants.{DEPTH}
 use Rattle.rt_ids.specs.declared.refusal.Refusal.TheVariants as refusal
 use Rattle.rt_lex.specs.Token.{Token}
 use Rattle.rt_ast.specs.Tree.{Expression}
+use Rattle.rt_ast.specs.PrintableBody.{depth_of}
 use Rattle.rt_grammar.specs.Mark.{Mark, Ends}
 use Rattle.rt_grammar.specs.Language.{Language, gives, ◌>>=◌}
-use Rattle.rt_grammar.specs.Expression.{Operand, depth, ends}
+use Rattle.rt_grammar.specs.Expression.{Operand, ends}
 use Rattle.rt_grammar.specs.Reach.{Fits, goes_on, expression_goes_on}
 use Rattle.rt_parse.specs.Inside.Reading as reading
 use Rattle.rt_parse.specs.Inside.Reading.{Reader, begins_with, fault_found_at}
@@ -31,7 +32,7 @@ stopped compares (t ∷ tokens) e = e
 
 module _ {B : Type 0} (e : Operand × Bool) (K : Expression → Language B) where
   ends_mark : Mark
-  ends_mark = Ends e.1 (deep_at (nat_lt DEPTH (depth e.0.tree)) e)
+  ends_mark = Ends e.1 (deep_at (nat_lt DEPTH (depth_of e.0.tree)) e)
 
   behind_ends : (marks : List Mark) (y : B) → (ends e >>= K) marks y → (back : List Mark) × (marks ≡ ends_mark ∷ back)
       × K e.0.tree back y
@@ -46,7 +47,7 @@ module _ {B : Type 0} (e : Operand × Bool) (K : Expression → Language B) wher
       behind_ends marks y l in
       subst (AvoidsMarks (goes_on e.1)) (sym b.1) (λ t f. f)
 
-  ends_marked : (deep : Bool) → nat_lt DEPTH (depth e.0.tree) ≡ deep → (tokens : List Token)
+  ends_marked : (deep : Bool) → nat_lt DEPTH (depth_of e.0.tree) ≡ deep → (tokens : List Token)
       → expression_goes_on e.1 tokens ≡ false
       → IsMarked (ends e >>= K) (K e.0.tree) (Ends e.1 (deep_at deep e)) tokens tokens
   unfolding ends_mark
@@ -82,12 +83,12 @@ module _ {B : Type 0} (e : Operand × Bool) (K : Expression → Language B) wher
 
   pub ends_outcome : (tokens : List Token) (read : Result B Found) → expression_goes_on e.1 tokens ≡ false
       → IsInhabited (K e.0.tree)
-      → (nat_lt DEPTH (depth e.0.tree) ≡ false → Outcome (K e.0.tree) tokens read)
-      → Outcome (ends e >>= K) tokens (if nat_lt DEPTH (depth e.0.tree) then Err
+      → (nat_lt DEPTH (depth_of e.0.tree) ≡ false → Outcome (K e.0.tree) tokens read)
+      → Outcome (ends e >>= K) tokens (if nat_lt DEPTH (depth_of e.0.tree) then Err
       (record { at = Some e.0.at; refusal = refusal.Limit limit.Depth }) else read)
-  ends_outcome tokens read stop some exact = go (nat_lt DEPTH (depth e.0.tree)) refl
+  ends_outcome tokens read stop some exact = go (nat_lt DEPTH (depth_of e.0.tree)) refl
     where
-      go : (deep : Bool) → nat_lt DEPTH (depth e.0.tree) ≡ deep → Outcome (ends e >>= K) tokens
+      go : (deep : Bool) → nat_lt DEPTH (depth_of e.0.tree) ≡ deep → Outcome (ends e >>= K) tokens
           (if deep then Err (record { at = Some e.0.at; refusal = refusal.Limit limit.Depth }) else read)
       go false is = outcome_marked _ _ _ _ _ (ends_marked false is tokens stop) refl read (exact is)
       go true is = outcome_limited _ _ _ _ _ (ends_marked true is tokens stop) (Some e.0.at) limit.Depth
@@ -96,7 +97,7 @@ module _ {B : Type 0} (e : Operand × Bool) (K : Expression → Language B) wher
 -- The end of an expression is read where the next token does not go on with it.
 pub reads_ends : {B C : Type 0} {goes : Expression → Token → Bool} {value : Expression → C} (e : Operand × Bool)
     (deep : Bool) (at : ℕ) (tree : C)
-    → deep ≡ nat_lt DEPTH (depth e.0.tree) → at ≡ e.0.at → tree ≡ value e.0.tree
+    → deep ≡ nat_lt DEPTH (depth_of e.0.tree) → at ≡ e.0.at → tree ≡ value e.0.tree
     → ReadsAfter B (goes_on e.1) goes nothing (λ n. n) value (ends e)
     (λ tokens. if deep then Err (record { at = Some at; refusal = refusal.Limit limit.Depth }) else Ok
     (tree, tokens))
@@ -117,12 +118,13 @@ reads_ends {B} {C} {value = value} e deep at tree is_deep is_at is_tree = record
     pick behind read tokens false = refl
 
     same : (behind : Expression → Language B) (read : C → List Token → Result B Found) (tokens : List Token)
-        → (if nat_lt DEPTH (depth e.0.tree) then Err (record { at = Some e.0.at; refusal = refusal.Limit limit.Depth })
+        → (if nat_lt DEPTH (depth_of e.0.tree)
+        then Err (record { at = Some e.0.at; refusal = refusal.Limit limit.Depth })
         else read (value e.0.tree) tokens)
         ≡ reading.◌>>=◌ {A = C × List Token}
         (if deep then Err (record { at = Some at; refusal = refusal.Limit limit.Depth }) else Ok (tree, tokens))
         (λ got. read got.0 got.1)
-    same behind read tokens = rw (is_deep, is_at, is_tree) (pick behind read tokens (nat_lt DEPTH (depth e.0.tree)))
+    same behind read tokens = rw (is_deep, is_at, is_tree) (pick behind read tokens (nat_lt DEPTH (depth_of e.0.tree)))
 
 abbrev pub is_end : List Token → Bool
 is_end [] = true

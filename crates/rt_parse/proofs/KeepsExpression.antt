@@ -3,11 +3,11 @@ use Rattle.std.proofs.Common.{◌≡◌, ℕ, zero, suc, ◌≤◌, Bool, true, 
 use Rattle.std.specs.Prelude.{nat_lt, if◌then◌else◌}
 use Rattle.std.proofs.lemmas.Bool.{ltb-false}
 use Rattle.rt_ids.specs.declared.limits.TheConstants.{DEPTH}
-use Rattle.rt_ast.specs.Tree.{Expression, Num, Read, Oper}
+use Rattle.rt_ast.specs.Tree.{Expression}
 use Rattle.rt_ast.specs.PrintableBody.{IsSpelledOut, IsPrintableExpression, depth_of}
 use Rattle.rt_grammar.specs.Mark.{Mark}
 use Rattle.rt_grammar.specs.Language.{Language, gives}
-use Rattle.rt_grammar.specs.Expression.{Operand, Signs, strengths, chain, chains, comparison, plain_atom, atom, depth}
+use Rattle.rt_grammar.specs.Expression.{Operand, Signs, strengths, chain, chains, comparison, plain_atom, atom}
 use Rattle.rt_grammar.specs.Expression.{ends, expression}
 use Rattle.rt_parse.proofs.Keeps.{AllSound, Keeps, keeps_gives, keeps_then, keeps_or, keeps_repeat}
 use Rattle.rt_parse.proofs.KeepsTokens.{keeps_token, keeps_sign, keeps_name, keeps_number}
@@ -46,11 +46,6 @@ keeps_atom (suc most) opened =
     (λ e compares h. keeps_gives h)) (λ inner h.
     keeps_then keeps_sign (λ end free. keeps_gives h))))
 
-same_depth : (e : Expression) → depth e ≡ depth_of e
-same_depth (Num n) = refl
-same_depth (Read x) = refl
-same_depth (Oper o left right) = rw (same_depth left, same_depth right) refl
-
 not_deep : (deep : Bool) (at : ℕ) → (if deep then Some at else None) ≡ None → deep ≡ false
 not_deep true at e = absurd cc
 not_deep false at e = refl
@@ -62,9 +57,9 @@ keeps_ends e compares h = record { kept = ended }
         → IsPrintableExpression tree
     ended marks tree (is, same) all =
         let sound = subst AllSound is all in
-        let within : depth e.tree ≤ DEPTH = ltb-false DEPTH (depth e.tree)
-        (not_deep (nat_lt DEPTH (depth e.tree)) e.at sound.0) in
-        subst IsPrintableExpression (sym same) (h, subst (λ (n : ℕ). n ≤ DEPTH) (same_depth e.tree) within)
+        let within : depth_of e.tree ≤ DEPTH = ltb-false DEPTH (depth_of e.tree)
+        (not_deep (nat_lt DEPTH (depth_of e.tree)) e.at sound.0) in
+        subst IsPrintableExpression (sym same) (h, within)
 
 pub keeps_expression : (most : ℕ) → Keeps (expression most) IsPrintableExpression
 keeps_expression most = keeps_comparison {ended = λ e compares. ends (e, compares)} (keeps_atom most 0) keeps_ends

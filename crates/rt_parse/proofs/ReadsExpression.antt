@@ -11,9 +11,10 @@ use Rattle.rt_lex.specs.declared.token.Kind.{Kind}
 use Rattle.rt_lex.specs.declared.token.Kind.TheVariants as kind
 use Rattle.rt_lex.specs.Token.{Token, is_this_sign, if_sign}
 use Rattle.rt_ast.specs.Tree.{Num, Read}
+use Rattle.rt_ast.specs.PrintableBody.{depth_of}
 use Rattle.rt_grammar.specs.Language.{Language, gives, ◌>>=◌, ◌or◌}
 use Rattle.rt_grammar.specs.Tokens.{free, limit_if, sign, limited_sign}
-use Rattle.rt_grammar.specs.Expression.{Operand, comparison, plain_atom, atom, depth, ends, expression}
+use Rattle.rt_grammar.specs.Expression.{Operand, comparison, plain_atom, atom, ends, expression}
 use Rattle.rt_grammar.specs.Reach.{goes_on}
 use Rattle.rt_parse.specs.Inside.Reading as reading
 use Rattle.rt_parse.specs.Inside.Reading.{Reader, sign_at}
@@ -189,8 +190,9 @@ unless_same at k tokens false = refl
 ended_reads : {B : Type 0} (e : Operand) (compares : Bool) → ReadsAfter B (goes_on compares) nothing nothing (λ n. n)
     (λ e. e) (ends (e, compares)) (unless_deep (measure e).at (measure e).kept)
 ended_reads e compares = reads_same (λ marks y l. l) (λ marks y l. l)
-    (λ tokens. unless_same e.at (record { tree = e.tree; depth = depth e.tree }) tokens (nat_lt DEPTH (depth e.tree)))
-    (reads_ends (e, compares) (nat_lt DEPTH (depth e.tree)) e.at e.tree refl refl refl)
+    (λ tokens.
+    unless_same e.at (record { tree = e.tree; depth = depth_of e.tree }) tokens (nat_lt DEPTH (depth_of e.tree)))
+    (reads_ends (e, compares) (nat_lt DEPTH (depth_of e.tree)) e.at e.tree refl refl refl)
 
 -- The reader of expressions is exact for those with enough parentheses that the limit on them is met first.
 pub expression_reads : {B : Type 0} (most : ℕ) → suc PARENTHESES ≤ most

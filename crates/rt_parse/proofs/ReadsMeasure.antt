@@ -5,7 +5,8 @@ use Rattle.std.specs.Prelude.{nat_lt}
 use Rattle.rt_ids.specs.declared.op.Op.{Op}
 use Rattle.rt_ids.specs.declared.limits.TheConstants.{DEPTH}
 use Rattle.rt_ast.specs.Tree.{Oper}
-use Rattle.rt_grammar.specs.Expression.{Operand, joined_operand, depth}
+use Rattle.rt_ast.specs.PrintableBody.{depth_of}
+use Rattle.rt_grammar.specs.Expression.{Operand, joined_operand}
 use Rattle.rt_parse.specs.Inside.ReadingDepth.{Kept, tree_unless_deep, joined_tree, joined_measure, measure}
 
 deeper_left : (a b : ℕ) → nat_lt DEPTH a ≡ true → nat_lt DEPTH (1 + max a b) ≡ true
@@ -28,6 +29,6 @@ pub measure_joined : (o : Op) (left right : Operand) → joined_measure o (measu
     ≡ measure (joined_operand o left right)
 measure_joined o left right =
     ap (λ (kept : Option Kept). record { at = left.at; kept = kept })
-    (sym (kept_join o (record { tree = left.tree; depth = depth left.tree })
-    (record { tree = right.tree; depth = depth right.tree }) (nat_lt DEPTH (depth left.tree))
-    (nat_lt DEPTH (depth right.tree)) refl refl))
+    (sym (kept_join o (record { tree = left.tree; depth = depth_of left.tree })
+    (record { tree = right.tree; depth = depth_of right.tree }) (nat_lt DEPTH (depth_of left.tree))
+    (nat_lt DEPTH (depth_of right.tree)) refl refl))

@@ -19,7 +19,7 @@ use Rattle.rt_grammar.specs.Language.{Language, gives}
 use Rattle.rt_grammar.specs.Reach.{expression_goes_on}
 use Rattle.rt_grammar.specs.Tokens.{free, limit_if, name, number, sign, limited_sign}
 use Rattle.rt_grammar.specs.Expression.{Operand, Signs, op_of, operator, comparisons, strengths, joined_operand, chain}
-use Rattle.rt_grammar.specs.Expression.{chains, comparison, plain_atom, atom, depth, ends, expression}
+use Rattle.rt_grammar.specs.Expression.{chains, comparison, plain_atom, atom, ends, expression}
 use Rattle.rt_print.proofs.Reading.{Reads, Any, read_gives, read_then, read_left, read_right, read_none, read_step}
 use Rattle.rt_print.proofs.Reading.{read_token, read_space, read_same}
 use Rattle.rt_print.proofs.Lexemes.{IsFront, Stops, IsNamed, IsNumber, token_first, read_name, read_number, read_sign}
@@ -223,18 +223,13 @@ pub plain_block : (Y : List ℕ) → Plain (32 ∷ 123 ∷ Y)
 plain_block Y at true = refl
 plain_block Y at false = refl
 
-depth_bare : (e : Expression) → depth (bare_expression e) ≡ depth e
+depth_bare : (e : Expression) → depth_of (bare_expression e) ≡ depth_of e
 depth_bare (Num n) = refl
 depth_bare (Read x) = refl
 depth_bare (Oper o l r) = rw (depth_bare l, depth_bare r) refl
 
-depth_is : (e : Expression) → depth e ≡ depth_of e
-depth_is (Num n) = refl
-depth_is (Read x) = refl
-depth_is (Oper o l r) = rw (depth_is l, depth_is r) refl
-
-same_depth : (e t : Expression) → IsTree e t → depth t ≡ depth_of e
-same_depth e t h = sym (depth_bare t) ∙ ap depth h ∙ depth_bare e ∙ depth_is e
+same_depth : (e t : Expression) → IsTree e t → depth_of t ≡ depth_of e
+same_depth e t h = sym (depth_bare t) ∙ ap depth_of h ∙ depth_bare e
 
 is_within_ends : (compares deep : Bool) (at : ℕ) → deep ≡ false → IsWithin (Ends compares (cond deep (Some at) None))
 is_within_ends compares true at e = absurd cc
@@ -243,8 +238,8 @@ is_within_ends compares false at e = refl
 read_ends : (c : Operand × Bool) (e : Expression) (Y : List ℕ) → IsCompared e c → depth_of e ≤ DEPTH → Plain Y
     → Reads (ends c) (IsTree e) Y Y
 read_ends c e Y h d plain at =
-    let deep = nat_lt DEPTH (depth c.0.tree) in
-    let short : deep ≡ false = le-ltb DEPTH (depth c.0.tree) (omega (arith, d, same_depth e c.0.tree h)) in
+    let deep = nat_lt DEPTH (depth_of c.0.tree) in
+    let short : deep ≡ false = le-ltb DEPTH (depth_of c.0.tree) (omega (arith, d, same_depth e c.0.tree h)) in
     record {
       behind = at;
       marks = Ends c.1 (cond deep (Some c.0.at) None) ∷ [];

@@ -27,6 +27,7 @@ use Rattle.rt_lex.specs.declared.token.Kind.TheVariants as kind
 use Rattle.rt_lex.specs.Tokens.{tokens_at, with_front}
 use Rattle.rt_lex.specs.Bytes.{is_blank, digit_value}
 use Rattle.rt_ids.specs.Byte.{is_digit, is_letter, is_lower, is_upper, is_name_byte}
+use Rattle.rt_ids.proofs.Numbers.{all_digits}
 use Rattle.rt_lex.specs.Front.{Front, skips, makes, front_of, name_front, number_front, sign_front, hex_digits, comment}
 use Rattle.rt_lex.proofs.Lexing.{takes}
 use Rattle.rt_grammar.specs.Tokens.{free, word_of, sign_of, name_of, ident_of, number_of_token, name_limit}
@@ -143,12 +144,6 @@ name_is_front (b ∷ text) Y h no_word stop =
 
 digit_is : (c : ℕ) → (47 < c) → (c ≤ 57) → is_digit c ≡ true
 digit_is c high low = rw (le-leb 48 c (omega (arith, high)), le-leb c 57 low) refl
-
-all_digits : (ds : List ℕ) → AllDigits 10 ds → list_all is_digit ds ≡ true
-all_digits [] h = refl
-all_digits (c ∷ ds) h =
-    let k = digit_from_value c h.0 in
-    rw (digit_is c (omega (arith, k)) (omega (arith, k)), all_digits ds h.1) refl
 
 second-false : (a b c : Bool) → b ≡ false → (a && (b && c)) ≡ false
 second-false true b c e = rw e refl

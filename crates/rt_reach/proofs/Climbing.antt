@@ -10,7 +10,7 @@ use Rattle.rt_ids.specs.Event.{Event, Arrive, Step}
 use Rattle.rt_ids.specs.Exception as exception
 use Rattle.rt_ids.specs.Lists.{those_below, or_zero}
 use Rattle.rt_ids.specs.Names.{Names, AreNames}
-use Rattle.rt_ids.specs.Naming.{irq_name}
+use Rattle.rt_ids.specs.Naming.{irq_name, IsDeclared}
 use Rattle.rt_ids.specs.declared.limits.TheConstants.{NAME_BYTES, IRQ_NUMBERS}
 use Rattle.rt_app.specs.Tree.{App}
 use Rattle.rt_app.specs.Accepted.{IsAccepted}
@@ -30,14 +30,14 @@ use Rattle.rt_laws.specs.State.{State}
 use Rattle.rt_script.specs.Script.{events}
 use Rattle.rt_sim.specs.Good.{Good, AreDeclared}
 use Rattle.rt_sim.proofs.Armed.{counts_of_few}
-use Rattle.rt_lines.specs.Operand.{IsDeclared}
+use Rattle.rt_sim.proofs.Reached.{declared_append}
 use Rattle.rt_reach.specs.Deepest.{script_of, IsFirstTake, LeadsToTake}
 use Rattle.rt_app.specs.Forms.{has_deepest_script}
 use Rattle.rt_reach.specs.Inside.Soon.{TakesWithin}
 use Rattle.rt_reach.specs.Priorities.{deepest_irq, deepest_irqs}
 use Rattle.rt_reach.specs.Reached.{ReachesTheBound}
 use Rattle.rt_reach.specs.Spelled.{script_text}
-use Rattle.rt_reach.proofs.Deepening.{events_one, events_next, declared_append, steps_declared, state_at, core_at}
+use Rattle.rt_reach.proofs.Deepening.{events_one, events_next, steps_declared, state_at, core_at}
 use Rattle.rt_reach.proofs.Deepening.{Rests, IsServed, deepest_served, Enters, enters, taken}
 use Rattle.rt_reach.proofs.Jobs.{requested}
 use Rattle.rt_reach.proofs.Pended.{PendsOnly}

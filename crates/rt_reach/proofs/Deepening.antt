@@ -9,8 +9,9 @@ use Rattle.std.proofs.lemmas.List.{length-replicate}
 use Rattle.std.proofs.lemmas.List.Concat.{flat_map-append}
 use Rattle.rt_lemmas.proofs.Lists.{found, find_has, mapped_at}
 use Rattle.rt_lemmas.proofs.Membership.{all_at, any_passes}
-use Rattle.rt_ids.specs.Event.{Event, Arrive, Tick, Step}
+use Rattle.rt_ids.specs.Event.{Event, Arrive, Step}
 use Rattle.rt_ids.specs.declared.limits.TheConstants.{IRQ_NUMBERS}
+use Rattle.rt_ids.specs.Naming.{IsDeclared}
 use Rattle.rt_app.specs.declared.app.IrqDecl.{IrqDecl}
 use Rattle.rt_app.specs.Tree.{App}
 use Rattle.rt_app.specs.Accepted.{IsAccepted}
@@ -31,8 +32,8 @@ use Rattle.rt_laws.specs.State.{State, first}
 use Rattle.rt_laws.specs.Preemption.{system_ceiling}
 use Rattle.rt_script.specs.Script.{events, line_events}
 use Rattle.rt_sim.specs.Good.{AreDeclared}
+use Rattle.rt_sim.proofs.Reached.{declared_append}
 use Rattle.rt_trace.specs.Label.{Arrived, Stepped}
-use Rattle.rt_lines.specs.Operand.{IsDeclared}
 use Rattle.rt_trace.specs.declared.item.What.{What}
 use Rattle.rt_reach.specs.Deepest.{priority_lines, script_of, item_after, IsFirstTake}
 use Rattle.rt_app.specs.Forms.{has_deepest_script}
@@ -47,13 +48,6 @@ use Rattle.rt_reach.proofs.Running.{core_step, state_request, state_first}
 use Rattle.rt_reach.proofs.Served.{IsDeepestAt, is_hardware, is_untimed}
 use Rattle.rt_reach.proofs.Takes.{starts, starts_more}
 use borrow.Author.Count.{below_more}
-
-pub declared_append : (app : App) (es fs : List Event) → AreDeclared app es → AreDeclared app fs
-    → AreDeclared app (es ++ fs)
-declared_append app [] fs front back = back
-declared_append app (Arrive irq ∷ es) fs front back = (front.0, declared_append app es fs front.1 back)
-declared_append app (Tick ∷ es) fs front back = declared_append app es fs front back
-declared_append app (Step ∷ es) fs front back = declared_append app es fs front back
 
 pub steps_declared : (app : App) (n : ℕ) → AreDeclared app (replicate n Step)
 steps_declared app zero = tt

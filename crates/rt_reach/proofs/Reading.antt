@@ -9,12 +9,12 @@ use Rattle.std.proofs.lemmas.List.Sums.{sum_by-append, sum_by-cons}
 use Rattle.std.proofs.lemmas.Fmt.{decimal_nonempty}
 use Rattle.rt_ids.specs.Lists.{is_empty}
 use Rattle.rt_ids.specs.Names.{Names, AreNames, irq_of}
-use Rattle.rt_ids.specs.Naming.{irq_name}
+use Rattle.rt_ids.specs.Naming.{irq_name, IsDeclared}
 use Rattle.rt_ids.specs.Word.{is_identifier}
 use Rattle.rt_ids.specs.declared.limits.TheConstants.{NAME_BYTES, SCRIPT_EVENTS}
 use Rattle.rt_lines.specs.Answers.{and_make}
 use Rattle.rt_lines.specs.Numbers.{short_number}
-use Rattle.rt_lines.specs.Parts.{spaced_words}
+use Rattle.rt_lines.specs.Parts.{spaced_words, line_with_feed}
 use Rattle.rt_lines.specs.Reading.{Lead}
 use Rattle.rt_script.specs.Script.{count, count_of}
 use Rattle.rt_script.specs.Text.{IsScriptText, script_reader}
@@ -22,10 +22,9 @@ use Rattle.rt_script.specs.Wording.{is_blank, is_comment, is_loose, words_ask, l
 use Rattle.rt_script.specs.declared.line.Line.{Line}
 use Rattle.rt_script.specs.declared.line.Line.TheVariants.{Steps, Pends}
 use Rattle.rt_script.proofs.Lines.{lines_next}
-use Rattle.rt_lines.specs.Operand.{IsDeclared}
 use Rattle.rt_lines.proofs.Found.{irq_known}
 use Rattle.rt_reach.specs.Deepest.{priority_lines, script_of}
-use Rattle.rt_reach.specs.Spelled.{pend_line, step_line, line_with_feed, priority_text, script_text}
+use Rattle.rt_reach.specs.Spelled.{pend_line, step_line, priority_text, script_text}
 use Rattle.rt_reach.proofs.Words.{IsPlain, plain_without, name_plain, decimal_plain, decimal_length, decimal_read}
 use Rattle.rt_reach.proofs.Words.{ends_otherwise, two_words, first_part}
 

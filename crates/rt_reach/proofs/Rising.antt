@@ -8,18 +8,20 @@ use Rattle.std.proofs.lemmas.List.{map-append}
 use Rattle.std.proofs.lemmas.Option.{none-some}
 use Rattle.rt_lemmas.proofs.Bools.{and_parts, or_left}
 use Rattle.rt_lemmas.proofs.Membership.{any_passes}
+use Rattle.rt_lemmas.proofs.Lists.{found_passes}
 use Rattle.rt_ids.specs.Lists.{those_below, or_zero, then_from, greatest}
+use Rattle.rt_ids.proofs.Lists.{those_next}
 use Rattle.rt_app.specs.Tree.{Task, App}
 use Rattle.rt_app.specs.Accepted.{IsAccepted}
 use Rattle.rt_app.specs.Acceptance.{IsSound}
 use Rattle.rt_app.specs.Frame.{frame_words}
-use Rattle.rt_app.specs.Handlers.{irq_number, has_no_monotonic}
+use Rattle.rt_app.specs.Handlers.{irq_number, has_no_monotonic, bound_number}
 use Rattle.rt_app.specs.Level.{is_software}
 use Rattle.rt_app.specs.Stack.{is_bound_at, is_timed_at, has_handler, frames_of, need}
 use Rattle.rt_app.proofs.Sound.{accepted_are_sound}
-use Rattle.rt_lines.proofs.Found.{found_passes, found_at}
+use Rattle.rt_lines.proofs.Found.{found_at}
 use Rattle.rt_app.specs.Forms.{has_no_software, body_holds_no_pend, is_brief, has_deepest_script}
-use Rattle.rt_reach.specs.Priorities.{deepest_task, bound_number, deepest_irq}
+use Rattle.rt_reach.specs.Priorities.{deepest_task, deepest_irq}
 use Rattle.rt_reach.proofs.Served.{IsDeepestAt, deepest_at, need_is}
 use Rattle.rt_frames.proofs.Below.{below_none}
 
@@ -38,17 +40,12 @@ form_of app is =
     let start = and_parts (body_holds_no_pend app.init) (is_brief app) parts.1 in
     record { hardware = alone.0; untimed = alone.1; quiet = start.0; brief = start.1 }
 
-pub below_next : (test : ℕ → Bool) (n : ℕ)
-    → those_below test (suc n) ≡ those_below test n ++ (if test n then n ∷ [] else [])
-unfolding those_below
-below_next test n = refl
-
 pub below_yes : (test : ℕ → Bool) (n : ℕ) → test n ≡ true → those_below test (suc n) ≡ those_below test n ++ n ∷ []
-below_yes test n is = below_next test n ∙ ap (λ b. those_below test n ++ (if b then n ∷ [] else [])) is
+below_yes test n is = those_next test n ∙ ap (λ b. those_below test n ++ (if b then n ∷ [] else [])) is
 
 pub below_no : (test : ℕ → Bool) (n : ℕ) → test n ≡ false → those_below test (suc n) ≡ those_below test n
 below_no test n is =
-    below_next test n ∙ ap (λ b. those_below test n ++ (if b then n ∷ [] else [])) is
+    those_next test n ∙ ap (λ b. those_below test n ++ (if b then n ∷ [] else [])) is
     ∙ append-nil (those_below test n)
 
 pub below_few : (test : ℕ → Bool) (n : ℕ) → length (those_below test n) ≤ n

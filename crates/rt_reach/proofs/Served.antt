@@ -7,7 +7,7 @@ use Rattle.std.specs.List.{list_any}
 use Rattle.std.proofs.lemmas.Bool.{eqb-true}
 use Rattle.std.proofs.lemmas.Option.{same_Some, none-some}
 use Rattle.rt_lemmas.proofs.Bools.{and_parts, and_both, not_true, or_cases, true_and_false}
-use Rattle.rt_lemmas.proofs.Lists.{found}
+use Rattle.rt_lemmas.proofs.Lists.{found, found_passes}
 use Rattle.rt_lemmas.proofs.Membership.{all_at, any_one, any_passes, contains_here, contains_at}
 use Rattle.rt_lemmas.proofs.Indices.{there_is}
 use Rattle.rt_ids.specs.Choice.{IsIn}
@@ -20,15 +20,16 @@ use Rattle.rt_app.specs.Frame.{frame_words}
 use Rattle.rt_app.specs.Accepted.{IsAccepted}
 use Rattle.rt_app.specs.Acceptance.{IsSound}
 use Rattle.rt_app.specs.Handlers.{Runs, Service, services, task_services, bound_service, irq_number, has_no_monotonic}
+use Rattle.rt_app.specs.Handlers.{bound_number}
 use Rattle.rt_app.specs.Level.{is_software, is_of_level}
 use Rattle.rt_app.specs.Stack.{is_bound_at, is_timed_at, has_handler, frames_of, dispatcher_need, timer_need, need}
 use Rattle.rt_app.proofs.Different.{contains_front, contains_back}
 use Rattle.rt_laws.specs.Services.{service_at}
 use Rattle.rt_laws.proofs.Dispatchers.{only_service}
-use Rattle.rt_lines.proofs.Found.{found_passes, found_at}
+use Rattle.rt_lines.proofs.Found.{found_at}
 use Rattle.rt_app.specs.Forms.{has_no_software}
 use Rattle.rt_reach.proofs.Greatest.{greatest_attained}
-use Rattle.rt_reach.specs.Priorities.{deepest_task, bound_number, deepest_irq}
+use Rattle.rt_reach.specs.Priorities.{deepest_task, deepest_irq}
 
 -- the services of tasks
 task_served : (n k b : ℕ) (ts : List Task) (t : Task) → slice_get ts k ≡ Some t → t.binds ≡ Some b

@@ -12,6 +12,7 @@ use Rattle.rt_lemmas.proofs.Membership.{all_weaker}
 use Rattle.rt_ids.specs.Byte.{is_digit, is_letter, is_name_byte}
 use Rattle.rt_ids.specs.Lists.{is_empty}
 use Rattle.rt_ids.specs.Word.{is_identifier}
+use Rattle.rt_ids.proofs.Numbers.{all_digits, digit_is}
 use Rattle.rt_lines.specs.Numbers.{are_digits, short_number}
 use Rattle.rt_lines.specs.Parts.{spaced_words}
 use Rattle.rt_lines.proofs.Words.{words_spaced}
@@ -35,9 +36,6 @@ pub name_plain : (text : List ℕ) → is_identifier text ≡ true → IsPlain t
 name_plain [] h = tt
 name_plain (b ∷ text) h = (letter_later b (and_left _ _ h), all_listed text (and_right _ _ h))
 
-digit_is : (c : ℕ) → 48 ≤ c → c ≤ 57 → is_digit c ≡ true
-digit_is c least most = and_both (nat_le 48 c) (nat_le c 57) (le-leb 48 c least) (le-leb c 57 most)
-
 digit_plain : (c : ℕ) → is_digit c ≡ true → is_name_byte c ≡ true
 digit_plain c h = or_right (is_letter c) (is_digit c) h
 
@@ -46,12 +44,6 @@ digits_plain [] h = tt
 digits_plain (c ∷ ds) h =
     let digit = digit_from_value c h.0 in
     (digit_plain c (digit_is c digit.0 digit.1), digits_plain ds h.1)
-
-digits_are : (ds : List ℕ) → AllDigits 10 ds → list_all is_digit ds ≡ true
-digits_are [] h = refl
-digits_are (c ∷ ds) h =
-    let digit = digit_from_value c h.0 in
-    and_both (is_digit c) (list_all is_digit ds) (digit_is c digit.0 digit.1) (digits_are ds h.1)
 
 pub decimal_plain : (n : ℕ) → n < 2 ^ 64 → IsPlain (decimal n)
 decimal_plain n short = let numeral = decimal_is_IsNumeral n short in digits_plain (decimal n) numeral.0.1
@@ -72,7 +64,7 @@ decimal_read n few =
     taken (are_digits 9 (decimal n)) (digits_value 10 (decimal n)) n
     (and_both (nat_le 1 (length (decimal n)) && nat_le (length (decimal n)) 9) (list_all is_digit (decimal n))
     (and_both (nat_le 1 (length (decimal n))) (nat_le (length (decimal n)) 9) (le-leb 1 (length (decimal n)) some)
-    (le-leb (length (decimal n)) 9 most)) (digits_are (decimal n) numeral.0.1))
+    (le-leb (length (decimal n)) 9 most)) (all_digits (decimal n) numeral.0.1))
     numeral.1
 
 -- the last byte of a text that ends with other bytes than this one

@@ -5,16 +5,12 @@ use Rattle.std.specs.Prelude.{ℕ, ◌==◌, ◌&&◌, List, map, find, Option}
 use Rattle.rt_ids.specs.Lists.{or_zero, then_from}
 use Rattle.rt_app.specs.Tree.{Task, App}
 use Rattle.rt_app.specs.Frame.{frame_words}
-use Rattle.rt_app.specs.Handlers.{irq_number}
+use Rattle.rt_app.specs.Handlers.{bound_number}
 use Rattle.rt_app.specs.Stack.{is_bound_at, need, handler_priorities}
 
 -- the hardware task of a priority that has the greatest frame there, the first declared of equal ones
 abbrev pub deepest_task : App → ℕ → Option Task
 deepest_task app p = find (λ t. is_bound_at p t && (frame_words t.args t.body == need app p)) app.tasks
-
--- the number of the interrupt that a task binds
-abbrev pub bound_number : App → Task → Option ℕ
-bound_number app t = then_from t.binds (irq_number app)
 
 -- the number of the interrupt of the deepest task of a priority
 abbrev pub deepest_irq : App → ℕ → Option ℕ

@@ -1,6 +1,7 @@
 -- How the lines of such a script are spelled, each with a line feed. The form of a script is this project's own; a
 -- count of one request is left out.
 use Rattle.std.specs.Prelude.{ℕ, List, [], ◌∷◌, ◌++◌, flat_map, codes, decimal}
+use Rattle.rt_lines.specs.Parts.{line_with_feed}
 use Rattle.rt_ids.specs.Names.{Names}
 use Rattle.rt_ids.specs.Naming.{irq_name}
 
@@ -11,10 +12,6 @@ pend_line names irq = codes "pend " ++ irq_name names irq
 -- the line of so many core steps
 abbrev pub step_line : ℕ → List ℕ
 step_line steps = codes "step " ++ decimal steps
-
--- a line with its end
-abbrev pub line_with_feed : List ℕ → List ℕ
-line_with_feed line = line ++ 10 ∷ []
 
 -- the two lines of a priority: a request, and the core steps behind it
 abbrev pub priority_text : Names → ℕ → ℕ → List ℕ

@@ -1,6 +1,7 @@
 // Writes the lines of the script.
 
 ghost use Rattle.std.specs.Prelude.{◌≡◌, ◌++◌, flat_map, OnOk};
+ghost use Rattle.rt_lines.specs.Parts.{line_with_feed};
 ghost use Rattle.rt_ids.specs.Naming as naming;
 ghost use Rattle.rt_reach.specs.Spelled as spec;
 
@@ -15,7 +16,7 @@ fn irq_name(names: &Names, irq: Irq) -> &[u8]
 
 /// Appends the line that requests an interrupt.
 fn push_pend(text: &mut Vec<u8>, names: &Names, irq: Irq) -> Result<(), NoMemory>
-    ensures { OnOk result (text.new.items ≡ text.old.items ++ spec.line_with_feed (spec.pend_line names.now irq)) }
+    ensures { OnOk result (text.new.items ≡ text.old.items ++ line_with_feed (spec.pend_line names.now irq)) }
 {
     push_bytes(text, b"pend ")?;
     push_bytes(text, irq_name(names, irq))?;
@@ -24,7 +25,7 @@ fn push_pend(text: &mut Vec<u8>, names: &Names, irq: Irq) -> Result<(), NoMemory
 
 /// Appends the line of so many core steps.
 fn push_steps(text: &mut Vec<u8>, steps: u32) -> Result<(), NoMemory>
-    ensures { OnOk result (text.new.items ≡ text.old.items ++ spec.line_with_feed (spec.step_line steps)) }
+    ensures { OnOk result (text.new.items ≡ text.old.items ++ line_with_feed (spec.step_line steps)) }
 {
     push_bytes(text, b"step ")?;
     push_number(text, steps)?;

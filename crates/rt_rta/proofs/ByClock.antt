@@ -1,21 +1,15 @@
 -- Response times by the clock: so many core steps last so many times the longest at most.
-use Rattle.std.proofs.Common.{◌≡◌, ℕ, ◌+◌, ◌*◌, ◌≤◌, List, [], ◌∷◌, ◌++◌, Some, arith}
+use Rattle.std.proofs.Common.{ℕ, ◌+◌, ◌*◌, ◌≤◌, List, [], ◌∷◌, ◌++◌, Some, arith}
 use Rattle.std.proofs.Math.Nat.{mul-le-mul_left}
-use Rattle.rt_trace.specs.Label.{Label, Arrived, Ticked, Rang, Stepped, steps_of}
+use Rattle.rt_trace.specs.Label.{Label, Stepped, steps_of}
 use Rattle.rt_trace.specs.declared.item.What.TheVariants as what
+use Rattle.rt_trace.proofs.LabelsShown.{steps_join}
 use Rattle.rt_app.specs.Tree.{App}
 use Rattle.rt_laws.specs.Durations.{Durations, LastAtMost, TakesTime}
 use Rattle.rt_laws.proofs.Durations.{takes_time}
 use Rattle.rt_rta.specs.declared.limits.Limit.{Limit}
 use Rattle.rt_rta.specs.Served.{ServedIn, Responds}
 use Rattle.rt_rta.specs.ByClock.{ServedByClock, RespondsByClock, HoldsByClock, ResponseTimesHoldByClock}
-
-steps_both : (xs ys : List Label) → steps_of (xs ++ ys) ≡ steps_of xs + steps_of ys
-steps_both [] ys = omega arith
-steps_both (Arrived i ∷ xs) ys = steps_both xs ys
-steps_both (Ticked ∷ xs) ys = steps_both xs ys
-steps_both (Rang ∷ xs) ys = steps_both xs ys
-steps_both (Stepped shown ∷ xs) ys = let rest = steps_both xs ys in omega (arith, rest)
 
 module _ (durations : Durations) (longest : ℕ) (last : LastAtMost longest durations) where
   takes : TakesTime durations longest
@@ -34,8 +28,8 @@ module _ (durations : Durations) (longest : ℕ) (last : LastAtMost longest dura
     in_time =
         let most = takes.most before whole in
         let time = one.in_time in
-        let serves = steps_both one.serving (Stepped (Some (what.Ret irq)) ∷ []) in
-        let all = steps_both one.waiting
+        let serves = steps_join one.serving (Stepped (Some (what.Ret irq)) ∷ []) in
+        let all = steps_join one.waiting
         (Stepped (Some (what.Take irq one.depth)) ∷ (one.serving ++ Stepped (Some (what.Ret irq)) ∷ [])) in
         let few : longest * steps_of whole ≤ longest * steps =
         mul-le-mul_left longest (omega (arith, time, serves, all)) in

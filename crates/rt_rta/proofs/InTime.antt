@@ -5,6 +5,7 @@ use Rattle.std.proofs.lemmas.Bool.{eqb-true}
 use Rattle.rt_trace.specs.Label.{Label, Arrived, Ticked, Rang, Stepped, steps_of}
 use Rattle.rt_trace.specs.declared.item.What.{What}
 use Rattle.rt_trace.specs.declared.item.What.TheVariants as what
+use Rattle.rt_trace.proofs.LabelsShown.{steps_cons}
 use Rattle.rt_laws.specs.Waiting.{is_take, is_return}
 use Rattle.rt_rta.specs.Served.{ServedIn}
 
@@ -15,12 +16,6 @@ pub record ReturnsIn (irq steps : ℕ) (labels : List Label) : Type 0 where
   pub parts : labels ≡ serving ++ Stepped (Some (what.Ret irq)) ∷ behind
   pub first_return : AllByRecursion (λ label. is_return irq label ≡ false) serving
   pub in_time : steps_of serving + 1 ≤ steps
-
-steps_more : (label : Label) (labels : List Label) → steps_of (label ∷ labels) ≡ steps_of (label ∷ []) + steps_of labels
-steps_more (Arrived i) labels = omega arith
-steps_more Ticked labels = omega arith
-steps_more Rang labels = omega arith
-steps_more (Stepped shown) labels = omega arith
 
 module _ (irq : ℕ) where
   pub return_is : (label : Label) → is_return irq label ≡ true → label ≡ Stepped (Some (what.Ret irq))
@@ -39,7 +34,7 @@ module _ (irq : ℕ) where
     behind = returns.behind;
     parts = ap (λ xs. label ∷ xs) returns.parts;
     first_return = (other, returns.first_return);
-    in_time = let time = returns.in_time in let count = steps_more label returns.serving in
+    in_time = let time = returns.in_time in let count = steps_cons label returns.serving in
         omega (arith, time, count, sum);
   }
 
@@ -53,7 +48,7 @@ module _ (irq : ℕ) where
     parts = ap (λ xs. label ∷ xs) served.parts;
     first_take = (other, served.first_take);
     first_return = served.first_return;
-    in_time = let time = served.in_time in let count = steps_more label served.waiting in
+    in_time = let time = served.in_time in let count = steps_cons label served.waiting in
         omega (arith, time, count, sum);
   }
 

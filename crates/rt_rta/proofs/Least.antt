@@ -18,10 +18,11 @@ use Rattle.rt_app.specs.Tree.{Task, App}
 use Rattle.rt_app.specs.View.{task_of}
 use Rattle.rt_app.specs.Stack.{handler_priorities}
 use Rattle.rt_app.specs.Waiting.{waiting_bound}
+use Rattle.rt_app.specs.Handlers.{bound_number}
 use Rattle.rt_rta.specs.declared.limits.Limit.{Limit}
 use Rattle.rt_rta.specs.declared.load.Load.{Load}
 use Rattle.rt_rta.specs.declared.response.ResponseTime.{ResponseTime}
-use Rattle.rt_rta.specs.Limits.{bound_number, every_of, AreLimits}
+use Rattle.rt_rta.specs.Limits.{every_of, AreLimits}
 use Rattle.rt_rta.specs.Response.{most_requests, requests, handling_steps, task_demand, demand, Suffices, IsResponse}
 use Rattle.rt_rta.specs.Response.{AreResponseTimes}
 use Rattle.rt_rta.specs.Inside.Loads.{load_of, task_loads, loads, load_demand, loads_demand}

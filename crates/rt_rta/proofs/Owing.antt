@@ -9,12 +9,14 @@ use Rattle.std.proofs.lemmas.List.Sums.{sum_by-cons}
 use Rattle.std.proofs.lemmas.Option.{same_Some, none-some}
 use Rattle.std.proofs.Math.Nat.{mul-le-mul_right}
 use Rattle.rt_lemmas.proofs.Bools.{true_and_false}
+use Rattle.rt_lemmas.proofs.Indices.{now_cleared}
 use Rattle.rt_ids.specs.Lists.{then_from}
 use Rattle.rt_app.specs.Tree.{Task, App}
+use Rattle.rt_app.specs.Handlers.{bound_number}
 use Rattle.rt_laws.specs.State.{Job, State}
 use Rattle.rt_laws.specs.Preemption.{system_ceiling}
 use Rattle.rt_rta.specs.declared.limits.Limit.{Limit}
-use Rattle.rt_rta.specs.Limits.{bound_number, every_of}
+use Rattle.rt_rta.specs.Limits.{every_of}
 use Rattle.rt_rta.specs.Response.{requests, handling_steps, task_demand}
 
 -- as many as this, where the priority is at least the priority
@@ -50,11 +52,6 @@ one_more irq counts k = if k == irq then suc (counts k) else counts k
 -- each pending interrupt once
 abbrev pub once : List Bool → Counts
 once pending k = if slice_index_or pending k false then 1 else 0
-
-cleared : (xs : List Bool) (i : ℕ) → slice_index_or (slice_set xs i false) i false ≡ false
-cleared [] i = refl
-cleared (x ∷ xs) zero = refl
-cleared (x ∷ xs) (suc i) = cleared xs i
 
 pub other_set : (xs : List Bool) (i j : ℕ) (b : Bool) → ¬ (j ≡ i) → slice_index_or (slice_set xs i b) j false
     ≡ slice_index_or xs j false
@@ -100,7 +97,7 @@ asked_cleared pending irq (Some n) steps = by (n == irq) refl
     by true test =
         let none : asked (slice_set pending irq false) (Some n) steps ≡ 0 =
         ap (λ b. if b then steps else 0) (ap (λ i. slice_index_or (slice_set pending irq false) i false)
-        (eqb-true n irq test) ∙ cleared pending irq) in
+        (eqb-true n irq test) ∙ now_cleared pending irq) in
         omega (arith, none)
     by false test =
         let same : asked (slice_set pending irq false) (Some n) steps ≡ asked pending (Some n) steps =
@@ -190,7 +187,7 @@ module _ (app : App) (p : ℕ) where
       ap (owed_to pending) same ∙ owes_handling pending irq t over number set in
       let after : owed_to (slice_set pending irq false) u ≡ 0 =
       ap (owed_to (slice_set pending irq false)) same
-      ∙ owes_none (slice_set pending irq false) irq t over number (cleared pending irq) in
+      ∙ owes_none (slice_set pending irq false) irq t over number (now_cleared pending irq) in
       let rest = take_lowers pending irq ts in
       omega (arith, before, after, rest)
   take_clears pending irq (u ∷ ts) (suc k) t at over number set =

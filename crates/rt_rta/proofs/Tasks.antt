@@ -4,7 +4,7 @@ use Rattle.std.proofs.Common.{slice_get, Option, Some, None, refl, sym, ap, subs
 use Rattle.std.specs.List.{AllByRecursion, list_any}
 use Rattle.std.proofs.lemmas.Option.{same_Some, none-some}
 use Rattle.rt_lemmas.proofs.Bools.{and_left, true_and_false}
-use Rattle.rt_lemmas.proofs.Lists.{AreFrom, all_from, first_from, rest_from, find_has, found}
+use Rattle.rt_lemmas.proofs.Lists.{AreFrom, all_from, first_from, rest_from, find_has, found, found_passes}
 use Rattle.rt_lemmas.proofs.Membership.{all_append, all_flat_map, any_one, any_passes}
 use Rattle.rt_ids.specs.Lists.{is_some_and, then_from}
 use Rattle.rt_ids.specs.Choice.{IsIn}
@@ -13,14 +13,13 @@ use Rattle.rt_app.specs.declared.app.Mono.{Mono}
 use Rattle.rt_app.specs.Tree.{Task, App}
 use Rattle.rt_app.specs.Level.{is_software, is_of_level, levels}
 use Rattle.rt_app.specs.Handlers.{Runs, Service, dispatcher_of, bound_service, task_services, dispatcher_service}
-use Rattle.rt_app.specs.Handlers.{timer_service, services, irq_number}
+use Rattle.rt_app.specs.Handlers.{timer_service, services, irq_number, bound_number}
 use Rattle.rt_app.specs.Accepted.{IsAccepted}
 use Rattle.rt_app.proofs.Members.{in_front, in_back}
 use Rattle.rt_app.specs.Forms.{has_response_times}
 use Rattle.rt_laws.specs.Services.{service_at}
-use Rattle.rt_laws.proofs.Pending.{found_passes, some_number}
+use Rattle.rt_laws.proofs.Pending.{some_number}
 use Rattle.rt_laws.proofs.Dispatchers.{only_service}
-use Rattle.rt_rta.specs.Limits.{bound_number}
 use Rattle.rt_rta.proofs.Quiet.{hardware, untimed}
 
 module _ (app : App) (accepted : IsAccepted app) (form : has_response_times app ≡ true) where

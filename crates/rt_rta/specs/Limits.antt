@@ -3,14 +3,10 @@
 -- Richardson, Tindell and Wellings, Applying New Scheduling Theory to Static Priority Pre-emptive Scheduling, 1993).
 use Rattle.std.specs.Prelude.{◌≡◌, ℕ, ◌≤◌, ◌==◌, Bool, true, List, map, find, Option, option_map}
 use Rattle.std.specs.List.{AllByRecursion, list_any}
-use Rattle.rt_ids.specs.Lists.{AreDifferent, is_some_and, then_from}
-use Rattle.rt_app.specs.Tree.{Task, App}
-use Rattle.rt_app.specs.Handlers.{irq_number}
+use Rattle.rt_ids.specs.Lists.{AreDifferent, is_some_and}
+use Rattle.rt_app.specs.Tree.{App}
+use Rattle.rt_app.specs.Handlers.{bound_number}
 use Rattle.rt_rta.specs.declared.limits.Limit.{Limit}
-
--- the number of the interrupt that a task binds
-abbrev pub bound_number : App → Task → Option ℕ
-bound_number app t = then_from t.binds (irq_number app)
 
 -- a task binds the interrupt of this number
 abbrev pub is_bound : App → ℕ → Bool

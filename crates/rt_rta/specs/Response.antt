@@ -13,7 +13,8 @@ use Rattle.rt_app.specs.Tree.{Task, App}
 use Rattle.rt_app.specs.BodyCost.{body_cost, cost_measure}
 use Rattle.rt_app.specs.Stack.{handler_priorities}
 use Rattle.rt_app.specs.Waiting.{waiting_bound}
-use Rattle.rt_rta.specs.Limits.{bound_number, every_of}
+use Rattle.rt_app.specs.Handlers.{bound_number}
+use Rattle.rt_rta.specs.Limits.{every_of}
 use Rattle.rt_rta.specs.declared.limits.Limit.{Limit}
 use Rattle.rt_rta.specs.declared.response.ResponseTime.{ResponseTime}
 use Rattle.rt_rta.specs.declared.response.TheConstants.{MOST_STEPS}

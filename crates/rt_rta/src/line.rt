@@ -6,6 +6,7 @@ ghost use Rattle.rt_ids.specs.Lists.{is_some_and};
 ghost use Rattle.rt_lines.specs.Parts.{spaced_words};
 ghost use Rattle.rt_lines.specs.Numbers as numbers;
 ghost use Rattle.rt_app.specs.View.{task_of, app_of};
+ghost use Rattle.rt_app.specs.Handlers.{bound_number};
 ghost use Rattle.rt_rta.specs.Limits as limits;
 ghost use Rattle.rt_rta.specs.Wording as spec;
 
@@ -112,14 +113,14 @@ fn is_bound(app: &App, irq: Irq) -> bool
 /// Whether one of these tasks does.
 fn one_binds(app: &App, tasks: &[Task], irq: Irq) -> bool
     ensures { let all = app_of app.now in
-        result ≡ list_any (λ t. is_some_and (λ n. n == irq) (limits.bound_number all (task_of t))) tasks.now }
+        result ≡ list_any (λ t. is_some_and (λ n. n == irq) (bound_number all (task_of t))) tasks.now }
 {
     tasks.iter().any(|task| binds(app, task, irq))
 }
 
 /// Whether this task does.
 fn binds(app: &App, task: &Task, irq: Irq) -> bool
-    ensures { result ≡ is_some_and (λ n. n == irq) (limits.bound_number (app_of app.now) (task_of task.now)) }
+    ensures { result ≡ is_some_and (λ n. n == irq) (bound_number (app_of app.now) (task_of task.now)) }
 {
     match number_of(app, task) {
         None => false,

@@ -4,6 +4,7 @@ ghost use Rattle.std.specs.Prelude.{◌≡◌, ◌++◌, IfOk, OnOk};
 ghost use Rattle.rt_ids.specs.Lists.{then_from};
 ghost use Rattle.rt_app.specs.View.{task_of, app_of};
 ghost use Rattle.rt_app.specs.BodyCost.{cost_measure};
+ghost use Rattle.rt_app.specs.Handlers.{bound_number};
 ghost use Rattle.rt_rta.specs.Limits as spec;
 ghost use Rattle.rt_rta.specs.Inside.Loads as inner;
 
@@ -26,7 +27,7 @@ pub(crate) struct Load {
 
 /// The number of the interrupt that a task binds.
 pub(crate) fn number_of(app: &App, task: &Task) -> Option<Irq>
-    ensures { result ≡ spec.bound_number (app_of app.now) (task_of task.now) }
+    ensures { result ≡ bound_number (app_of app.now) (task_of task.now) }
 {
     let index = task.binds?;
     app.irqs.get(usize::from(index)).map(|irq| irq.number)
@@ -34,7 +35,7 @@ pub(crate) fn number_of(app: &App, task: &Task) -> Option<Irq>
 
 /// The least distance between requests of a task, where it has a limit.
 fn every_of(app: &App, limits: &Limits, task: &Task) -> Option<u32>
-    ensures { result ≡ then_from (spec.bound_number (app_of app.now) (task_of task.now)) (spec.every_of limits.now) }
+    ensures { result ≡ then_from (bound_number (app_of app.now) (task_of task.now)) (spec.every_of limits.now) }
 {
     limits.every(number_of(app, task)?)
 }

@@ -13,13 +13,13 @@ use Rattle.rt_ids.specs.Arrivals.{arrivals}
 use Rattle.rt_ids.specs.Event.{Arrive, Tick, Step}
 use Rattle.rt_ids.specs.Lists.{numbers_below}
 use Rattle.rt_ids.specs.Names.{Names}
+use Rattle.rt_ids.specs.Naming.{IsDeclared}
 use Rattle.rt_core.specs.Machine.{Machine}
 use Rattle.rt_core.specs.Stepping.{step}
 use Rattle.rt_core.specs.Trace.{happen, core_after, labels}
 use Rattle.rt_core.specs.Transfer.{core_after_pend}
 use Rattle.rt_trace.specs.Label.{Label, Ticked, Rang, Stepped, items_of}
 use Rattle.rt_trace.specs.Lined.{HasLine, HasOperands}
-use Rattle.rt_lines.specs.Operand.{IsDeclared}
 use Rattle.rt_trace.specs.Text.{text}
 use Rattle.rt_trace.specs.declared.item.Item.{Item}
 use Rattle.rt_trace.specs.declared.item.What.{What}

@@ -43,8 +43,8 @@ use Rattle.rt_code.specs.declared.processor.Trap.{Trap}
 use Rattle.rt_code.specs.declared.processor.Trap.TheVariants as trap
 use Rattle.rt_code.proofs.Done.{tested}
 use Rattle.rt_code.specs.Cells.{resource_cell}
-use Rattle.rt_lines.specs.Numbers.{IsWord}
 use Rattle.rt_lines.proofs.Found.{found_at}
+use Rattle.rt_lines.specs.Numbers.{Is32Bits}
 use Rattle.rt_trace.specs.declared.item.What.{What}
 use Rattle.rt_trace.specs.declared.item.What.TheVariants as what
 use Rattle.rt_core.specs.Core.{Core, Context, depth, stack_in_use, context_words, reset}
@@ -58,18 +58,18 @@ use Rattle.rt_run.specs.Numbers.{HasNumbers, IsWordIf}
 use Rattle.rt_run.specs.Ranges.{AreWords, IsWordInstr, HasLevelNote, HasRanges}
 
 -- what an operation gives on two numbers of 32 bits
-wrapped_word : (n : ℕ) → IsWord (wrapped_number n)
+wrapped_word : (n : ℕ) → Is32Bits (wrapped_number n)
 wrapped_word n = omega arith
 
-test_word : (b : Bool) → IsWord (number_of b)
+test_word : (b : Bool) → Is32Bits (number_of b)
 test_word true = omega arith
 test_word false = omega arith
 
-either_word : (b : Bool) (x y : ℕ) → IsWord x → IsWord y → IsWord (if b then x else y)
+either_word : (b : Bool) (x y : ℕ) → Is32Bits x → Is32Bits y → Is32Bits (if b then x else y)
 either_word true x y this that = this
 either_word false x y this that = that
 
-operate_word : (o : Op) (a b : ℕ) → IsWord a → IsWord b → IsWord (operate o a b)
+operate_word : (o : Op) (a b : ℕ) → Is32Bits a → Is32Bits b → Is32Bits (operate o a b)
 operate_word op.Add a b x y = wrapped_word (a + b)
 operate_word op.Sub a b x y = wrapped_word (a + (2 ^ 32 - b))
 operate_word op.Mul a b x y = wrapped_word (a * b)
@@ -92,12 +92,12 @@ operate_word op.Gt a b x y = test_word (nat_lt b a)
 operate_word op.Ge a b x y = test_word (nat_le b a)
 
 -- words of lists
-set_words : (xs : List ℕ) (k v : ℕ) → AreWords xs → IsWord v → AreWords (slice_set xs k v)
+set_words : (xs : List ℕ) (k v : ℕ) → AreWords xs → Is32Bits v → AreWords (slice_set xs k v)
 set_words [] k v all word = tt
 set_words (x ∷ xs) zero v all word = (word, all.1)
 set_words (x ∷ xs) (suc k) v all word = (all.0, set_words xs k v all.1 word)
 
-index_word : (xs : List ℕ) (k : ℕ) → AreWords xs → IsWord (slice_index xs k)
+index_word : (xs : List ℕ) (k : ℕ) → AreWords xs → Is32Bits (slice_index xs k)
 index_word [] k all = omega arith
 index_word (x ∷ xs) zero all = all.0
 index_word (x ∷ xs) (suc k) all = index_word xs k all.1
@@ -125,7 +125,7 @@ zero_words (suc n) = (omega arith, zero_words n)
 pub record HasWordsNow (p : Processor) : Type 0 where
   pub slots : AreWords p.slots
   pub cells : AreWords p.cells
-  pub basepri : IsWord p.basepri
+  pub basepri : Is32Bits p.basepri
 
 abbrev IsWordContext : Context → Type 0
 IsWordContext x = AreWords x.slots × AreWords (words_of x.caller)
@@ -137,9 +137,9 @@ pub record IsInRange (c : Core) : Type 0 where
 
 -- what is asked of the core is in range
 abbrev AsksNumbers : Processor → Request → Type 0
-AsksNumbers p (request.Emit value) = IsWord value
-AsksNumbers p (request.Clock time) = IsWord time
-AsksNumbers p (request.Call row from) = IsWord (suc p.address)
+AsksNumbers p (request.Emit value) = Is32Bits value
+AsksNumbers p (request.Clock time) = Is32Bits time
+AsksNumbers p (request.Call row from) = Is32Bits (suc p.address)
 AsksNumbers p asked = Unit {0}
 
 abbrev IsEffectInRange : Effect → Type 0
@@ -151,11 +151,11 @@ tested_in true true e h = h
 tested_in true false e h = tt
 tested_in false s e h = tt
 
-module _ (time : ℕ) (p : Processor) (early : IsWord time) (near : IsWord (suc p.address)) (h : HasWordsNow p) where
-  with_slot : (d v : ℕ) → IsWord v → HasWordsNow (record (next p) { slots = slice_set p.slots d v })
+module _ (time : ℕ) (p : Processor) (early : Is32Bits time) (near : Is32Bits (suc p.address)) (h : HasWordsNow p) where
+  with_slot : (d v : ℕ) → Is32Bits v → HasWordsNow (record (next p) { slots = slice_set p.slots d v })
   with_slot d v word = record { slots = set_words p.slots d v h.slots word; cells = h.cells; basepri = h.basepri }
 
-  with_cell : (k v : ℕ) → IsWord v → HasWordsNow (record (next p) { cells = slice_set p.cells k v })
+  with_cell : (k v : ℕ) → Is32Bits v → HasWordsNow (record (next p) { cells = slice_set p.cells k v })
   with_cell k v word = record { slots = h.slots; cells = set_words p.cells k v h.cells word; basepri = h.basepri }
 
   on : HasWordsNow (next p)
@@ -288,7 +288,7 @@ module _ (img : Image) (c : Core) (h : IsInRange c) where
   return_in (Some caller) [] all = h
   return_in (Some caller) (x ∷ below) all = h
 
-  call_row_in : (row : Option BodyRow) (from : ℕ) → IsWord (suc c.processor.address)
+  call_row_in : (row : Option BodyRow) (from : ℕ) → Is32Bits (suc c.processor.address)
       → IsAfterInRange img (transfer.call_row img c row from)
   call_row_in None from near = h
   call_row_in (Some row) from near =
@@ -300,7 +300,7 @@ module _ (img : Image) (c : Core) (h : IsInRange c) where
       (λ fits. (
         record {
           now = record {
-            slots = all_append IsWord (take row.args (drop from caller)) (replicate (row.frame - row.args) 0)
+            slots = all_append Is32Bits (take row.args (drop from caller)) (replicate (row.frame - row.args) 0)
                 (take_words row.args (drop from caller) (drop_words from caller words))
                 (zero_words (row.frame - row.args));
             cells = h.now.cells;
@@ -422,7 +422,7 @@ trap_small trap.Stack = omega arith
 trap_small trap.Jump = omega arith
 
 module _ (img : Image) (runnable : IsRunnable img) (ranges : HasRanges img) (c : Core) (h : IsInRange c)
-    (early : IsWord c.time) where
+    (early : Is32Bits c.time) where
   run_in : (line : Option (Instr × Option Note)) → slice_get img.code c.processor.address ≡ line
       → IsAfterInRange img (stepping.run img c line)
   run_in None at = h
@@ -452,7 +452,7 @@ module _ (img : Image) (runnable : IsRunnable img) (ranges : HasRanges img) (c :
       subst (λ (s : Core × Option What). IsInRange s.0 × IsShownInRange img s.1) (sym (step_is img c))
       (by_stopped c.stopped)
 
-first_cells : (cells : List CellRow) → AllByRecursion (λ cell. IsWord cell.first) cells
+first_cells : (cells : List CellRow) → AllByRecursion (λ cell. Is32Bits cell.first) cells
     → AreWords (map (λ cell. cell.first) cells)
 first_cells [] all = tt
 first_cells (cell ∷ cells) all = (all.0, first_cells cells all.1)

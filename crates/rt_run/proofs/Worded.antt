@@ -9,15 +9,14 @@ use Rattle.rt_lemmas.proofs.Membership.{all_at, contains_at}
 use Rattle.rt_ids.specs.Choice.{IsIn}
 use Rattle.rt_ids.specs.Lists.{then_from}
 use Rattle.rt_ids.specs.Names.{Names}
-use Rattle.rt_ids.specs.declared.ids.BodyId.{BodyId}
-use Rattle.rt_ids.specs.declared.ids.BodyId.TheVariants as body
 use Rattle.rt_ids.specs.declared.ids.Section.{Section}
 use Rattle.rt_ids.specs.declared.ids.Section.TheVariants as section
+use Rattle.rt_ids.specs.Naming.{IsDeclared, IsTask}
 use Rattle.rt_code.specs.Cells.{resource_cell, cell_named}
 use Rattle.rt_code.specs.Effect.{effect, unchecked_effect, next, slot}
 use Rattle.rt_code.specs.Image.{Image, entry_words}
 use Rattle.rt_code.specs.Lines.{HasLines, HasCell}
-use Rattle.rt_code.specs.Listable.{IsDeclared, IsTask, HasSection, HasBody, HasInstr, HasNote}
+use Rattle.rt_code.specs.Listable.{HasSection, HasInstr, HasNote}
 use Rattle.rt_code.specs.Operands.{slots_of, are_there}
 use Rattle.rt_code.specs.Access.{cells_of}
 use Rattle.rt_code.specs.Processor.{Processor, Effect, Traps, Leads}
@@ -36,7 +35,7 @@ use Rattle.rt_code.specs.declared.processor.Trap.TheVariants as trap
 use Rattle.rt_code.proofs.Done.{tested}
 use Rattle.rt_code.proofs.Touching.{cells_after, cells_sized}
 use Rattle.rt_trace.specs.Lined.{HasOperands}
-use Rattle.rt_lines.specs.Operand.{IsSection, IsBody}
+use Rattle.rt_lines.specs.Operand.{IsSection, HasLevel}
 use Rattle.rt_trace.specs.declared.item.What.{What}
 use Rattle.rt_trace.specs.declared.item.What.TheVariants as what
 use Rattle.rt_trace.proofs.Values.{values_written}
@@ -49,7 +48,7 @@ use Rattle.rt_core.specs.Transfer as transfer
 use Rattle.rt_core.proofs.Happening.{step_by, step_is}
 use Rattle.rt_core.proofs.Picking.{picked_row}
 use Rattle.rt_run.specs.Writable.{IsKnown}
-use Rattle.rt_run.specs.Numbers.{HasNumbers, HasLevel, IsWordIf}
+use Rattle.rt_run.specs.Numbers.{HasNumbers, IsWordIf}
 use Rattle.rt_run.specs.Inside.Writing.{HasValueOf, HasWords, ShowsWords}
 
 is_section : (names : Names) (x : Section) → HasSection names x → HasLevel x → IsSection names x
@@ -68,11 +67,6 @@ is_left names (section.Ready p) None h l v n = record { written = (l, tt); few =
 is_left names (section.Ready p) (Some k) h l v n = absurd cc
 is_left names section.Timer None h l v n = record { written = (tt, tt); few = tt }
 is_left names section.Timer (Some k) h l v n = absurd cc
-
-is_body : (names : Names) (b : BodyId) → HasBody names b → IsBody names b
-is_body names body.Init h = tt
-is_body names body.Idle h = tt
-is_body names (body.Task t) h = h
 
 pub operands : (names : Names) (w : What) → HasWords names w → HasNumbers w → HasOperands names w
 operands names (what.Pend i) h n = record { written = (h, tt); few = tt }
@@ -95,7 +89,7 @@ operands names (what.Arm t v) h n = record { written = (h, (n, tt)); few = tt }
 operands names (what.Fire t) h n = record { written = (h, tt); few = tt }
 operands names (what.Cancel t handle) h n = record { written = (h, (n, tt)); few = tt }
 operands names (what.Move t handle v) h n = record { written = (h, (n.0, (n.1, tt))); few = tt }
-operands names (what.End b) h n = record { written = (is_body names b h, tt); few = tt }
+operands names (what.End b) h n = record { written = (h, tt); few = tt }
 operands names (what.Trap k) h n = record { written = (n, tt); few = tt }
 
 abbrev IsKnownAfter : Image → Outcome → Type 0

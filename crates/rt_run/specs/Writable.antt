@@ -1,11 +1,11 @@
 -- Machines of which each item has a line.
 use Rattle.std.specs.Prelude.{◌≡◌, length}
 use Rattle.std.specs.List.{AllByRecursion}
+use Rattle.rt_ids.specs.Naming.{IsDeclared}
 use Rattle.rt_code.specs.Image.{Image}
 use Rattle.rt_code.specs.Lines.{HasLines}
 use Rattle.rt_core.specs.Core.{Core}
 use Rattle.rt_core.specs.Machine.{Machine}
-use Rattle.rt_lines.specs.Operand.{IsDeclared}
 
 -- the core has as many cells as the image, and each active handler is of an interrupt with a name
 pub record IsKnown (img : Image) (c : Core) : Type 0 where

@@ -1,7 +1,8 @@
 // Whether the numbers of an item fit their types.
 
 ghost use Rattle.std.specs.Prelude.{◌<◌, ◌^◌};
-ghost use Rattle.rt_run.specs.Numbers.{HasNumbers, HasLevel};
+ghost use Rattle.rt_lines.specs.Operand.{HasLevel};
+ghost use Rattle.rt_run.specs.Numbers.{HasNumbers};
 
 use rt_ids::Section;
 use rt_trace::What;

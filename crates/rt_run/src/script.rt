@@ -3,12 +3,12 @@
 ghost use Rattle.std.specs.Prelude.{◌≡◌, ◌<◌, ◌+◌, ◌^◌, length, replicate, OnOk, OnErr};
 ghost use Rattle.rt_ids.specs.Event.{Arrive, Tick, Step};
 ghost use Rattle.rt_ids.specs.declared.limits.TheConstants.{TRACE_BYTES};
+ghost use Rattle.rt_ids.specs.Naming.{IsDeclared};
 ghost use Rattle.rt_outside.specs.Faults.{HasCause};
 ghost use Rattle.rt_outside.specs.Bytes.{Took, TookPrefix};
 ghost use Rattle.rt_code.specs.Lines.{HasLines};
 ghost use Rattle.rt_core.specs.Machine.{IsFresh};
 ghost use Rattle.rt_script.specs.Script.{IsScript, HasName, HasNames, events, line_events, count_of};
-ghost use Rattle.rt_lines.specs.Operand.{IsDeclared};
 ghost use Rattle.rt_run.specs.Done.{Leads};
 ghost use Rattle.rt_run.specs.Sending.{BreaksOff};
 ghost use Rattle.rt_run.specs.Written.{text_of};

@@ -1,8 +1,8 @@
 // Events whose lines go out at once, so that nothing is held between them.
 ghost use Rattle.std.specs.Prelude.{◌≡◌, ◌<◌, ◌^◌, [], ◌∷◌, OnOk, OnErr};
 ghost use Rattle.rt_ids.specs.Event.{Arrive, Tick};
+ghost use Rattle.rt_ids.specs.Naming.{IsDeclared};
 ghost use Rattle.rt_outside.specs.Faults.{HasCause};
-ghost use Rattle.rt_lines.specs.Operand.{IsDeclared};
 ghost use Rattle.rt_run.specs.Sending.{Sends, Breaks};
 ghost use Rattle.rt_run.specs.Writable.{IsWritable};
 

@@ -7,6 +7,7 @@ use Rattle.std.proofs.lemmas.Bool.{le-leb}
 use Rattle.rt_ids.specs.Operation.{number_of}
 use Rattle.rt_ids.specs.declared.ids.BodyId.TheVariants as body
 use Rattle.rt_ids.specs.declared.ids.Section.{Section}
+use Rattle.rt_ids.proofs.Numbers.{read_back}
 use Rattle.rt_code.specs.Effect.{slot, next, next_with_slot, unchecked_effect}
 use Rattle.rt_code.specs.Image.{Image}
 use Rattle.rt_code.specs.Operands.{slots_of}
@@ -140,10 +141,6 @@ record IsClosed (p : Processor) (kind : Kind) (base : ℕ) (mask : Bool) : Type 
   primask : (closed p kind).primask ≡ mask
   slots : (closed p kind).slots ≡ p.slots
   cells : (closed p kind).cells ≡ p.cells
-
-read_back : (b : Bool) → (number_of b == 1) ≡ b
-read_back true = refl
-read_back false = refl
 
 is_closed : (p : Processor) (kind : Kind) (base : ℕ) (mask : Bool) → p.basepri ≡ base_by kind base
     → p.primask ≡ mask_by kind mask → KeepsMask p.slots kind base mask → IsClosed p kind base mask

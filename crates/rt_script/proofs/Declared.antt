@@ -1,13 +1,11 @@
 -- The lines of a script's text request declared interrupts, of devices that there are.
-use Rattle.std.proofs.Common.{◌≡◌, ◌≤◌, ◌==◌, ℕ, ◌+◌, List, [], ◌∷◌, ◌++◌, find, bytes_eq, Option, Some, None}
-use Rattle.std.proofs.Common.{Result, Ok, Err, IfOk, IfSome, IsSome, nat_lt, nat_le, option_map, refl, ap, arith}
-use Rattle.std.specs.List.{AllByRecursion}
+use Rattle.std.proofs.Common.{◌≡◌, ◌≤◌, ℕ, ◌+◌, List, [], ◌∷◌, ◌++◌, find, bytes_eq, Option, Some, None}
+use Rattle.std.proofs.Common.{Result, Ok, Err, IfOk, IfSome, IsSome, nat_lt, nat_le, option_map, refl, arith}
 use Rattle.std.specs.Option.{ok_or}
-use Rattle.std.specs.Prelude.{is_some}
-use Rattle.std.proofs.lemmas.Bool.{cond_both, eq-eqb, ltb-true, leb-true}
+use Rattle.std.proofs.lemmas.Bool.{cond_both, ltb-true, leb-true}
 use Rattle.std.proofs.lemmas.List.Sums.{sum_by_push}
-use Rattle.rt_lemmas.proofs.Lists.{find_has, found}
-use Rattle.rt_lemmas.proofs.Membership.{all_append, all_from_members, contains_at}
+use Rattle.rt_lemmas.proofs.Lists.{find_has}
+use Rattle.rt_lemmas.proofs.Membership.{all_append}
 use Rattle.rt_ids.specs.Names.{Names}
 use Rattle.rt_ids.specs.Naming.{irq_named}
 use Rattle.rt_ids.specs.declared.limits.TheConstants.{DEVICES, SCRIPT_EVENTS}
@@ -24,23 +22,17 @@ use Rattle.rt_script.specs.declared.words.Wrong.{Wrong}
 use Rattle.rt_script.specs.declared.words.Wrong.TheVariants as wrong
 use Rattle.rt_lines.proofs.Decoded.{if_ok_chosen, if_ok_then, if_ok_make, if_ok_then_any, if_ok_make_any}
 use Rattle.rt_lines.proofs.Reading.{kept}
+use Rattle.rt_lines.proofs.Found.{irqs_declared}
 
 module _ (names : Names) where
   abbrev IsDeclared : ℕ → Type 0
   IsDeclared irq = IsSome (irq_named names irq)
 
-  -- a declared interrupt is found by its number
-  all_declared : AllByRecursion (λ irq. IsDeclared irq.1) names.irqs
-  all_declared =
-      all_from_members (λ irq. IsDeclared irq.1) names.irqs
-      (λ irq there. let at = contains_at names.irqs irq there in
-      ap is_some (found (λ other. other.1 == irq.1) names.irqs at.0 irq at.1 (eq-eqb irq.1 irq.1 refl)).1)
-
   by_name : (word : List ℕ) (o : Option (List ℕ × ℕ)) → find (λ irq. bytes_eq word irq.0) names.irqs ≡ o
       → IfOk (ok_or (option_map (λ irq. irq.1) o) wrong.Interrupt) IsDeclared
   by_name word None is = tt
   by_name word (Some irq) is =
-      find_has (λ irq. IsDeclared irq.1) (λ irq. bytes_eq word irq.0) names.irqs irq all_declared is
+      find_has (λ irq. IsDeclared irq.1) (λ irq. bytes_eq word irq.0) names.irqs irq (irqs_declared names) is
 
   irq_declared : (word : List ℕ) → IfOk (irq_at names word) IsDeclared
   irq_declared word =

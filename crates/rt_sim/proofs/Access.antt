@@ -5,6 +5,7 @@ use Rattle.rt_lemmas.proofs.Bools.{and_parts, or_cases}
 use Rattle.rt_ids.specs.Choice.{IsIn}
 use Rattle.rt_actions.specs.Location.{Guarded, is_same_section}
 use Rattle.rt_actions.specs.Storage.{Runner, Starting, AtPriority, At}
+use Rattle.rt_actions.proofs.Sections.{one_section}
 use Rattle.rt_ids.specs.declared.ids.Section.{Section}
 use Rattle.rt_ids.specs.declared.ids.Section.TheVariants as section
 use Rattle.rt_app.specs.Tree.{App}
@@ -19,7 +20,6 @@ use Rattle.rt_code.specs.Image.{Image}
 use Rattle.rt_code.specs.Owning.{OpenSection, owns, reads, is_open, MayLoad, MayStore, MayAccess}
 use Rattle.rt_code.specs.Standing.{Stands}
 use Rattle.rt_code.specs.declared.image.IrqRow.{IrqRow}
-use Rattle.rt_code.proofs.Mine.{one_section}
 use Rattle.rt_core.specs.Access.{access, access_by, access_by_line}
 use Rattle.rt_core.specs.Priority.{pick}
 use Rattle.rt_core.proofs.Standing.{standing_leads}

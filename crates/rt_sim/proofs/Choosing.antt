@@ -7,7 +7,7 @@ use Rattle.std.specs.List.{AllByRecursion}
 use Rattle.std.proofs.lemmas.Bool.{cases_lt, eqb-true}
 use Rattle.std.proofs.lemmas.Bool.Decides.{nat_tests}
 use Rattle.std.proofs.lemmas.Option.{same_Some}
-use Rattle.rt_lemmas.proofs.Bools.{true_and_false}
+use Rattle.rt_lemmas.proofs.Bools.{true_and_false, not_so}
 use Rattle.rt_lemmas.proofs.Lists.{find_has, mapped_at}
 use Rattle.rt_lemmas.proofs.Membership.{all_weaker}
 use Rattle.rt_lemmas.proofs.Indices.{there_is}
@@ -28,7 +28,6 @@ use Rattle.rt_laws.specs.Services.{service_at, priority_of}
 use Rattle.rt_laws.specs.State.{State}
 use Rattle.rt_laws.specs.Preemption.{system_ceiling, may_start, goes_before, candidate}
 use Rattle.rt_sim.proofs.ExecutionPriority.{value_of_top}
-use Rattle.rt_build.proofs.ImageCells.{not_so}
 
 -- a choice goes along with a view that keeps tests and order
 module _ {A B : Type 0} (f : A → B) (P : A → Type 0) (pa : A → Bool) (pb : B → Bool) (ba : A → A → Bool)

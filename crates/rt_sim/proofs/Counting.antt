@@ -6,10 +6,11 @@ use Rattle.std.proofs.lemmas.List.Sums.{sum_by-append}
 use Rattle.rt_lemmas.proofs.Bools.{true_and_false, left_of_none, right_of_none}
 use Rattle.rt_actions.specs.Entry.{Entry, count}
 use Rattle.rt_actions.specs.Location.{Location, Guarded, Own, is_same_section, is_same_location}
+use Rattle.rt_actions.proofs.Sections.{one_section}
 use Rattle.rt_ids.specs.declared.ids.Section.{Section}
 use Rattle.rt_code.specs.Acting.{with_queue}
 use Rattle.rt_code.specs.Owning.{OpenSection, is_open}
-use Rattle.rt_code.proofs.Mine.{one_section, queued, queued_more}
+use Rattle.rt_code.proofs.Mine.{queued, queued_more}
 use Rattle.rt_code.proofs.Left.{count_more}
 use Rattle.rt_sim.specs.Inside.Counts.{IsOnce}
 use Rattle.rt_sim.specs.Inside.PartInvariant.{AreOnce}

@@ -3,9 +3,10 @@
 use Rattle.std.proofs.Common.{◌≡◌, ℕ, ◌^◌, ◌<◌, ◌≤◌, ◌||◌, ◌⊎◌, inl, inr, Bool, true, false, List, [], ◌∷◌, refl, sym}
 use Rattle.std.proofs.Common.{ap, subst, ◌∙◌, arith}
 use Rattle.std.specs.List.{AllByRecursion}
-use Rattle.rt_lemmas.proofs.Bools.{or_neither, or_cases, or_left, or_right}
+use Rattle.rt_lemmas.proofs.Bools.{or_neither, or_cases, or_left, or_right, not_so}
 use Rattle.rt_actions.specs.Location.{Location, Guarded, Own, is_same_section}
 use Rattle.rt_actions.specs.Storage.{Runner, AtPriority}
+use Rattle.rt_actions.proofs.Sections.{one_section}
 use Rattle.rt_ids.specs.declared.ids.Section.{Section}
 use Rattle.rt_app.specs.Tree.{App}
 use Rattle.rt_app.specs.Ceiling.{ceiling}
@@ -13,12 +14,10 @@ use Rattle.rt_app.specs.Holding.{storage}
 use Rattle.rt_code.specs.Image.{Image}
 use Rattle.rt_code.specs.Masking.{IsWithin, NobodyKeeps}
 use Rattle.rt_code.specs.Owning.{OpenSection, owns, reads, is_open}
-use Rattle.rt_code.proofs.Mine.{one_section}
 use Rattle.rt_laws.specs.Preemption.{system_ceiling, greatest_ceiling}
 use Rattle.rt_sim.specs.Inside.Coupling.{Part, runner_of, sections_of, jobs_of}
 use Rattle.rt_sim.specs.Inside.PartInvariant.{who, Reads}
 use Rattle.rt_sim.specs.Inside.CouplingInvariant.{IsStacked}
-use Rattle.rt_build.proofs.ImageCells.{not_so}
 
 -- one more section is owned, and read, by who opens it
 pub owns_less : (app : App) (runner : Runner) (h : OpenSection) (outer : List OpenSection) (location : Location)

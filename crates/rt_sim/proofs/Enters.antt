@@ -4,7 +4,7 @@ use Rattle.std.proofs.Common.{◌≡◌, ◌≢◌, ℕ, suc, ◌+◌, ◌-◌, 
 use Rattle.std.proofs.Common.{length, map, slice_get, slice_index, slice_set, Contains, Some, None, refl, sym, ap}
 use Rattle.std.proofs.Common.{subst, ◌∙◌, arith, length-set, get_or-set_same, get_or-set_other}
 use Rattle.std.specs.List.{AllByRecursion}
-use Rattle.rt_lemmas.proofs.Bools.{left_of_none, true_and_false, or_neither}
+use Rattle.rt_lemmas.proofs.Bools.{left_of_none, true_and_false, or_neither, not_so}
 use Rattle.rt_lemmas.proofs.Lists.{all_map}
 use Rattle.rt_lemmas.proofs.Membership.{contains_here, contains_there, all_weaker}
 use Rattle.rt_actions.specs.Location.{Guarded}
@@ -52,7 +52,6 @@ use Rattle.rt_sim.proofs.Plain.{may_turn}
 use Rattle.rt_sim.proofs.Acts.{owns_alike, agrees_reached, agreed, respects_next, gives_item, acts_as}
 use Rattle.rt_sim.proofs.Fitting.{FitIn, fits_timed}
 use Rattle.rt_sim.proofs.Entering.{owns_less, reads_less, free_below}
-use Rattle.rt_build.proofs.ImageCells.{not_so}
 
 -- a list in which another slot is set is the same at these
 kept_beside : (slots : List ℕ) (slot v : ℕ) (ds : List ℕ) → ¬ Contains ds slot

@@ -14,6 +14,7 @@ use Rattle.rt_actions.specs.Doing.{Doing, does}
 use Rattle.rt_ids.specs.Operation.{number_of}
 use Rattle.rt_ids.specs.declared.ids.Section.{Section}
 use Rattle.rt_ids.specs.declared.ids.Section.TheVariants as section
+use Rattle.rt_ids.proofs.Numbers.{read_back}
 use Rattle.rt_app.specs.Tree.{App}
 use Rattle.rt_app.specs.Holding.{storage, IsHeld}
 use Rattle.rt_app.specs.Layout.{memory}
@@ -58,10 +59,6 @@ open_first : (x : Section) (kind : Kind) (outer : List OpenSection)
     → is_open (record { section = x; kind = kind } ∷ outer) x ≡ true
 open_first x kind outer = or_left _ (is_open outer x) (same_section x)
 
-one_is : (b : Bool) → (number_of b == 1) ≡ b
-one_is true = refl
-one_is false = refl
-
 number_low : (b : Bool) → number_of b ≤ 1
 number_low true = omega arith
 number_low false = omega arith
@@ -83,7 +80,7 @@ module _ (app : App) where
       → p.primask ≡ mask_by kind mask → (with_saved p kind).primask ≡ mask
   mask_put p Marked base mask saves is = is
   mask_put p (Raised slot) base mask saves is = is
-  mask_put p (Masked slot) base mask saves is = ap (λ n. n == 1) saves.1 ∙ one_is mask
+  mask_put p (Masked slot) base mask saves is = ap (λ n. n == 1) saves.1 ∙ read_back mask
 
 module _ (app : App) (img : Image) (thread : ℕ) where
   -- the running job without its innermost section

@@ -6,7 +6,7 @@ use Rattle.std.proofs.Common.{◌∷◌, length}
 use Rattle.std.proofs.Common.{slice_index, Option, Some, None, refl, sym, subst, ◌∙◌, arith}
 use Rattle.std.specs.List.{AllByRecursion}
 use Rattle.std.proofs.lemmas.Bool.{eqb-true, eq-eqb}
-use Rattle.rt_lemmas.proofs.Bools.{true_and_false}
+use Rattle.rt_lemmas.proofs.Bools.{true_and_false, not_so}
 use Rattle.rt_actions.specs.Location.{Location, Guarded, Own}
 use Rattle.rt_actions.specs.Content.{Content, Values}
 use Rattle.rt_actions.specs.Entry.{Entry, count}
@@ -31,7 +31,6 @@ use Rattle.rt_sim.specs.Inside.Coupling.{Part, configuration_of}
 use Rattle.rt_sim.specs.Inside.Counts.{hands, IsOnce}
 use Rattle.rt_sim.specs.Inside.PartInvariant.{who, PartInvariant, StandsBy, AgreesWith, Owns, Reads, AreApart}
 use Rattle.rt_sim.proofs.Counting.{queued_in, fewer_once}
-use Rattle.rt_build.proofs.ImageCells.{not_so}
 
 -- a cell is as before, or it belongs to what the job owns, or to a place in its hands
 abbrev pub IsLeftOrOwned : App → Runner → List OpenSection → List Entry → List ℕ → List ℕ → ℕ → Type 0

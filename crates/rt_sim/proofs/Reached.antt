@@ -130,3 +130,11 @@ module _ (app : App) (img : Image) (accepted : IsAccepted app) (is_image : IsIma
               (shown_ones app img events (reset img)) whole.agrees.places;
         };
       }
+
+-- the events of two lists, one behind the other, are declared where those of each are
+pub declared_append : (app : App) (xs ys : List Event) → AreDeclared app xs → AreDeclared app ys
+    → AreDeclared app (xs ++ ys)
+declared_append app [] ys front back = back
+declared_append app (Arrive irq ∷ xs) ys front back = (front.0, declared_append app xs ys front.1 back)
+declared_append app (Tick ∷ xs) ys front back = declared_append app xs ys front back
+declared_append app (Step ∷ xs) ys front back = declared_append app xs ys front back

@@ -4,22 +4,22 @@ use Rattle.std.proofs.Common.{◌≡◌, ℕ, ◌==◌, true, List, [], ◌∷�
 use Rattle.std.proofs.Common.{option_map, refl, sym, ap, subst, ◌∙◌, append_assoc, eq-eqb}
 use Rattle.std.proofs.lemmas.Bool.{eqb-true}
 use Rattle.std.proofs.lemmas.Option.{none-some}
-use Rattle.rt_lemmas.proofs.Lists.{find_has}
+use Rattle.rt_lemmas.proofs.Lists.{find_has, found_passes}
 use Rattle.rt_lemmas.proofs.Membership.{any_one, any_passes}
 use Rattle.rt_ids.specs.Lists.{is_some_and, then_from}
 use Rattle.rt_ids.specs.Event.{Event, Arrive, Tick, Step}
 use Rattle.rt_trace.specs.Label.{Label, Arrived, Ticked, Stepped}
 use Rattle.rt_app.specs.declared.app.IrqDecl.{IrqDecl}
 use Rattle.rt_app.specs.Tree.{App, Task}
-use Rattle.rt_app.specs.Handlers.{irq_number}
+use Rattle.rt_app.specs.Handlers.{irq_number, bound_number}
 use Rattle.rt_code.specs.Image.{Image}
 use Rattle.rt_core.specs.Core.{Core, reset}
 use Rattle.rt_core.specs.Stepping.{step}
 use Rattle.rt_core.specs.Trace.{tick, happen, labels}
 use Rattle.rt_core.specs.Transfer.{core_after_pend}
 use Rattle.rt_laws.specs.Services.{is_declared}
-use Rattle.rt_laws.proofs.Pending.{found_passes, some_number, made_number}
-use Rattle.rt_rta.specs.Limits.{bound_number, is_bound, every_of, AreLimits}
+use Rattle.rt_laws.proofs.Pending.{some_number, made_number}
+use Rattle.rt_rta.specs.Limits.{is_bound, every_of, AreLimits}
 use Rattle.rt_rta.specs.declared.limits.Limit.{Limit}
 use Rattle.rt_rta.proofs.Responding.{runs_respond, runs_respond_once_init_ends}
 use Rattle.rt_sim.specs.Good.{AreDeclared}

@@ -5,13 +5,14 @@ use Rattle.std.proofs.Common.{List, [], ◌∷◌, length, replicate, slice_set,
 use Rattle.std.proofs.Common.{refl, sym, ap, subst, ◌∙◌, arith, length-set}
 use Rattle.std.specs.List.{AllByRecursion}
 use Rattle.std.proofs.lemmas.List.{length-replicate}
-use Rattle.rt_lemmas.proofs.Bools.{true_and_false, or_cases, or_left}
+use Rattle.rt_lemmas.proofs.Bools.{true_and_false, or_cases, or_left, not_so}
 use Rattle.rt_lemmas.proofs.Membership.{all_weaker}
 use Rattle.rt_actions.specs.Location.{Location, Guarded, Own, is_same_section}
 use Rattle.rt_actions.specs.Content.{Values}
 use Rattle.rt_actions.specs.Entry.{Entry}
 use Rattle.rt_ids.specs.Priority.{hardware}
 use Rattle.rt_actions.specs.Storage.{Runner, AtPriority}
+use Rattle.rt_actions.proofs.Sections.{one_section}
 use Rattle.rt_ids.specs.declared.ids.Section.{Section}
 use Rattle.rt_ids.proofs.Hardware.{hardware_falls}
 use Rattle.rt_app.specs.Tree.{App}
@@ -26,7 +27,6 @@ use Rattle.rt_code.specs.Masking.{NobodyKeeps}
 use Rattle.rt_code.specs.Owning.{OpenSection, owns, reads, is_open}
 use Rattle.rt_code.specs.Standing.{Stands, StandsFrom}
 use Rattle.rt_code.specs.declared.image.BodyRow.{BodyRow}
-use Rattle.rt_code.proofs.Mine.{one_section}
 use Rattle.rt_core.specs.Core.{depth}
 use Rattle.rt_core.specs.Priority.{base_value, mask_value, running_value}
 use Rattle.rt_core.specs.Stepping.{step}
@@ -50,7 +50,6 @@ use Rattle.rt_sim.proofs.Others.{all_clear, others_kept}
 use Rattle.rt_sim.proofs.Acts.{owns_alike, agrees_reached}
 use Rattle.rt_sim.proofs.Entering.{at_threshold}
 use Rattle.rt_sim.proofs.ExecutionPriority.{held_off, masks_are}
-use Rattle.rt_build.proofs.ImageCells.{not_so}
 
 -- the job that a handler of an interrupt starts
 abbrev pub handler_part : App → Entries → ℕ → Service → List BodyRow → Values → Part

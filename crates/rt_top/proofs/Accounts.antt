@@ -3,12 +3,12 @@ use Rattle.std.proofs.Common.{◌≡◌, ℕ, ◌*◌, ◌≤◌, ◌==◌, true
 use Rattle.std.proofs.Common.{Option, Some, None, option_map, unwrap_or, refl, sym, arith, length-append}
 use Rattle.std.specs.List.{AllByRecursion}
 use Rattle.rt_lemmas.proofs.Lists.{find_has, flat_map-map}
+use Rattle.rt_lemmas.proofs.Texts.{decimal_few}
 use Rattle.rt_ids.specs.Names.{Names, AreNames}
 use Rattle.rt_ids.specs.Naming.{irq_named, irq_name}
 use Rattle.rt_ids.specs.Word.{IsName}
 use Rattle.rt_live.specs.Account.{account_text, counts_of}
 use Rattle.rt_live.specs.declared.account.AccountRow.{AccountRow}
-use Rattle.rt_load.proofs.Lengths.{decimal_few}
 use Rattle.rt_trace.specs.Reading.{is_account}
 use Rattle.rt_lines.specs.Table.{spaced_text}
 use Rattle.rt_lines.proofs.Short.{irq_name_short}

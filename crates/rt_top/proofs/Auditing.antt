@@ -6,6 +6,7 @@ use Rattle.rt_ids.specs.Names.{Names}
 use Rattle.rt_ids.specs.declared.limits.TheConstants.{TRACE_BYTES}
 use Rattle.std.proofs.lemmas.List.Splits.{length-slice_split}
 use Rattle.std.proofs.lemmas.List.Sums.{count_by-le-length}
+use Rattle.std.proofs.lemmas.Option.{same_Some}
 use Rattle.rt_ids.specs.Lists.{is_empty}
 use Rattle.rt_lines.specs.Parts.{parts, lines_of_parts, lines}
 use Rattle.rt_lines.proofs.Reading.{lead_more}
@@ -98,15 +99,12 @@ few_lines text =
       count_by-le-length (λ b. b == 10) text,
     )
 
-some_same : (a b : App) → Some a ≡ Some b → a ≡ b
-some_same a b e = cc
-
 -- behind all lines of a text
 module _ {chosen : Option App} {names : Names} {machine : Machine} {reader : TraceReader} {judge : Judge}
     {refusing : Option TraceRefused} {app : App} (text : List ℕ) (is : chosen ≡ Some app)
     (short : length text ≤ TRACE_BYTES) (h : HasAudited chosen names machine reader judge refusing (lines text)) where
   same_app : app_of machine.code.now.app.now ≡ app
-  same_app = some_same (app_of machine.code.now.app.now) app (sym h.chose ∙ is)
+  same_app = same_Some (app_of machine.code.now.app.now) app (sym h.chose ∙ is)
 
   same_names : names ≡ names_of app
   same_names = h.named ∙ ap names_of same_app

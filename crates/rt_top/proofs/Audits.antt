@@ -6,8 +6,6 @@ use Rattle.rt_lemmas.proofs.Membership.{all_weaker}
 use Rattle.rt_ids.specs.Event.{Event, steps}
 use Rattle.rt_ids.specs.Names.{Names, AreNames}
 use Rattle.rt_ids.specs.declared.cell.CellRow.{CellRow}
-use Rattle.rt_ids.specs.declared.ids.Section.{Section}
-use Rattle.rt_ids.specs.declared.ids.Section.TheVariants as section
 use Rattle.rt_app.specs.Acceptance.{IsSound}
 use Rattle.rt_app.specs.Names.{names_of}
 use Rattle.rt_app.specs.Tree.{App}
@@ -28,12 +26,10 @@ use Rattle.rt_core.specs.Core.{reset}
 use Rattle.rt_core.specs.Trace.{labels, trace}
 use Rattle.rt_listing.specs.Listing.{listing}
 use Rattle.rt_listing.specs.Numbers.{HasTypedNumbers, AreWords, instr_numbers, NamesLevel}
-use Rattle.rt_listing.specs.Numbers as listed
 use Rattle.rt_live.specs.Account.{account_text}
 use Rattle.rt_live.specs.declared.account.AccountRow.{AccountRow}
 use Rattle.rt_load.proofs.Headed.{heading_of, heading_fed, heading_unbroken, heading_passed}
 use Rattle.rt_load.proofs.Lengths.{listing_few}
-use Rattle.rt_run.specs.Numbers.{HasLevel}
 use Rattle.rt_run.specs.Ranges.{HasRanges, IsWordInstr, HasLevelNote}
 use Rattle.rt_run.proofs.Brief.{items_few, steps_within, all_two}
 use Rattle.rt_run.proofs.Items.{IsRightItem, trace_right}
@@ -62,16 +58,10 @@ word_instr (instr.Set d v) words = words.1.0
 word_instr (instr.Raise d v) words = words.1.0
 word_instr i words = tt
 
-same_level : (s : Section) → listed.HasLevel s → HasLevel s
-same_level (section.Res r) level = tt
-same_level (section.Free t) level = tt
-same_level (section.Ready p) level = level
-same_level section.Timer level = tt
-
 level_note : (n : Option Note) → NamesLevel n → HasLevelNote n
 level_note None level = tt
-level_note (Some (note.Enter s)) level = same_level s level
-level_note (Some (note.Leave s)) level = same_level s level
+level_note (Some (note.Enter s)) level = level
+level_note (Some (note.Leave s)) level = level
 level_note (Some n) level = tt
 
 in_range : (image : Image) → HasTypedNumbers image → HasRanges image

@@ -46,3 +46,18 @@ shown_from n m total (Stepped (Some w) ∷ labels) le all silent =
 
 pub show_their_events : ShowTheirEvents
 show_their_events labels silent = shown_from 0 0 (steps_of labels) labels (omega arith) (omega arith) silent
+
+-- the core steps of labels, one by one and one behind the other
+pub steps_cons : (l : Label) (ls : List Label) → steps_of (l ∷ ls) ≡ steps_of (l ∷ []) + steps_of ls
+steps_cons (Arrived irq) ls = omega arith
+steps_cons Ticked ls = omega arith
+steps_cons Rang ls = omega arith
+steps_cons (Stepped w) ls = omega arith
+
+pub steps_join : (ls ms : List Label) → steps_of (ls ++ ms) ≡ steps_of ls + steps_of ms
+steps_join [] ms = omega arith
+steps_join (l ∷ ls) ms =
+    let front = steps_cons l ls in
+    let whole = steps_cons l (ls ++ ms) in
+    let rest = steps_join ls ms in
+    omega (arith, front, whole, rest)

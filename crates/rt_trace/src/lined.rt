@@ -1,8 +1,9 @@
 // Whether an item can be written.
 
 ghost use Rattle.std.specs.Prelude.{◌↔◌, ◌<◌, ◌^◌, IsTrue};
-ghost use Rattle.rt_lines.specs.Numbers.{IsWord};
+ghost use Rattle.rt_ids.specs.Naming.{IsDeclared, IsTask, IsBody};
 ghost use Rattle.rt_lines.specs.Operand as operand;
+ghost use Rattle.rt_lines.specs.Numbers.{Is32Bits};
 ghost use Rattle.rt_trace.specs.Lined as spec;
 
 use crate::item::{Item, What};
@@ -42,7 +43,7 @@ fn has_operands(what: &What, names: &Names) -> bool
 
 /// Whether a number is of 32 bits, as each is that the code holds.
 fn is_word(number: u32) -> bool
-    ensures { IsTrue result ↔ IsWord number }
+    ensures { IsTrue result ↔ Is32Bits number }
 {
     u64::from(number) < 1 << 32
 }
@@ -55,13 +56,13 @@ fn is_byte(number: u8) -> bool
 }
 
 fn is_declared(irq: Irq, names: &Names) -> bool
-    ensures { IsTrue result ↔ operand.IsDeclared names.now irq }
+    ensures { IsTrue result ↔ IsDeclared names.now irq }
 {
     names.irq_name(irq).is_some()
 }
 
 fn is_task(task: TaskId, names: &Names) -> bool
-    ensures { IsTrue result ↔ operand.IsTask names.now task }
+    ensures { IsTrue result ↔ IsTask names.now task }
 {
     usize::from(task.0) < names.task_count()
 }
@@ -95,7 +96,7 @@ fn is_section(section: Section, names: &Names) -> bool
 }
 
 fn is_body(body: BodyId, names: &Names) -> bool
-    ensures { IsTrue result ↔ operand.IsBody names.now body }
+    ensures { IsTrue result ↔ IsBody names.now body }
 {
     match body {
         BodyId::Task(task) => is_task(task, names),

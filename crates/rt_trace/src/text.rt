@@ -1,8 +1,8 @@
 // Writes items as lines.
 
 ghost use Rattle.std.specs.Prelude.{◌≡◌, ◌≤◌, ◌<◌, ◌+◌, ◌∷◌, ◌++◌, length, map, take, decimal};
-ghost use Rattle.rt_ids.specs.Naming.{irq_name, task_name, section_name, body_name};
-ghost use Rattle.rt_lines.specs.Operand.{IsBody, IsDeclared, IsSection, IsTask};
+ghost use Rattle.rt_ids.specs.Naming.{irq_name, task_name, section_name, body_name, IsDeclared, IsTask, IsBody};
+ghost use Rattle.rt_lines.specs.Operand.{IsSection};
 ghost use Rattle.rt_lines.specs.Table.{spaced_text};
 ghost use Rattle.rt_trace.specs.Lined.{HasLine, HasOperands};
 ghost use Rattle.rt_trace.specs.Text as spec;

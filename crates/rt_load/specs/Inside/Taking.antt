@@ -13,10 +13,9 @@ use Rattle.rt_code.specs.declared.image.BodyRow.{BodyRow}
 use Rattle.rt_code.specs.declared.instr.Instr.{Instr}
 use Rattle.rt_code.specs.declared.instr.Note.{Note}
 use Rattle.rt_lines.specs.Answers.{and_then, and_make}
-use Rattle.rt_lines.specs.Parts.{words}
+use Rattle.rt_lines.specs.Parts.{words, line_with_feed}
 use Rattle.rt_listing.specs.Listing.{first_line, cell_line, irq_line, body_line}
 use Rattle.rt_load.specs.Loadable.{has_dot}
-use Rattle.rt_load.specs.Reading.{line_with_feed}
 use Rattle.rt_load.specs.Inside.Noting.{line_at}
 use Rattle.rt_load.specs.Inside.Operand.{number_at, word_at, of_line}
 use Rattle.rt_load.specs.Inside.Rows.{three_at, cell_at, irq_row_at, body_row_at}

@@ -3,7 +3,8 @@ use Rattle.std.specs.Prelude.{ℕ, ◌+◌, max, Bool, nat_lt, Option, Some, Non
 use Rattle.rt_ids.specs.declared.op.Op.{Op}
 use Rattle.rt_ids.specs.declared.limits.TheConstants.{DEPTH}
 use Rattle.rt_ast.specs.Tree.{Expression, Oper}
-use Rattle.rt_grammar.specs.Expression.{Operand, depth}
+use Rattle.rt_ast.specs.PrintableBody.{depth_of}
+use Rattle.rt_grammar.specs.Expression.{Operand}
 
 -- a tree and its depth
 pub record Kept : Type 0 where
@@ -35,7 +36,7 @@ joined_measure o left right = record { at = left.at; kept = joined_tree o left.k
 abbrev pub measure : Operand → Measured
 measure e = record {
   at = e.at;
-  kept = tree_unless_deep (nat_lt DEPTH (depth e.tree)) (record { tree = e.tree; depth = depth e.tree });
+  kept = tree_unless_deep (nat_lt DEPTH (depth_of e.tree)) (record { tree = e.tree; depth = depth_of e.tree });
 }
 
 -- an expression of one token, a number or a name, which is 1 deep

@@ -2,7 +2,8 @@
 use Rattle.std.specs.Prelude.{ℕ, ◌*◌, nat_le, List, [], ◌∷◌, flat_map, sum_by, Option, Some, None, if◌then◌else◌}
 use Rattle.rt_ids.specs.Lists.{then_from}
 use Rattle.rt_app.specs.Tree.{Task, App}
-use Rattle.rt_rta.specs.Limits.{bound_number, every_of}
+use Rattle.rt_app.specs.Handlers.{bound_number}
+use Rattle.rt_rta.specs.Limits.{every_of}
 use Rattle.rt_rta.specs.Response.{most_requests, handling_steps}
 use Rattle.rt_rta.specs.declared.limits.Limit.{Limit}
 use Rattle.rt_rta.specs.declared.load.Load.{Load}

@@ -6,7 +6,8 @@ use Rattle.rt_ids.specs.Event.{Event}
 use Rattle.rt_ids.specs.Names.{Names}
 use Rattle.rt_ids.specs.declared.ids.Section.{Section}
 use Rattle.rt_ids.specs.declared.ids.Section.TheVariants as section
-use Rattle.rt_code.specs.Listable.{IsDeclared, IsTask, HasSection, HasBody}
+use Rattle.rt_ids.specs.Naming.{IsDeclared, IsTask, IsBody}
+use Rattle.rt_code.specs.Listable.{HasSection}
 use Rattle.rt_core.specs.Machine.{Machine}
 use Rattle.rt_outside.specs.Bytes.{Took, TookPrefix}
 use Rattle.rt_trace.specs.Lined.{HasLine}
@@ -38,7 +39,7 @@ HasWords names (what.Arm t v) = IsTask names t
 HasWords names (what.Fire t) = IsTask names t
 HasWords names (what.Cancel t h) = IsTask names t
 HasWords names (what.Move t h v) = IsTask names t
-HasWords names (what.End b) = HasBody names b
+HasWords names (what.End b) = IsBody names b
 HasWords names w = Unit {0}
 
 -- the names of an item are in the tables, where there is an item

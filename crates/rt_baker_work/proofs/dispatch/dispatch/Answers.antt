@@ -1,6 +1,7 @@
 use Rattle.std.proofs.Common.{length, refl, arith}
+use Rattle.rt_lemmas.proofs.Lists.{none_by_length}
 use Rattle.rt_app.specs.View.{app_of}
-use Rattle.rt_baker_work.proofs.Beginning.{none_by_length, empty_by_length, none_ready, oldest_ready}
+use Rattle.rt_baker_work.proofs.Beginning.{empty_by_length, none_ready, oldest_ready}
 use Rattle.rt_baker_work.proofs.Weights.{pushed_light}
 use Rattle.rt_baker_work.proofs.dispatch.dispatch.Goals as goal
 

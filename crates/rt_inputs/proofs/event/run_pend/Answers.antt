@@ -3,8 +3,8 @@ use Rattle.std.proofs.lemmas.Result.{on_ok_weaker, on_err_weaker}
 use Rattle.rt_ids.specs.Arrivals.{arrivals}
 use Rattle.rt_ids.specs.Event.{Arrive}
 use Rattle.rt_ids.specs.Names.{Names}
+use Rattle.rt_ids.specs.Naming.{IsDeclared}
 use Rattle.rt_code.specs.Image.{Image}
-use Rattle.rt_lines.specs.Operand.{IsDeclared}
 use Rattle.rt_run.proofs.Advancing.{written, stopped_at}
 use Rattle.rt_run.proofs.Happened.{only_bit, one_arrival, pend_leads, pend_lines, pend_lined, pend_shows}
 use Rattle.rt_inputs.proofs.event.run_pend.Goals as goal

@@ -5,6 +5,7 @@ use Rattle.std.proofs.lemmas.List.{take_all}
 use Rattle.std.proofs.lemmas.Option.{slice_get-get_or}
 use Rattle.rt_lemmas.proofs.Membership.{all_at}
 use Rattle.rt_lemmas.proofs.Results.{on_err_from}
+use Rattle.rt_lemmas.proofs.Lists.{flat_map_next}
 use Rattle.rt_ids.specs.declared.limits.TheConstants.{NAME_BYTES}
 use Rattle.rt_outside.specs.Bytes.{TookPrefix}
 use Rattle.rt_app.specs.View.{app_of}
@@ -15,7 +16,7 @@ use Rattle.rt_board.specs.declared.board.Input.{Input}
 use Rattle.rt_inputs.specs.Shown.{local_name}
 use Rattle.rt_inputs.specs.Inside.Placed.{text_for}
 use Rattle.rt_inputs.specs.Inside.Ran.{held_in}
-use Rattle.rt_inputs.proofs.Words.{flat_more, flat_rest}
+use Rattle.rt_inputs.proofs.Words.{flat_rest}
 use Rattle.rt_inputs.proofs.lines.put_inputs.Goals as goal
 
 pub loop-input-init : goal.loop-input-init
@@ -51,7 +52,7 @@ returns-in_err-put_input-clause-err g c =
     wrote_cut _ _ _ held _ front (f input) c.loop-input.invariant.run c.in_err-put_input.ensures.err in
     let whole : (held ++ (front ++ f input)) ++ rest ≡ held ++ flat_map f inputs =
     append_assoc held (front ++ f input) rest
-    ∙ ap (λ t. held ++ t) (ap (λ t. t ++ rest) (sym (flat_more f inputs i input at c.input-item.is))
+    ∙ ap (λ t. held ++ t) (ap (λ t. t ++ rest) (sym (flat_map_next f inputs i input at c.input-item.is))
     ∙ sym (flat_rest f inputs (i + 1))) in
     on_err_from c.from_residual.result
     (subst (λ (is : List Input). TookPrefix before after (held ++ flat_map f is)) c.inputs-inputs.ensures
@@ -68,7 +69,7 @@ loop-input-preserved g c =
     record {
       run =
           subst (Wrote (g.K.Sink.taken c.args.out.now) (g.K.Sink.taken c.put_input.new.out) c.args.held.now.items
-          c.put_input.new.held.items) (sym (flat_more f inputs i input at c.input-item.is))
+          c.put_input.new.held.items) (sym (flat_map_next f inputs i input at c.input-item.is))
           (wrote_on _ _ _ c.args.held.now.items _ _ (flat_map f (take i inputs)) (f input) c.loop-input.invariant.run
           c.in_ok-put_input.ensures.ok);
       quiet = c.in_ok-put_input.ensures.quiet ∙ c.loop-input.invariant.quiet;

@@ -1,8 +1,8 @@
 use Rattle.std.proofs.Common.{◌≡◌, replicate, refl, arith, subst, sym, ◌∙◌}
 use Rattle.rt_lemmas.proofs.Results.{on_err_from}
 use Rattle.rt_ids.specs.Event.{Arrive}
+use Rattle.rt_ids.specs.Naming.{IsDeclared}
 use Rattle.rt_code.specs.Image.{Image}
-use Rattle.rt_lines.specs.Operand.{IsDeclared}
 use Rattle.rt_run.specs.Inside.Writing.{Writes}
 use Rattle.rt_run.proofs.Known.{still_writable, few_after}
 use Rattle.rt_run.proofs.Advancing.{nothing_yet, more, more_cut}

@@ -1,8 +1,8 @@
 use Rattle.std.proofs.Common.{◌≡◌, ℕ, suc, ◌+◌, ◌<◌, refl, arith, subst, sym, ap, ◌∙◌}
+use Rattle.rt_ids.specs.Naming.{IsDeclared}
 use Rattle.rt_lemmas.proofs.Results.{on_err_from}
 use Rattle.rt_app.specs.View.{app_of}
 use Rattle.rt_code.specs.Image.{Image}
-use Rattle.rt_lines.specs.Operand.{IsDeclared}
 use Rattle.rt_given.specs.Words.{behind, given_words, next_word}
 use Rattle.rt_given.proofs.Sources.{after_one, source_after}
 use Rattle.rt_inputs.specs.Going.{moves_at}

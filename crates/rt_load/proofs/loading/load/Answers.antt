@@ -2,9 +2,9 @@ use Rattle.std.proofs.Common.{◌≡◌, ◌≢◌, ◌==◌, ◌∙◌, ◌≤�
 use Rattle.std.proofs.Common.{Option, Some, None, Ok, Err, if◌then◌else◌, refl, ap, sym, subst, arith}
 use Rattle.std.proofs.lemmas.Bool.{eqb-true}
 use Rattle.rt_lines.specs.Inside.Progress.{Progress}
-use Rattle.rt_lines.specs.Parts.{parts}
+use Rattle.rt_lines.specs.Parts.{parts, line_with_feed}
 use Rattle.rt_lines.proofs.Reading.{line_more, wrong_line, wrong_end, read_whole}
-use Rattle.rt_load.specs.Reading.{IsListingText, IsFirstWrongLine, IsListingRefused, line_with_feed, IsOneLine, Form}
+use Rattle.rt_load.specs.Reading.{IsListingText, IsFirstWrongLine, IsListingRefused, IsOneLine, Form}
 use Rattle.rt_load.specs.Inside.Reader.{fed_lines, fault_of, take, told, is_whole, refusal_of, listing_reader}
 use Rattle.rt_load.specs.Inside.Taking.{is_complete}
 use Rattle.rt_load.specs.declared.front.Front.{Front}

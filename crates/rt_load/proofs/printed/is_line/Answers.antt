@@ -1,6 +1,6 @@
 use Rattle.std.proofs.Common.{◌≡◌, ◌∷◌, [], ◌++◌, bytes_eq, ap, sym, ◌∙◌, List, ℕ}
 use Rattle.std.proofs.lemmas.Bool.{ne_eqb}
-use Rattle.rt_load.specs.Reading.{line_with_feed}
+use Rattle.rt_lines.specs.Parts.{line_with_feed}
 use Rattle.rt_load.proofs.Ends.{ended_eq, other_end}
 use Rattle.rt_load.proofs.printed.is_line.Goals as goal
 

@@ -3,7 +3,7 @@ use Rattle.std.specs.List.{list_any}
 use Rattle.rt_ids.specs.Lists.{is_some_and}
 use Rattle.rt_ids.proofs.Lists.{list_any-map}
 use Rattle.rt_app.specs.View.{task_of, app_of}
-use Rattle.rt_rta.specs.Limits.{bound_number}
+use Rattle.rt_app.specs.Handlers.{bound_number}
 use Rattle.rt_rta.proofs.line.is_bound.Goals as goal
 
 pub returns : goal.returns

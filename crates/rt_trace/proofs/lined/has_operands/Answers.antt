@@ -1,5 +1,5 @@
 use Rattle.std.proofs.Common.{rules, ◌≤◌, length}
-use Rattle.rt_lines.specs.Operand.{IsTask}
+use Rattle.rt_ids.specs.Naming.{IsTask}
 use Rattle.rt_trace.proofs.Values.{values_written}
 use Rattle.rt_trace.proofs.lined.has_operands.Goals as goal
 
