@@ -40,15 +40,17 @@ def plain(graph, file, declared, text, renames):
     taken = {each.name: each for each in file.imports if each.item}
     aliases = {each.name: each.module for each in file.imports if not each.item}
     own, variables, found, before = {each.name for each in file.declared}, {}, [], ""
-    for sign in SIGN.findall(" ".join([*declared.heads, text])):
+    signs = SIGN.findall(" ".join([*declared.heads, text]))
+    for sign, behind in zip(signs, [*signs[1:], ""]):
         if sign in MODIFIERS and before != ".":
             continue
         if sign == declared.name:
             found.append("@")
-        elif before == ".":
+        elif before == "." or behind == "=" and before in ("{", ";"):
+            # a field behind a point, or the label of one
             found.append(sign)
         elif sign in taken:
-            found.append(str(graph.key(taken[sign].module, taken[sign].item) or (taken[sign].module, taken[sign].item)))
+            found.append(item_named(graph, taken[sign]))
         elif sign in aliases or sign in own:
             found.append(aliases.get(sign, f"{file.module}.{sign}"))
         elif renames and VARIABLE.match(sign):
@@ -57,3 +59,8 @@ def plain(graph, file, declared, text, renames):
             found.append(sign)
         before = sign
     return tuple(found)
+
+
+def item_named(graph, import_):
+    """What an import stands for: its key, and its own name, which tells the constructors of one type apart."""
+    return f"{graph.key(import_.module, import_.item) or import_.module} {import_.item}"
