@@ -6,7 +6,7 @@ use Rattle.rt_ids.specs.declared.limits.TheConstants.{NAME_BYTES, DEPTH, TURNS}
 use Rattle.rt_ids.specs.Word.{is_word, is_identifier}
 use Rattle.rt_ast.specs.declared.ident.Ident.{Ident}
 use Rattle.rt_ast.specs.Tree.{Expression, Num, Read, Oper, Spawn, Soon, After, Cancel, Move, Value, Calc, Now, Call}
-use Rattle.rt_ast.specs.Tree.{Statement, Bind}
+use Rattle.rt_ast.specs.Tree.{depth_of, Statement, Bind}
 use Rattle.rt_ast.specs.Tree.{Assign, Branch, Repeat, Locked, Emit, Pend, Spawns, Block, Empty, Then}
 
 -- a letter or `_`, then letters, digits and `_`, which is no word of the grammar
@@ -18,12 +18,6 @@ pub record IsPrintableName (x : Ident) : Type 0 where
 -- a number of 32 bits
 abbrev pub IsPrintableNumber : ℕ → Type 0
 IsPrintableNumber n = n < 2 ^ 32
-
--- a name or a number is 1 deep
-abbrev pub depth_of : Expression → ℕ
-depth_of (Num n) = 1
-depth_of (Read x) = 1
-depth_of (Oper o left right) = 1 + max (depth_of left) (depth_of right)
 
 -- an expression with numbers and names that read as such, however deep it is
 abbrev pub IsSpelledOut : Expression → Type 0

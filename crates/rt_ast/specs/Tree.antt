@@ -1,5 +1,5 @@
 -- The tree of an application text: what it says, and where its names are. Offsets are the bytes of the text before.
-use Rattle.std.specs.Prelude.{ℕ, Bool, List, Option}
+use Rattle.std.specs.Prelude.{ℕ, ◌+◌, max, Bool, List, Option}
 use Rattle.rt_ids.specs.declared.op.Op.{Op}
 use Rattle.rt_ast.specs.declared.ident.Ident.{Ident}
 use Rattle.rt_ast.specs.declared.ident.Number.{Number}
@@ -14,6 +14,12 @@ pub data Expression : Type 0 where
   Num : ℕ → Expression
   Read : Ident → Expression
   Oper : Op → Expression → Expression → Expression
+
+-- a name or a number is 1 deep
+abbrev pub depth_of : Expression → ℕ
+depth_of (Num n) = 1
+depth_of (Read x) = 1
+depth_of (Oper o left right) = 1 + max (depth_of left) (depth_of right)
 
 -- what sends a message to a software task, or takes it back or puts it off by its handle
 pub data Spawn : Type 0 where

@@ -9,8 +9,7 @@ use Rattle.rt_ids.specs.declared.op.Op.TheVariants as op
 use Rattle.rt_ids.specs.declared.limit.Limit.TheVariants as limit
 use Rattle.rt_ids.specs.declared.limits.TheConstants.{PARENTHESES, DEPTH}
 use Rattle.rt_lex.specs.Token.{Token, is_this_sign}
-use Rattle.rt_ast.specs.Tree.{Expression, Num, Read, Oper}
-use Rattle.rt_ast.specs.PrintableBody.{depth_of}
+use Rattle.rt_ast.specs.Tree.{Expression, Num, Read, Oper, depth_of}
 use Rattle.rt_grammar.specs.Mark.{Ends}
 use Rattle.rt_grammar.specs.Language.{Language, gives, ◌>>=◌, ◌>>◌, ◌or◌, token, repeat}
 use Rattle.rt_grammar.specs.Tokens.{free, limit_if, name, number, sign, limited_sign}

@@ -6,8 +6,7 @@ use Rattle.rt_ids.specs.declared.limit.Limit.TheVariants as limit
 use Rattle.rt_ids.specs.declared.limits.TheConstants.{DEPTH}
 use Rattle.rt_ids.specs.declared.refusal.Refusal.TheVariants as refusal
 use Rattle.rt_lex.specs.Token.{Token}
-use Rattle.rt_ast.specs.Tree.{Expression}
-use Rattle.rt_ast.specs.PrintableBody.{depth_of}
+use Rattle.rt_ast.specs.Tree.{Expression, depth_of}
 use Rattle.rt_grammar.specs.Mark.{Mark, Ends}
 use Rattle.rt_grammar.specs.Language.{Language, gives, ◌>>=◌}
 use Rattle.rt_grammar.specs.Expression.{Operand, ends}

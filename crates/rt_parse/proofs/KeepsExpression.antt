@@ -3,8 +3,8 @@ use Rattle.std.proofs.Common.{◌≡◌, ℕ, zero, suc, ◌≤◌, Bool, true, 
 use Rattle.std.specs.Prelude.{nat_lt, if◌then◌else◌}
 use Rattle.std.proofs.lemmas.Bool.{ltb-false}
 use Rattle.rt_ids.specs.declared.limits.TheConstants.{DEPTH}
-use Rattle.rt_ast.specs.Tree.{Expression}
-use Rattle.rt_ast.specs.PrintableBody.{IsSpelledOut, IsPrintableExpression, depth_of}
+use Rattle.rt_ast.specs.Tree.{Expression, depth_of}
+use Rattle.rt_ast.specs.PrintableBody.{IsSpelledOut, IsPrintableExpression}
 use Rattle.rt_grammar.specs.Mark.{Mark}
 use Rattle.rt_grammar.specs.Language.{Language, gives}
 use Rattle.rt_grammar.specs.Expression.{Operand, Signs, strengths, chain, chains, comparison, plain_atom, atom}

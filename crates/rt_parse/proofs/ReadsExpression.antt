@@ -10,8 +10,7 @@ use Rattle.rt_ids.specs.declared.refusal.Refusal.TheVariants as refusal
 use Rattle.rt_lex.specs.declared.token.Kind.{Kind}
 use Rattle.rt_lex.specs.declared.token.Kind.TheVariants as kind
 use Rattle.rt_lex.specs.Token.{Token, is_this_sign, if_sign}
-use Rattle.rt_ast.specs.Tree.{Num, Read}
-use Rattle.rt_ast.specs.PrintableBody.{depth_of}
+use Rattle.rt_ast.specs.Tree.{Num, Read, depth_of}
 use Rattle.rt_grammar.specs.Language.{Language, gives, ◌>>=◌, ◌or◌}
 use Rattle.rt_grammar.specs.Tokens.{free, limit_if, sign, limited_sign}
 use Rattle.rt_grammar.specs.Expression.{Operand, comparison, plain_atom, atom, ends, expression}

@@ -4,8 +4,7 @@ use Rattle.std.proofs.Common.{◌≡◌, ℕ, ◌+◌, max, Bool, true, false, O
 use Rattle.std.specs.Prelude.{nat_lt}
 use Rattle.rt_ids.specs.declared.op.Op.{Op}
 use Rattle.rt_ids.specs.declared.limits.TheConstants.{DEPTH}
-use Rattle.rt_ast.specs.Tree.{Oper}
-use Rattle.rt_ast.specs.PrintableBody.{depth_of}
+use Rattle.rt_ast.specs.Tree.{Oper, depth_of}
 use Rattle.rt_grammar.specs.Expression.{Operand, joined_operand}
 use Rattle.rt_parse.specs.Inside.ReadingDepth.{Kept, tree_unless_deep, joined_tree, joined_measure, measure}
 

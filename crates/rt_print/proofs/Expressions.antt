@@ -10,10 +10,10 @@ use Rattle.rt_ids.specs.declared.limits.TheConstants.{PARENTHESES, DEPTH}
 use Rattle.rt_lex.specs.declared.token.Kind.TheVariants as kind
 use Rattle.rt_lex.specs.Token.{Token}
 use Rattle.rt_lex.specs.Tokens.{tokens_at}
-use Rattle.rt_ast.specs.Tree.{Expression, Num, Read, Oper}
+use Rattle.rt_ast.specs.Tree.{Expression, Num, Read, Oper, depth_of}
 use Rattle.rt_ast.specs.Bare.{bare_expression}
 use Rattle.rt_ast.specs.CanonicalExpression.{sign_text, operation_text, operand_text, expression_text}
-use Rattle.rt_ast.specs.PrintableBody.{IsSpelledOut, IsPrintableExpression, depth_of}
+use Rattle.rt_ast.specs.PrintableBody.{IsSpelledOut, IsPrintableExpression}
 use Rattle.rt_grammar.specs.Mark.{Ends, IsWithin}
 use Rattle.rt_grammar.specs.Language.{Language, gives}
 use Rattle.rt_grammar.specs.Reach.{expression_goes_on}

@@ -4,8 +4,9 @@ use Rattle.std.specs.List.{AllByRecursion}
 use Rattle.rt_ids.specs.declared.limits.TheConstants.{DEPTH}
 use Rattle.rt_ast.specs.Tree.{Statement, Bind, Assign, Branch, Repeat, Locked, Emit, Pend, Spawns, Block, Empty, Then}
 use Rattle.rt_ast.specs.Tree.{Expression, Num, Read, Oper, Spawn, Soon, After, Cancel, Move, Value, Calc, Now, Call}
+use Rattle.rt_ast.specs.Tree.{depth_of}
 use Rattle.rt_ast.specs.PrintableBody as source
-use Rattle.rt_ast.specs.PrintableBody.{depth_of, IsPrintableExpression, IsPrintableSpawn, IsPrintableValue}
+use Rattle.rt_ast.specs.PrintableBody.{IsPrintableExpression, IsPrintableSpawn, IsPrintableValue}
 use Rattle.rt_ast.specs.PrintableBody.{IsPrintableStatement, ArePrintable}
 use Rattle.rt_app.specs.Limits as kept
 use Rattle.rt_ids.specs.Lists.{greatest}

@@ -2,8 +2,7 @@
 use Rattle.std.specs.Prelude.{ℕ, ◌+◌, max, Bool, nat_lt, Option, Some, None, if◌then◌else◌}
 use Rattle.rt_ids.specs.declared.op.Op.{Op}
 use Rattle.rt_ids.specs.declared.limits.TheConstants.{DEPTH}
-use Rattle.rt_ast.specs.Tree.{Expression, Oper}
-use Rattle.rt_ast.specs.PrintableBody.{depth_of}
+use Rattle.rt_ast.specs.Tree.{Expression, Oper, depth_of}
 use Rattle.rt_grammar.specs.Expression.{Operand}
 
 -- a tree and its depth
