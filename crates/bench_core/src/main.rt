@@ -26,7 +26,7 @@ const USAGE: &str = "usage: bench_core thread|handler|waiting STEPS INTERRUPTS [
 
 /// What a core does.
 #[derive(Clone, Copy)]
-enum Code {
+enum Duty {
     /// The thread spins.
     Thread,
     /// A handler spins.
@@ -37,19 +37,19 @@ enum Code {
 
 /// What is asked for.
 #[derive(Clone, Copy)]
-struct Request {
-    code: Code,
+struct Wanted {
+    code: Duty,
     /// Core steps, fewer than 2^31.
     steps: u32,
     irqs: Irqs,
 }
 
 /// What a core does, by its word.
-fn code_of(word: &str) -> Option<Code> {
+fn code_of(word: &str) -> Option<Duty> {
     match word {
-        "thread" => Some(Code::Thread),
-        "handler" => Some(Code::Handler),
-        "waiting" => Some(Code::Waiting),
+        "thread" => Some(Duty::Thread),
+        "handler" => Some(Duty::Handler),
+        "waiting" => Some(Duty::Waiting),
         _ => None,
     }
 }
@@ -73,14 +73,14 @@ fn count(word: &str) -> Option<u16> {
 }
 
 /// What words ask for.
-fn request_of(words: &[String]) -> Option<Request>
+fn request_of(words: &[String]) -> Option<Wanted>
     ensures { IfSome result (λ request. request.steps < 2 ^ 31) }
 {
     let code = code_of(words.first()?.as_str())?;
     let steps = steps(words.get(1)?.as_str())?;
     let count = count(words.get(2)?.as_str())?;
     let is_second_off = words.get(3).map_or(false, |word| word.as_str() == "pended");
-    Some(Request {
+    Some(Wanted {
         code,
         steps,
         irqs: Irqs {
@@ -91,18 +91,18 @@ fn request_of(words: &[String]) -> Option<Request>
 }
 
 /// The image that is asked for.
-fn image(alloc: Global, request: Request) -> Result<Image, NoMemory> {
+fn image(alloc: Global, request: Wanted) -> Result<Image, NoMemory> {
     match request.code {
-        Code::Thread => images::thread(alloc, request.irqs),
-        Code::Handler | Code::Waiting => images::handler(alloc, request.irqs),
+        Duty::Thread => images::thread(alloc, request.irqs),
+        Duty::Handler | Duty::Waiting => images::handler(alloc, request.irqs),
     }
 }
 
 /// Requests the handler's interrupt, and the one that is not enabled.
-fn arrive(core: &mut Core, request: Request)
+fn arrive(core: &mut Core, request: Wanted)
     ensures { core.new.steps ≡ core.old.steps }
 {
-    if matches!(request.code, Code::Handler) {
+    if matches!(request.code, Duty::Handler) {
         core.arrive(0, 1);
     }
     if request.irqs.is_second_off {
@@ -111,7 +111,7 @@ fn arrive(core: &mut Core, request: Request)
 }
 
 /// Runs a core as is asked, and prints what it showed.
-fn run<R: Print>(rt: &R, core: &mut Core, request: Request) -> Result<()>
+fn run<R: Print>(rt: &R, core: &mut Core, request: Wanted) -> Result<()>
     requires start { core.old.steps ≡ 0 }
     requires few { request.steps < 2 ^ 31 }
 {
@@ -128,7 +128,7 @@ fn run<R: Print>(rt: &R, core: &mut Core, request: Request) -> Result<()>
 }
 
 /// Makes a core of an image that is runnable.
-fn start<R: Print + AllocGlobal>(rt: &R, request: Request) -> Result<()>
+fn start<R: Print + AllocGlobal>(rt: &R, request: Wanted) -> Result<()>
     requires few { request.steps < 2 ^ 31 }
 {
     let image = image(rt.alloc(), request)?;

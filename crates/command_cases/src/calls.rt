@@ -38,7 +38,7 @@ const ITEMS: usize = 1 << 20;
 
 /// A call that answers whether the texts of a case come out as the case says.
 #[derive(Clone, Copy)]
-enum Call {
+enum TextCall {
     /// The application of a text, of which the report is compared, or its refusal.
     Accept,
     /// The verdict on a trace that is in memory.
@@ -48,11 +48,11 @@ enum Call {
 }
 
 /// The call of a name.
-fn call_of(name: &str) -> Option<Call> {
+fn call_of(name: &str) -> Option<TextCall> {
     match name {
-        "accept" => Some(Call::Accept),
-        "audit" => Some(Call::Audit),
-        "live" => Some(Call::Live),
+        "accept" => Some(TextCall::Accept),
+        "audit" => Some(TextCall::Audit),
+        "live" => Some(TextCall::Live),
         _ => None,
     }
 }
@@ -151,17 +151,22 @@ fn has_lived<R: Threads + Sync>(rt: &R, alloc: Global, app: &App, case: &Case) -
 
 /// Whether a call answers what a case says. The cases of runs beside devices that have words of their own are those of
 /// another command.
-fn is_as_said<R: Threads + Sync>(rt: &R, alloc: Global, call: Call, case: &Case) -> Result<bool> {
+fn is_as_said<R: Threads + Sync>(
+    rt: &R,
+    alloc: Global,
+    call: TextCall,
+    case: &Case,
+) -> Result<bool> {
     let app = match accept(alloc, case.bytes("app")) {
         Ok(app) => app,
         Err(Refused::At(fault)) => return tells_fault(alloc, case.bytes("output"), fault),
         Err(Refused::NoMemory) => return Ok(false),
     };
     match call {
-        Call::Accept => is_report(alloc, case.bytes("output"), &app),
-        Call::Audit => is_audited(alloc, &app, case),
-        Call::Live if case.bytes("words").is_empty() => has_lived(rt, alloc, &app, case),
-        Call::Live => Ok(true),
+        TextCall::Accept => is_report(alloc, case.bytes("output"), &app),
+        TextCall::Audit => is_audited(alloc, &app, case),
+        TextCall::Live if case.bytes("words").is_empty() => has_lived(rt, alloc, &app, case),
+        TextCall::Live => Ok(true),
     }
 }
 

@@ -12,7 +12,7 @@ const BUFFER: usize = 8;
 
 /// A call of a source.
 #[derive(Clone, Copy)]
-enum Call {
+enum SourceCall {
     /// A read into a buffer of so many bytes.
     Read(usize),
     /// A read of the whole text, up to so many bytes.
@@ -20,11 +20,11 @@ enum Call {
 }
 
 /// The call of a line, `read` with a number or `text` with one.
-fn call_of(line: &str) -> Option<Call> {
+fn call_of(line: &str) -> Option<SourceCall> {
     let (call, number) = line.split_once(' ')?;
     match call {
-        "read" => Some(Call::Read(number.parse::<usize>().ok()?)),
-        "text" => Some(Call::Text(number.parse::<u16>().ok()?)),
+        "read" => Some(SourceCall::Read(number.parse::<usize>().ok()?)),
+        "text" => Some(SourceCall::Text(number.parse::<u16>().ok()?)),
         _ => None,
     }
 }
@@ -69,8 +69,8 @@ fn tell_line<S: Source>(
     told: &mut Vec<u8>,
 ) -> Result<()> {
     match call_of(line) {
-        Some(Call::Read(size)) => Ok(tell_read(source, size, told)?),
-        Some(Call::Text(limit)) => Ok(tell_text(alloc, source, limit, told)?),
+        Some(SourceCall::Read(size)) => Ok(tell_read(source, size, told)?),
+        Some(SourceCall::Text(limit)) => Ok(tell_text(alloc, source, limit, told)?),
         None => bail!("no such call"),
     }
 }

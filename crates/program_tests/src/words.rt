@@ -3,7 +3,7 @@
 ghost use Rattle.std.specs.Prelude.{◌≡◌, ℕ, ◌+◌, ◌-◌, ◌^◌, ◌<◌, length};
 ghost use Rattle.rt_words.specs.Object.{IsPending};
 ghost use Rattle.rt_words.specs.Row.{bit_in_row, word_in_row};
-ghost use Rattle.rt_words.specs.Lines.{count, new_line};
+ghost use Rattle.rt_words.specs.Lines.{word_count, new_line};
 ghost use Rattle.rt_words.specs.declared.row.TheConstants.{CORE_WORDS};
 
 use crate::part::print_line;
@@ -43,7 +43,7 @@ fn latch_often(words: &Words, mut line: Line, k: u8, times: u32) -> Line
     requires words { line.words ≡ words.now }
     requires room { length line.calls + times < 2 ^ 32 - 1 }
     requires core { k < CORE_WORDS }
-    requires word { word_in_row line.here k < count words.now }
+    requires word { word_in_row line.here k < word_count words.now }
     ensures { result ≡ record line { calls = result.calls } }
 {
     let first = line.first_word();

@@ -5,7 +5,8 @@ use Rattle.std.proofs.Math.Nat.{min-eq_left}
 use Rattle.std.proofs.lemmas.Bool.{cases_order}
 use Rattle.rt_app.specs.Tree.{Expression, Num, Read, Oper, Spawn, Soon, After, Cancel, Move, Value, Calc, Now, Call}
 use Rattle.rt_app.specs.Tree.{Statement, Bind, Assign, Branch, Repeat, Locked, Emit, Pend, Spawns, Block, Empty, Then}
-use Rattle.rt_app.specs.Cost.{Measure, capped_cost, branch_cost, turns, expression_cost, expressions_cost, spawn_cost}
+use Rattle.rt_app.specs.Cost.{Measure, capped_cost, branch_cost, counted_turns, expression_cost, expressions_cost}
+use Rattle.rt_app.specs.Cost.{spawn_cost}
 use Rattle.rt_app.specs.Cost.{bind_cost, statement_cost, block_cost}
 use Rattle.rt_app.specs.Steps.{expression_steps, expressions_steps, spawn_steps, bind_steps, statement_steps}
 use Rattle.rt_app.specs.Steps.{block_steps, CapSteps}
@@ -68,8 +69,8 @@ module _ (m : Measure) where
         ∙ capped_branch m (block_steps m first) (block_steps m second) (expression_cost e)
         ∙ omega (arith, capped_expression e)
     capped_statement (Repeat x first last turn) =
-        ap (λ n. capped_cost (4 + turns m first last * (n + 6))) (capped_block turn)
-        ∙ capped_turns (turns m first last) (block_steps m turn)
+        ap (λ n. capped_cost (4 + counted_turns m first last * (n + 6))) (capped_block turn)
+        ∙ capped_turns (counted_turns m first last) (block_steps m turn)
     capped_statement (Locked r inner at) = omega (arith, capped_block inner)
     capped_statement (Emit e) = omega (arith, capped_expression e)
     capped_statement (Pend i) = omega arith

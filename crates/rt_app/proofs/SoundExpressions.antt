@@ -21,7 +21,8 @@ use Rattle.rt_app.specs.Level.{is_software, is_of_level, arms, holds}
 use Rattle.rt_app.specs.Ceiling.{greatest_priority, uses_places_of, readies}
 use Rattle.rt_app.specs.Limits.{ExpressionFits, SpawnFits, ValueFits}
 use Rattle.rt_app.specs.Use.{reads, spawn_uses, value_uses}
-use Rattle.rt_app.specs.Statements.{is_init, is_lockable, is_free, is_outside, takes, is_bad_spawn, is_bad_message}
+use Rattle.rt_app.specs.Statements.{is_init, is_lockable, is_free, is_outside, takes_arguments, is_bad_spawn}
+use Rattle.rt_app.specs.Statements.{is_bad_message}
 use Rattle.rt_app.specs.Statements.{breaks}
 use Rattle.rt_app.specs.Accepted.{IsMeant, AreMeant, IsSpawnPlaced, IsValuePlaced}
 use Rattle.rt_app.specs.Sound.{IsReached, AreReached, SpawnsTask, AddressesMessage, IsSoundSpawn, IsSoundValue}
@@ -102,7 +103,7 @@ module _ (app : App) (m : Member) (declared : IsDeclared app m) where
           → is_bad_spawn app n args ≡ false → AllByRecursion (AreReached app m locked) args
           → (t : Task) × SpawnsTask app m locked n args t
       spawned n args aims within good reached =
-          let task = is_one_that (takes args) (slice_get app.tasks n)
+          let task = is_one_that (takes_arguments args) (slice_get app.tasks n)
           (not_false _ (of_known _ _ (known n (length app.tasks) within declared.few_tasks) good)) in
           let most = counted (uses_places_of n) aims in (
             task.0,

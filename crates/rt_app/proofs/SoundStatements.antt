@@ -21,7 +21,7 @@ use Rattle.rt_app.specs.Limits.{StatementFits, BlockFits}
 use Rattle.rt_app.specs.Use.{reads, statement_uses, uses, statement_loops, loops}
 use Rattle.rt_app.specs.Statements.{is_init, listing_in, is_lockable, is_outside, is_misplaced_lock, is_inside_itself}
 use Rattle.rt_app.specs.Statements.{is_fixed, breaks}
-use Rattle.rt_app.specs.Accepted.{IsMeant, behind, IsStatementPlaced, IsBlockPlaced}
+use Rattle.rt_app.specs.Accepted.{IsMeant, visible_after, IsStatementPlaced, IsBlockPlaced}
 use Rattle.rt_app.specs.Sound.{IsChangeable, IsSoundLock, IsSoundStatement, IsSoundBlock}
 use Rattle.rt_app.specs.Violation.{when}
 use Rattle.rt_app.proofs.Unbroken.{not_broken, known, of_known, not_fixed, not_misplaced}
@@ -89,7 +89,7 @@ module _ (app : App) (m : Member) (declared : IsDeclared app m) where
       }
 
   before_behind : (s : Statement) (n : ℕ) (visible : List ℕ) → AreBefore n visible
-      → AreBefore (n + variables_in s) (behind app (locals_of m) n visible s)
+      → AreBefore (n + variables_in s) (visible_after app (locals_of m) n visible s)
   before_behind (Bind x v) n visible before = before_one n visible before
   before_behind (Assign x e at) n visible before = before_more n (n + 0) visible (omega arith) before
   before_behind (Branch e first second) n visible before = before_more n _ visible (omega arith) before
@@ -174,7 +174,7 @@ module _ (app : App) (m : Member) (declared : IsDeclared app m) where
           (none_of_front (breaks app m) (statement_uses locked s) (uses locked rest) fine) before (omega arith) looped
           (λ x is. own x (any_left (λ y. y == x) (statement_loops s) (loops rest) is))
           (λ test is. held test (any_left test (statement_spawns s) (spawns rest) is)),
-      block_sound rest (n + variables_in s) (behind app (locals_of m) n visible s) locked fixed placed.1 fits.1
+      block_sound rest (n + variables_in s) (visible_after app (locals_of m) n visible s) locked fixed placed.1 fits.1
           (none_of_back (breaks app m) (statement_uses locked s) (uses locked rest) fine)
           (before_behind s n visible before) (omega arith) looped
           (λ x is. own x (any_right (λ y. y == x) (statement_loops s) (loops rest) is))

@@ -45,15 +45,15 @@ module _ (app : App) (listed : List ℕ) where
   IsValuePlaced visible (Call s) = IsSpawnPlaced visible s
 
   -- the variables in scope after a statement, before which the body has so many
-  abbrev pub behind : ℕ → List ℕ → Statement → List ℕ
-  behind n visible (Bind x v) = n ∷ visible
-  behind n visible (Assign x e at) = visible
-  behind n visible (Branch e first second) = visible
-  behind n visible (Repeat x first last turn) = visible
-  behind n visible (Locked r inner at) = visible
-  behind n visible (Emit e) = visible
-  behind n visible (Pend i) = visible
-  behind n visible (Spawns s) = visible
+  abbrev pub visible_after : ℕ → List ℕ → Statement → List ℕ
+  visible_after n visible (Bind x v) = n ∷ visible
+  visible_after n visible (Assign x e at) = visible
+  visible_after n visible (Branch e first second) = visible
+  visible_after n visible (Repeat x first last turn) = visible
+  visible_after n visible (Locked r inner at) = visible
+  visible_after n visible (Emit e) = visible
+  visible_after n visible (Pend i) = visible
+  visible_after n visible (Spawns s) = visible
 
   -- a statement names only what is declared, what is in scope, or what the body lists; the body has so many variables
   -- before it, and these are in scope
@@ -73,7 +73,7 @@ module _ (app : App) (listed : List ℕ) where
     pub IsBlockPlaced : ℕ → List ℕ → Block → Type 0
     IsBlockPlaced n visible Empty = Unit {0}
     IsBlockPlaced n visible (Then s rest) =
-        IsStatementPlaced n visible s × IsBlockPlaced (n + variables_in s) (behind n visible s) rest
+        IsStatementPlaced n visible s × IsBlockPlaced (n + variables_in s) (visible_after n visible s) rest
 
 module _ (app : App) where
   -- a body that takes so many arguments lists only what is declared, and its statements name only what they may

@@ -51,8 +51,8 @@ abbrev pub branch_cost : Measure → ℕ → ℕ → ℕ
 branch_cost m first second = if m.is_size then first + second else max first second
 
 -- how many turns of a loop are counted: steps take each, code has one
-abbrev pub turns : Measure → ℕ → ℕ → ℕ
-turns m first last = if m.is_size then 1 else last - first
+abbrev pub counted_turns : Measure → ℕ → ℕ → ℕ
+counted_turns m first last = if m.is_size then 1 else last - first
 
 -- the cost of a lock, and of its section, round a block of this cost
 abbrev pub lock_cost : ℕ → ℕ
@@ -66,7 +66,7 @@ abbrev mutual
   statement_cost m (Branch e first second) =
       capped_cost (expression_cost e + 2 + branch_cost m (block_cost m first) (block_cost m second))
   statement_cost m (Repeat x first last turn) =
-      capped_cost (LOOP_COST + turns m first last * (block_cost m turn + TURN_COST))
+      capped_cost (LOOP_COST + counted_turns m first last * (block_cost m turn + TURN_COST))
   statement_cost m (Locked r inner at) = lock_cost (block_cost m inner)
   statement_cost m (Emit e) = capped_cost (expression_cost e + 1)
   statement_cost m (Pend i) = 1

@@ -10,21 +10,21 @@ use Rattle.rt_app.specs.Spawned.{uses_timer, spawns}
 use Rattle.rt_ids.specs.Lists.{greatest}
 
 -- the depth of an expression: a number or a name is 1 deep
-abbrev pub depth : Expression → ℕ
-depth (Num n) = 1
-depth (Read atom at) = 1
-depth (Oper o left right) = 1 + max (depth left) (depth right)
+abbrev pub expression_depth : Expression → ℕ
+expression_depth (Num n) = 1
+expression_depth (Read atom at) = 1
+expression_depth (Oper o left right) = 1 + max (expression_depth left) (expression_depth right)
 
 -- the greatest depth of the expressions of a spawn
 abbrev pub spawn_depth : Spawn → ℕ
-spawn_depth (Soon task args at) = greatest (map depth args)
-spawn_depth (After word delay task args at) = max (depth delay) (greatest (map depth args))
-spawn_depth (Cancel word task handle at) = depth handle
-spawn_depth (Move word delay task handle at) = max (depth delay) (depth handle)
+spawn_depth (Soon task args at) = greatest (map expression_depth args)
+spawn_depth (After word delay task args at) = max (expression_depth delay) (greatest (map expression_depth args))
+spawn_depth (Cancel word task handle at) = expression_depth handle
+spawn_depth (Move word delay task handle at) = max (expression_depth delay) (expression_depth handle)
 
 -- the greatest depth of the expressions of the value of a `let`; `now` has none
 abbrev pub value_depth : Value → ℕ
-value_depth (Calc e) = depth e
+value_depth (Calc e) = expression_depth e
 value_depth (Now at) = 0
 value_depth (Call s) = spawn_depth s
 
@@ -32,11 +32,11 @@ value_depth (Call s) = spawn_depth s
 abbrev mutual
   pub statement_depth : Statement → ℕ
   statement_depth (Bind x v) = value_depth v
-  statement_depth (Assign x e at) = depth e
-  statement_depth (Branch e first second) = max (depth e) (max (block_depth first) (block_depth second))
+  statement_depth (Assign x e at) = expression_depth e
+  statement_depth (Branch e first second) = max (expression_depth e) (max (block_depth first) (block_depth second))
   statement_depth (Repeat x first last turn) = block_depth turn
   statement_depth (Locked r inner at) = block_depth inner
-  statement_depth (Emit e) = depth e
+  statement_depth (Emit e) = expression_depth e
   statement_depth (Pend i) = 0
   statement_depth (Spawns s) = spawn_depth s
 

@@ -61,12 +61,12 @@ is_fixed m (atom.Local n) = false
 is_fixed m (atom.Shared r) = is_known r && (not (is_init m.id) && is_some_and (λ l. l.by_ref) (listing_in m r))
 
 -- whether a task is a software task that takes as many arguments
-abbrev pub takes : List Expression → Task → Bool
-takes args t = is_software t && (length args == t.args)
+abbrev pub takes_arguments : List Expression → Task → Bool
+takes_arguments args t = is_software t && (length args == t.args)
 
 -- whether a spawn is of a hardware task, or has another number of arguments than its task
 abbrev pub is_bad_spawn : App → ℕ → List Expression → Bool
-is_bad_spawn app n args = is_known n && not (is_some_and (takes args) (slice_get app.tasks n))
+is_bad_spawn app n args = is_known n && not (is_some_and (takes_arguments args) (slice_get app.tasks n))
 
 -- whether a message that is cancelled or moved is of a hardware task
 abbrev pub is_bad_message : App → ℕ → Bool

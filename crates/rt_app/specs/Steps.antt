@@ -5,7 +5,8 @@ use Rattle.rt_app.specs.declared.costs.TheConstants.{SPAWN_COST, SPAWN_AFTER_COS
 use Rattle.rt_app.specs.declared.costs.TheConstants.{HANDLE_COST, HANDLE_MESSAGE_COST}
 use Rattle.rt_app.specs.Tree.{Expression, Num, Read, Oper, Spawn, Soon, After, Cancel, Move, Value, Calc, Now, Call}
 use Rattle.rt_app.specs.Tree.{Statement, Bind, Assign, Branch, Repeat, Locked, Emit, Pend, Spawns, Block, Empty, Then}
-use Rattle.rt_app.specs.Cost.{Measure, capped_cost, branch_cost, turns, expression_cost, spawn_cost, statement_cost}
+use Rattle.rt_app.specs.Cost.{Measure, capped_cost, branch_cost, counted_turns, expression_cost, spawn_cost}
+use Rattle.rt_app.specs.Cost.{statement_cost}
 use Rattle.rt_app.specs.Cost.{block_cost}
 
 -- the steps of an expression: one for each name, number and operation
@@ -41,7 +42,8 @@ abbrev mutual
   statement_steps m (Assign x e at) = expression_steps e + 1
   statement_steps m (Branch e first second) =
       expression_steps e + 2 + branch_cost m (block_steps m first) (block_steps m second)
-  statement_steps m (Repeat x first last turn) = LOOP_COST + turns m first last * (block_steps m turn + TURN_COST)
+  statement_steps m (Repeat x first last turn) =
+      LOOP_COST + counted_turns m first last * (block_steps m turn + TURN_COST)
   statement_steps m (Locked r inner at) = 2 + block_steps m inner
   statement_steps m (Emit e) = expression_steps e + 1
   statement_steps m (Pend i) = 1

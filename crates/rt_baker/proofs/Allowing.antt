@@ -10,7 +10,7 @@ use Rattle.rt_app.specs.Tree.{App}
 use Rattle.rt_laws.specs.State as laws
 use Rattle.rt_laws.specs.Services.{is_declared}
 use Rattle.rt_laws.specs.Preemption as preemption
-use Rattle.rt_laws.specs.Giving.{gives}
+use Rattle.rt_laws.specs.Giving.{item_to_come}
 use Rattle.rt_laws.specs.Acting.{state_after_pend}
 use Rattle.rt_laws.specs.Allowed.{HasStep, MayStep, Turn, May, state_after_item, after}
 use Rattle.rt_laws.specs.Run.{RunsOn}
@@ -164,13 +164,13 @@ turn_label b what.Alarm free is = ap (λ (c : Bool). if c then Rang else Stepped
 turn_label b (what.Take irq depth) free is = absurd is
 turn_label b w free is = refl
 
-turn_may : (app : App) (t : laws.State) (w : What) → IsTurn w → Turn app t → gives t ≡ Some w
+turn_may : (app : App) (t : laws.State) (w : What) → IsTurn w → Turn app t → item_to_come t ≡ Some w
     → May app t (Stepped (Some w))
 turn_may app t (what.Take irq depth) is turn gave = absurd is
 turn_may app t w is turn gave = (turn, gave)
 
 turn_needs : (app : App) (t : laws.State) (w : What) → IsTurn w → May app t (Stepped (Some w))
-    → Turn app t × (gives t ≡ Some w)
+    → Turn app t × (item_to_come t ≡ Some w)
 turn_needs app t (what.Take irq depth) is may = absurd is
 turn_needs app t w is may = (may.0, may.1)
 
@@ -205,7 +205,7 @@ step_needs (j ∷ js) may = (steps_of_one j.role j.left may.0, lefts_first j.lef
 
 pub turned : (app : App) (s new : AuditorState) (w : What) → s.owing ≡ false → IsTurn w
     → ((t : laws.State) → StateIs app s t → (preemption.candidate app t ≡ None) × MaySpend 1 t.jobs)
-    → ((a : App) (t : laws.State) → StateIs a s t → gives t ≡ Some w)
+    → ((a : App) (t : laws.State) → StateIs a s t → item_to_come t ≡ Some w)
     → ((t : laws.State) → StateIs app s t → StateIs app new (state_after_item app t t.jobs))
     → Judges app true s new w
 unfolding Judges
@@ -217,7 +217,7 @@ turned app s new w owing is may gave acts = λ t h.
     (subst (λ (u : laws.State). StateIs app new u) (turn_after app t w is) (acts t h))
 
 may_turn : (app : App) (s : AuditorState) (w : What) (t : laws.State) → s.owing ≡ false → IsTurn w → StateIs app s t
-    → May app t (label_of t.owing w) → Turn app t × (gives t ≡ Some w)
+    → May app t (label_of t.owing w) → Turn app t × (item_to_come t ≡ Some w)
 may_turn app s w t owing is h may =
     turn_needs app t w is
     (subst (λ (l : Label). May app t l) (turn_label t.owing w (owes_as app s t false h owing) is) may)
@@ -231,7 +231,7 @@ turn_stopped app s new w owing is stops = λ t h may.
     stops t h turn.0.quiet (step_needs t.jobs turn.0.step)
 
 pub turn_other : (app : App) (s new : AuditorState) (w : What) → s.owing ≡ false → IsTurn w
-    → ((a : App) (t : laws.State) → StateIs a s t → gives t ≡ Some w → ⊥)
+    → ((a : App) (t : laws.State) → StateIs a s t → item_to_come t ≡ Some w → ⊥)
     → Judges app false s new w
 unfolding Judges
 turn_other app s new w owing is other = λ t h may.

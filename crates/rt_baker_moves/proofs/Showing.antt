@@ -7,7 +7,7 @@ use Rattle.rt_trace.specs.declared.item.What.{What}
 use Rattle.rt_app.specs.Tree.{App}
 use Rattle.rt_app.specs.Meaning.{Later}
 use Rattle.rt_laws.specs.State as laws
-use Rattle.rt_laws.specs.Giving.{item_of, next_item, item_given, gives}
+use Rattle.rt_laws.specs.Giving.{item_of, next_item, item_given, item_to_come}
 use Rattle.rt_baker_work.specs.declared.action.Action as code
 use Rattle.rt_baker_work.specs.declared.action.Action.TheVariants as act
 use Rattle.rt_baker_work.specs.declared.todo.Todo.{Todo}
@@ -98,16 +98,16 @@ jobs_show app s us [] (k ∷ ks) h = absurd h
 jobs_show app s us (j ∷ js) [] h = absurd h
 jobs_show app s us (j ∷ js) (k ∷ ks) h = job_shows app s us j k h.0
 
-pub gives_shown : (app : App) (s : AuditorState) (t : laws.State) → StateIs app s t → gives t ≡ held_item s
+pub gives_shown : (app : App) (s : AuditorState) (t : laws.State) → StateIs app s t → item_to_come t ≡ held_item s
 gives_shown app s t h = ap (λ (u : laws.State). item_given u t.jobs) h.is ∙ jobs_show app s t.jobs s.jobs t.jobs h.jobs
 
 pub shows_right : (s : AuditorState) (w : What) (r : Bool) → (IsTrue r ↔ (held_item s ≡ Some w)) → IsTrue r
     → (app : App)
-    (t : laws.State) → StateIs app s t → gives t ≡ Some w
+    (t : laws.State) → StateIs app s t → item_to_come t ≡ Some w
 shows_right s w r h holds app t is = gives_shown app s t is ∙ h.0 holds
 
 pub shows_wrong : (s : AuditorState) (w : What) (r : Bool) → (IsTrue r ↔ (held_item s ≡ Some w)) → IsFalse r
     → (app : App)
-    (t : laws.State) → StateIs app s t → gives t ≡ Some w → ⊥
+    (t : laws.State) → StateIs app s t → item_to_come t ≡ Some w → ⊥
 shows_wrong s w r h fails app t is gave =
     let holds : r ≡ true = h.1 (sym (gives_shown app s t is) ∙ gave) in absurd cc

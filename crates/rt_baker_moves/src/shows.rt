@@ -2,7 +2,7 @@
 
 ghost use Rattle.std.specs.Prelude.{◌≡◌, ◌↔◌, IsTrue, IsFalse, None, Some, if◌then◌else◌};
 ghost use Rattle.rt_app.specs.Tree.{App};
-ghost use Rattle.rt_laws.specs.Giving.{left_value, gives, is_due};
+ghost use Rattle.rt_laws.specs.Giving.{left_value, item_to_come, is_due};
 ghost use Rattle.rt_laws.specs.State as laws;
 ghost use Rattle.rt_baker_work.specs.Store.{contents};
 ghost use Rattle.rt_baker_moves.specs.Job.{role_of};
@@ -108,9 +108,9 @@ impl<'a> State<'a> {
     /// Whether an item is that of the running job's next action.
     pub fn shows(&self, what: &What) -> bool
         ensures right { IsTrue result → (app : App) (t : laws.State) → StateIs app self.now t
-            → gives t ≡ Some what.now }
+            → item_to_come t ≡ Some what.now }
         ensures wrong { IsFalse result → (app : App) (t : laws.State) → StateIs app self.now t
-            → gives t ≡ Some what.now → ⊥ }
+            → item_to_come t ≡ Some what.now → ⊥ }
     {
         self.is_shown(what)
     }

@@ -13,7 +13,7 @@ use Rattle.rt_lemmas.proofs.Lists.{all_behind, found, mapped_at, found_passes}
 use Rattle.rt_lemmas.proofs.Membership.{all_at, any_passes, contained_any, contains_at, contains_here}
 use Rattle.rt_lemmas.proofs.Texts.{same_text}
 use Rattle.rt_ids.specs.Lists.{AreDifferent, is_some_and, then_from}
-use Rattle.rt_ids.specs.Names.{task_of}
+use Rattle.rt_ids.specs.Names.{task_index}
 use Rattle.rt_ids.specs.Word.{IsName}
 use Rattle.rt_ids.proofs.Lists.{list_any-map}
 use Rattle.rt_lines.specs.Answers.{and_then}
@@ -74,11 +74,11 @@ module _ (app : App) where
         different_back (map (λ r. r.name) app.shared) (map (λ r. r.name) app.locals) accepted.names.resources_differ
 
     task_known : (t : ℕ) (task : Task) → slice_get app.tasks t ≡ Some task
-        → task_of (names_of app) task.name ≡ Some t
+        → task_index (names_of app) task.name ≡ Some t
     task_known t task at =
         let names : List (List ℕ) = map (λ t. t.name) app.tasks in
         let there : slice_get names t ≡ Some task.name = mapped_at (λ (t : Task). t.name) app.tasks t task at in
-        ap (task_of (names_of app)) (sym (get_or_from_slice_get names t task.name [] there))
+        ap (task_index (names_of app)) (sym (get_or_from_slice_get names t task.name [] there))
         ∙ task_found (names_of app) t (are_names app accepted.names accepted.limits)
         (slice_get_within names t task.name there)
 

@@ -13,7 +13,7 @@ use Rattle.std.proofs.lemmas.Slice.Eq.{bytes_eq-Decides}
 use Rattle.rt_lemmas.proofs.Lists.{mapped_at, some_at, found_passes}
 use Rattle.rt_lemmas.proofs.Options.{if_some-map}
 use Rattle.rt_ids.specs.Lists.{is_some_and, then_from}
-use Rattle.rt_ids.specs.Names.{task_of}
+use Rattle.rt_ids.specs.Names.{task_index}
 use Rattle.rt_ids.specs.Word.{is_identifier}
 use Rattle.rt_ids.proofs.Lists.{some_passing}
 use Rattle.rt_lines.specs.Parts.{spaced_words}
@@ -117,9 +117,9 @@ module _ (app : App) where
   pub task_hardware : (name : List ℕ) → IfOk (hardware_task (names_of app) app name) (IsHardware name)
   task_hardware name =
       let there : ℕ → Type 0 = λ t. (task : Task) × (slice_get app.tasks t ≡ Some task) × (name ≡ task.name) in
-      if_ok_then (IsHardware name) (ok_or (task_of (names_of app) name) cause.UnknownTask) (if_hardware app) there
-      (if_ok_or (task_of (names_of app) name) cause.UnknownTask there
-      (if_some_from (task_of (names_of app) name) there (task_named name)))
+      if_ok_then (IsHardware name) (ok_or (task_index (names_of app) name) cause.UnknownTask) (if_hardware app) there
+      (if_ok_or (task_index (names_of app) name) cause.UnknownTask there
+      (if_some_from (task_index (names_of app) name) there (task_named name)))
       (hardware_is name)
 
   module _ (board : Board) where

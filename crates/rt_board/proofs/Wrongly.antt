@@ -14,7 +14,7 @@ use Rattle.rt_lemmas.proofs.Lists.{found}
 use Rattle.rt_lemmas.proofs.Membership.{any_one, any_passes, contained_any, contains_at}
 use Rattle.rt_lemmas.proofs.Texts.{same_text}
 use Rattle.rt_ids.specs.Lists.{is_some_and, then_from}
-use Rattle.rt_ids.specs.Names.{task_of}
+use Rattle.rt_ids.specs.Names.{task_index}
 use Rattle.rt_ids.specs.Word.{is_identifier}
 use Rattle.rt_ids.proofs.Lists.{is_some-position, list_any-map}
 use Rattle.rt_lines.specs.Parts.{spaced_words}
@@ -41,7 +41,7 @@ use Rattle.rt_board.proofs.Telling.{IsHardware, IsOwn, task_named, task_hardware
 
 module _ (app : App) where
   -- where a search by name finds no task, none has the name
-  no_task : (name : List ℕ) (t : Task) → task_of (names_of app) name ≡ None → ¬ HasTask app name t
+  no_task : (name : List ℕ) (t : Task) → task_index (names_of app) name ≡ None → ¬ HasTask app name t
   no_task name t none has =
       let names : List (List ℕ) = map (λ t. t.name) app.tasks in
       let there : slice_get names has.index ≡ Some name =
@@ -87,10 +87,10 @@ module _ (app : App) where
 
     task_wrong : (task local : List ℕ) → Form task local → IfErr (hardware_task (names_of app) app task) Wrong
     task_wrong task local form =
-        if_err_then Wrong (ok_or (task_of (names_of app) task) cause.UnknownTask) (if_hardware app)
-        (if_err_or Wrong (task_of (names_of app) task) cause.UnknownTask
+        if_err_then Wrong (ok_or (task_index (names_of app) task) cause.UnknownTask) (if_hardware app)
+        (if_err_or Wrong (task_index (names_of app) task) cause.UnknownTask
         (λ none. (task, local, form, λ t. no_task task t none)))
-        (λ t given. let named = task_named app task t (some_of (task_of (names_of app) task) t given) in
+        (λ t given. let named = task_named app task t (some_of (task_index (names_of app) task) t given) in
         cond_both (is_some_and is_software (slice_get app.tasks t)) (Err cause.SoftwareTask) (Ok t)
         (λ r. IfErr r Wrong)
         (λ soft. (

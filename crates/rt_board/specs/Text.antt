@@ -5,15 +5,15 @@ use Rattle.rt_board.specs.declared.refusal.Cause.{Cause}
 use Rattle.rt_board.specs.declared.refusal.Cause.TheVariants as cause
 
 -- the number and the words of a cause
-abbrev pub words : Cause → List ℕ
-words cause.TooLong = codes "1 too long"
-words cause.BadLine = codes "2 bad line"
-words cause.UnknownTask = codes "3 unknown task"
-words cause.SoftwareTask = codes "4 software task"
-words cause.UnknownLocal = codes "5 unknown local"
-words cause.LocalOfAnother = codes "6 local of another"
-words cause.NamedTwice = codes "7 named twice"
+abbrev pub cause_words : Cause → List ℕ
+cause_words cause.TooLong = codes "1 too long"
+cause_words cause.BadLine = codes "2 bad line"
+cause_words cause.UnknownTask = codes "3 unknown task"
+cause_words cause.SoftwareTask = codes "4 software task"
+cause_words cause.UnknownLocal = codes "5 unknown local"
+cause_words cause.LocalOfAnother = codes "6 local of another"
+cause_words cause.NamedTwice = codes "7 named twice"
 
 -- the line that is printed
 abbrev pub refusal_text : ℕ → Cause → List ℕ
-refusal_text line c = refusals.refusal_text (codes "board") line (words c)
+refusal_text line c = refusals.refusal_text (codes "board") line (cause_words c)

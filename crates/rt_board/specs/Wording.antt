@@ -7,7 +7,7 @@ use Rattle.std.specs.Prelude.{Option, option_map, Result, Ok, Err}
 use Rattle.std.specs.List.{list_any}
 use Rattle.std.specs.Option.{ok_or}
 use Rattle.rt_ids.specs.Lists.{is_some_and, then_from}
-use Rattle.rt_ids.specs.Names.{Names, task_of}
+use Rattle.rt_ids.specs.Names.{Names, task_index}
 use Rattle.rt_ids.specs.Word.{is_identifier}
 use Rattle.rt_lines.specs.Answers.{and_then, and_make}
 use Rattle.rt_lines.specs.Parts.{spaced_words}
@@ -31,12 +31,12 @@ two_names f (a ∷ b ∷ []) = if is_identifier a && is_identifier b then f a b 
 two_names f words = Err cause.BadLine
 
 -- a row of the table of words: the first word of a line, and the board with what the words behind it say
-pub record Row : Type 0 where
+pub record WordRow : Type 0 where
   pub first : List ℕ
   pub says : List (List ℕ) → Result Board Cause
 
 -- the board with what the words of a line say, by the first row of its first word
-abbrev pub said_by : List Row → List (List ℕ) → Result Board Cause
+abbrev pub said_by : List WordRow → List (List ℕ) → Result Board Cause
 said_by rows [] = Err cause.BadLine
 said_by [] (first ∷ words) = Err cause.BadLine
 said_by (row ∷ rows) (first ∷ words) =
@@ -67,7 +67,7 @@ module _ (app : App) where
 module _ (names : Names) (app : App) where
   -- the hardware task of a name
   abbrev pub hardware_task : List ℕ → Result ℕ Cause
-  hardware_task name = and_then (ok_or (task_of names name) cause.UnknownTask) (if_hardware app)
+  hardware_task name = and_then (ok_or (task_index names name) cause.UnknownTask) (if_hardware app)
 
   module _ (board : Board) where
     -- an input, where the board has none of its local resource yet
@@ -83,7 +83,7 @@ module _ (names : Names) (app : App) where
     says_input words = and_make (two_names input_of words) (with_input board)
 
     -- the table of words
-    abbrev pub table : List Row
+    abbrev pub table : List WordRow
     table = record { first = codes "input"; says = says_input } ∷ []
 
     -- the board with what the words of a line say

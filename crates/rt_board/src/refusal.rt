@@ -38,7 +38,7 @@ pub fn refusal_text(alloc: Global, line: u32, cause: Cause) -> Result<Vec<u8>, N
 
 /// The number and the words of a cause.
 fn words(cause: Cause) -> &'static [u8]
-    ensures { result.now ≡ spec.words cause }
+    ensures { result.now ≡ spec.cause_words cause }
 {
     match cause {
         Cause::TooLong => b"1 too long",

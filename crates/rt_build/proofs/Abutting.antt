@@ -21,19 +21,19 @@ use Rattle.rt_gen_body.specs.Form.{HasForm}
 use Rattle.rt_build.specs.Entries.{Entries}
 use Rattle.rt_gen_disp.specs.Code.{dispatcher_code}
 use Rattle.rt_gen_timer.specs.TimerCode.{timer_code}
-use Rattle.rt_build.specs.Built.{part_code, idle_code, mono_code, IsWritten}
-use Rattle.rt_build.specs.Order.{Part, OfBody, OfLevel, OfTimer, begin_of, size_of, IsIdleFormed, IsFormed}
+use Rattle.rt_build.specs.Built.{part_code, idle_code, mono_code, IsPartAt}
+use Rattle.rt_build.specs.Order.{CodePart, OfBody, OfLevel, OfTimer, begin_of, size_of, IsIdleFormed, IsFormed}
 use Rattle.rt_build.specs.Order.{task_parts, timer_parts, fixed_parts, free_parts, IsPart, AreAbutting, IsInOrder}
-use Rattle.rt_build.specs.Inside.Code.{IsKept, IsPut, AddsParts, HasParts, is_of_kind, part_of_kind, AddsTask}
+use Rattle.rt_build.specs.Inside.Code.{KeepsCode, IsPut, AddsParts, HasParts, is_of_kind, part_of_kind, AddsTask}
 use Rattle.rt_build.specs.Inside.Code.{AddsTasksBelow, AddsTasks, TellsTask, AddsDispatchers}
-use Rattle.rt_build.specs.declared.code.Kind.{Kind}
-use Rattle.rt_build.specs.declared.code.Kind.TheVariants.{Hardware, Software}
+use Rattle.rt_build.specs.declared.code.TaskKind.{TaskKind}
+use Rattle.rt_build.specs.declared.code.TaskKind.TheVariants.{Hardware, Software}
 use Rattle.rt_build.proofs.Grown.{behind, whole, kept_then}
 use Rattle.rt_build.proofs.Levels.{index_is}
 
-module _ (IsThere : Part → ℕ → List Line → Type 0) where
+module _ (IsThere : CodePart → ℕ → List Line → Type 0) where
   -- parts after parts
-  abut_append : (ps qs : List Part) (from : ℕ) (xs ys : List Line) → AreAbutting IsThere from ps xs
+  abut_append : (ps qs : List CodePart) (from : ℕ) (xs ys : List Line) → AreAbutting IsThere from ps xs
       → AreAbutting IsThere (from + length xs) qs ys → AreAbutting IsThere from (ps ++ qs) (xs ++ ys)
   abut_append [] qs from xs ys none after =
       let here : from + length xs ≡ from =
@@ -52,9 +52,9 @@ module _ (IsThere : Part → ℕ → List Line → Type 0) where
       )
 
   -- parts of which less is said
-  abut_weaker : (IsSo : Part → ℕ → List Line → Type 0)
-      → ((part : Part) (from : ℕ) (lines : List Line) → IsThere part from lines → IsSo part from lines)
-      → (ps : List Part) (from : ℕ) (lines : List Line) → AreAbutting IsThere from ps lines
+  abut_weaker : (IsSo : CodePart → ℕ → List Line → Type 0)
+      → ((part : CodePart) (from : ℕ) (lines : List Line) → IsThere part from lines → IsSo part from lines)
+      → (ps : List CodePart) (from : ℕ) (lines : List Line) → AreAbutting IsThere from ps lines
       → AreAbutting IsSo from ps lines
   abut_weaker IsSo less [] from lines none = none
   abut_weaker IsSo less (p ∷ ps) from lines (own, more, is, part, rest) = (
@@ -70,7 +70,8 @@ module _ (app : App) (at : Entries) where
   pub parts_none : (lines : List Line) → AddsParts app at [] lines lines
   parts_none lines = drop_all (length lines) lines (omega arith)
 
-  pub parts_then : (ps qs : List Part) (first second third : List Line) → IsKept first second → IsKept second third
+  pub parts_then : (ps qs : List CodePart) (first second third : List Line) → KeepsCode first second
+      → KeepsCode second third
       → AddsParts app at ps first second → AddsParts app at qs second third → AddsParts app at (ps ++ qs) first third
   parts_then ps qs first second third kept further adds more =
       let all : first ++ (behind first second ++ behind second third) ≡ third =
@@ -87,7 +88,7 @@ module _ (app : App) (at : Entries) where
       (subst (λ n. AreAbutting (IsPut app at) n qs (behind second third)) long more))
 
   -- what a call that appends the code of a part says
-  pub part_put : (part : Part) (entry : ℕ) (before after : List Line) → entry ≡ length before
+  pub part_put : (part : CodePart) (entry : ℕ) (before after : List Line) → entry ≡ length before
       → begin_of at part ≡ entry → length after ≤ length before + size_of app part
       → IsFormed app part entry (drop entry after) → drop entry after ≡ part_code app part entry
       → AddsParts app at (part ∷ []) before after
@@ -108,7 +109,7 @@ module _ (app : App) (at : Entries) where
 
 -- the tasks so far, and one more
 module _ (test : Task → Bool) where
-  abbrev own : ℕ → Task → List Part
+  abbrev own : ℕ → Task → List CodePart
   own n t = if test t then OfBody (body.Task n) ∷ [] else []
 
   parts_more : (n : ℕ) (ts : List Task) (k : ℕ) (t : Task) → slice_get ts k ≡ Some t
@@ -121,7 +122,7 @@ module _ (test : Task → Bool) where
       same_index n = omega arith
   parts_more n (u ∷ us) (suc k) t there =
       ap (λ m. task_parts test n (take m (u ∷ us))) (one_later k)
-      ∙ (ap (λ (ps : List Part). own n u ++ ps) (parts_more (n + 1) us k t there)
+      ∙ (ap (λ (ps : List CodePart). own n u ++ ps) (parts_more (n + 1) us k t there)
       ∙ (sym (append_assoc (own n u) (task_parts test (n + 1) (take k us)) (own (n + 1 + k) t))
       ∙ ap (λ m. (own n u ++ task_parts test (n + 1) (take k us)) ++ own m t) (same_sum n k)))
     where
@@ -131,13 +132,14 @@ module _ (test : Task → Bool) where
       same_sum : (n k : ℕ) → n + 1 + k ≡ n + suc k
       same_sum n k = omega arith
 
-module _ (app : App) (first before after : List Line) (kept : IsKept first before) (further : IsKept before after) where
+module _ (app : App) (first before after : List Line) (kept : KeepsCode first before)
+    (further : KeepsCode before after) where
   -- the code of one task more, if it is of a kind
-  pub tasks_added : (kind : Kind) (n : ℕ) (t : Task) (entries told : List ℕ) → slice_get app.tasks n ≡ Some t
+  pub tasks_added : (kind : TaskKind) (n : ℕ) (t : Task) (entries told : List ℕ) → slice_get app.tasks n ≡ Some t
       → AddsTasksBelow app n kind entries first before → TellsTask app kind n t entries told after
       → AddsTask app kind n t told before after → AddsTasksBelow app (n + 1) kind told first after
   tasks_added kind n t entries told there has tells adds at agrees =
-      subst (λ (ps : List Part). AddsParts app at ps first after) (sym (all_parts n))
+      subst (λ (ps : List CodePart). AddsParts app at ps first after) (sym (all_parts n))
       (parts_then app at (task_parts (is_of_kind kind) 0 (take n app.tasks)) (part_of_kind kind n t) first before after
       kept further (has at before_it) (adds at (λ of. agrees n (one_less n) t there of)))
     where
@@ -165,7 +167,7 @@ module _ (app : App) (first before after : List Line) (kept : IsKept first befor
       → length after ≤ length before + dispatcher_size app p → drop entry after ≡ dispatcher_code app p entry
       → AddsDispatchers app more first after
   level_added k p entry entries more there counted is has begins short are at agrees =
-      subst (λ (ps : List Part). AddsParts app at ps first after) (sym all_parts)
+      subst (λ (ps : List CodePart). AddsParts app at ps first after) (sym all_parts)
       (parts_then app at (map OfLevel (take (length entries) (levels app))) (OfLevel p ∷ []) first before after kept
       further (has at before_it) (part_put app at (OfLevel p) entry before after begins here short tt are))
     where
@@ -236,7 +238,7 @@ module _ (app : App) (at : Entries) (entry : ℕ) (before after : List Line) (is
       (subst (λ o. drop entry after ≡ mono_code app o entry) (sym timed) are))
 
 -- what a task adds that is of a kind, and one that is not
-module _ (app : App) (kind : Kind) (n : ℕ) (t : Task) (there : slice_get app.tasks n ≡ Some t) (entries : List ℕ)
+module _ (app : App) (kind : TaskKind) (n : ℕ) (t : Task) (there : slice_get app.tasks n ≡ Some t) (entries : List ℕ)
     (before after : List Line) where
   pub task_added : (entry : ℕ) → is_of_kind kind t ≡ true → entry ≡ length before → slice_index entries n ≡ entry
       → length after ≤ length before + cost_of (size_measure app) (body_at app (body.Task n))
@@ -253,7 +255,7 @@ module _ (app : App) (kind : Kind) (n : ℕ) (t : Task) (there : slice_get app.t
 
 -- all tasks of a kind, and all dispatchers
 module _ (app : App) (at : Entries) (entries : List ℕ) (before after : List Line) where
-  pub tasks_whole : (kind : Kind) → AddsTasks app kind entries before after
+  pub tasks_whole : (kind : TaskKind) → AddsTasks app kind entries before after
       → ((n : ℕ) (t : Task) → slice_get app.tasks n ≡ Some t → is_of_kind kind t ≡ true
       → at.task n ≡ slice_index entries n)
       → AddsParts app at (task_parts (is_of_kind kind) 0 app.tasks) before after
@@ -271,8 +273,8 @@ module _ (app : App) (at : Entries) (entries : List ℕ) (before after : List Li
 
 -- all parts, put after none
 module _ (app : App) (at : Entries) (none first second third fourth fifth all : List Line) (empty : none ≡ []) where
-  pub parts_put : IsKept none first → IsKept first second → IsKept second third → IsKept third fourth
-      → IsKept fourth fifth → IsKept fifth all
+  pub parts_put : KeepsCode none first → KeepsCode first second → KeepsCode second third → KeepsCode third fourth
+      → KeepsCode fourth fifth → KeepsCode fifth all
       → AddsParts app at (OfBody body.Init ∷ []) none first → AddsParts app at (OfBody body.Idle ∷ []) first second
       → AddsParts app at (task_parts (is_of_kind Hardware) 0 app.tasks) second third
       → AddsParts app at (task_parts (is_of_kind Software) 0 app.tasks) third fourth
@@ -284,9 +286,9 @@ module _ (app : App) (at : Entries) (none first second third fourth fifth all : 
       let after4 = kept_then third fourth all kept4 after5 in
       let after3 = kept_then second third all kept3 after4 in
       let after2 = kept_then first second all kept2 after3 in
-      let last : List Part = map OfLevel (levels app) ++ timer_parts app.mono in
-      let free : List Part = task_parts is_software 0 app.tasks ++ last in
-      let tasks : List Part = task_parts (λ t. not (is_software t)) 0 app.tasks ++ free in
+      let last : List CodePart = map OfLevel (levels app) ++ timer_parts app.mono in
+      let free : List CodePart = task_parts is_software 0 app.tasks ++ last in
+      let tasks : List CodePart = task_parts (λ t. not (is_software t)) 0 app.tasks ++ free in
       subst (λ n. AreAbutting (IsPut app at) n (fixed_parts app ++ free_parts app) (drop n all))
       (ap (λ (lines : List Line). length lines) empty)
       (parts_then app at (OfBody body.Init ∷ []) (OfBody body.Idle ∷ tasks) none first all kept1 after2 init
@@ -306,8 +308,8 @@ module _ (app : App) (at : Entries) (code : List Line) (parts : HasParts app at 
         (fixed_parts app ++ free_parts app) 0 code parts;
   }
 
-  pub parts_written : AreAbutting (IsWritten app at) 0 (fixed_parts app ++ free_parts app) code
+  pub parts_written : AreAbutting (IsPartAt app at) 0 (fixed_parts app ++ free_parts app) code
   parts_written =
-      abut_weaker (IsPut app at) (IsWritten app at)
+      abut_weaker (IsPut app at) (IsPartAt app at)
       (λ part from lines put. record { begins = put.is.begins; are = put.are }) (fixed_parts app ++ free_parts app) 0
       code parts

@@ -46,8 +46,8 @@ use Rattle.rt_build.specs.Order.{OfBody, timer_parts, code_size}
 use Rattle.rt_build.specs.Inside.Code.{Adds, AddsParts, AddsTask, AddsTasksBelow, AddsDispatchers, TellsTask}
 use Rattle.rt_build.specs.Inside.Code.{HasTasksBelow, HasDispatchers, HasTimer, HasDispatcher, HasTimerHandler}
 use Rattle.rt_build.specs.Inside.Code.{LeavesOthers, is_of_kind, kind_size}
-use Rattle.rt_build.specs.declared.code.Kind.{Kind}
-use Rattle.rt_build.specs.declared.code.Kind.TheVariants.{Hardware, Software}
+use Rattle.rt_build.specs.declared.code.TaskKind.{TaskKind}
+use Rattle.rt_build.specs.declared.code.TaskKind.TheVariants.{Hardware, Software}
 use Rattle.rt_build.proofs.Abutting.{part_put, parts_none, task_added, task_left, tasks_added, level_added, idle_added}
 use Rattle.rt_build.proofs.Abutting.{wait_added, timer_added, tasks_whole, levels_whole, parts_put}
 use Rattle.rt_build.proofs.Assembled.{HasEach, assembled}
@@ -122,14 +122,14 @@ module _ {app : App} (accepted : IsAccepted app) where
           }
 
   -- code with that of a task after it, if the task is of a kind, and the entries then
-  record TaskPut (kind : Kind) (n : ℕ) (t : Task) (before : List Line) (entries : List ℕ) : Type 0 where
+  record TaskPut (kind : TaskKind) (n : ℕ) (t : Task) (before : List Line) (entries : List ℕ) : Type 0 where
     after : List Line
     told : List ℕ
     adds : Adds app (kind_size app kind t) before after
     part : AddsTask app kind n t told before after
     tells : TellsTask app kind n t entries told after
 
-  task_put : (kind : Kind) (n : ℕ) (t : Task) → slice_get app.tasks n ≡ Some t → (before : List Line)
+  task_put : (kind : TaskKind) (n : ℕ) (t : Task) → slice_get app.tasks n ≡ Some t → (before : List Line)
       (entries : List ℕ) → n < length entries → TaskPut kind n t before entries
   task_put kind n t there before entries within = go (is_of_kind kind t) refl
     where
@@ -164,7 +164,7 @@ module _ {app : App} (accepted : IsAccepted app) where
       }
 
   -- code with that of the tasks of a kind below a number after it, and the entries then
-  record TasksPut (kind : Kind) (first : List Line) (start : List ℕ) (count : ℕ) : Type 0 where
+  record TasksPut (kind : TaskKind) (first : List Line) (start : List ℕ) (count : ℕ) : Type 0 where
     after : List Line
     entries : List ℕ
     adds : Adds app (sum_by (kind_size app kind) (take count app.tasks)) first after
@@ -172,7 +172,7 @@ module _ {app : App} (accepted : IsAccepted app) where
     others : LeavesOthers app kind start entries
     stands : HasTasksBelow app after count kind entries
 
-  tasks_put : (kind : Kind) (first : List Line) (start : List ℕ) → length start ≡ length app.tasks → (count : ℕ)
+  tasks_put : (kind : TaskKind) (first : List Line) (start : List ℕ) → length start ≡ length app.tasks → (count : ℕ)
       → count ≤ length app.tasks → TasksPut kind first start count
   tasks_put kind first start long zero few = record {
     after = first;

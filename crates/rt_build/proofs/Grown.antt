@@ -33,36 +33,37 @@ use Rattle.rt_gen_disp.specs.Code.{dispatcher_code}
 use Rattle.rt_gen_timer.specs.TimerCode.{timer_code}
 use Rattle.rt_gen_queue.proofs.Placing.{code_there}
 use Rattle.rt_build.specs.Image.{IdleStands}
-use Rattle.rt_build.specs.Inside.Code.{IsKept, Adds, is_of_kind, kind_size, HasThread, HasTasksBelow, HasTasks}
+use Rattle.rt_build.specs.Inside.Code.{KeepsCode, Adds, is_of_kind, kind_size, HasThread, HasTasksBelow, HasTasks}
 use Rattle.rt_build.specs.Inside.Code.{TellsTask, LeavesOthers, HasDispatcher, HasDispatchers}
 use Rattle.rt_build.specs.Inside.Code.{HasTimerHandler, HasTimer}
-use Rattle.rt_build.specs.declared.code.Kind.{Kind}
-use Rattle.rt_build.specs.declared.code.Kind.TheVariants.{Hardware, Software}
+use Rattle.rt_build.specs.declared.code.TaskKind.{TaskKind}
+use Rattle.rt_build.specs.declared.code.TaskKind.TheVariants.{Hardware, Software}
 
 -- the lines after those that were there before
 abbrev pub behind : List Line → List Line → List Line
 behind before after = drop (length before) after
 
-pub whole : (before after : List Line) → IsKept before after → before ++ behind before after ≡ after
+pub whole : (before after : List Line) → KeepsCode before after → before ++ behind before after ≡ after
 whole before after goes = ap (λ (front : List Line). front ++ behind before after) (sym goes)
     ∙ take-append-drop (length before) after
 
-pub kept_same : (lines : List Line) → IsKept lines lines
+pub kept_same : (lines : List Line) → KeepsCode lines lines
 kept_same lines = take_all (length lines) lines (omega arith)
 
-pub kept_more : (lines more : List Line) → IsKept lines (lines ++ more)
+pub kept_more : (lines more : List Line) → KeepsCode lines (lines ++ more)
 kept_more lines more = take-append_seam lines more
 
-pub kept_then : (first second third : List Line) → IsKept first second → IsKept second third → IsKept first third
+pub kept_then : (first second third : List Line) → KeepsCode first second → KeepsCode second third
+    → KeepsCode first third
 kept_then first second third goes further =
     let all : first ++ (behind first second ++ behind second third) ≡ third =
     sym (append_assoc first (behind first second) (behind second third))
     ∙ (ap (λ (front : List Line). front ++ behind second third) (whole first second goes)
     ∙ whole second third further) in
-    subst (IsKept first) all (kept_more first (behind first second ++ behind second third))
+    subst (KeepsCode first) all (kept_more first (behind first second ++ behind second third))
 
 -- what holds whatever comes after code, holds of code that goes on, whatever comes after that
-pub further : (P : List Line → Type 0) (before after : List Line) → IsKept before after
+pub further : (P : List Line → Type 0) (before after : List Line) → KeepsCode before after
     → ((more : List Line) → P (before ++ more)) → (more : List Line) → P (after ++ more)
 further P before after goes holds more =
     let all : before ++ (behind before after ++ more) ≡ after ++ more =
@@ -80,7 +81,7 @@ one_more P entries entry has own n within = elim (cases_lt n (length entries)) [
       subst (P n) (sym (get_or_push entries entry 0 n e)) (subst (λ m. P m entry) e own))
 ]
 
-module _ (app : App) (before after : List Line) (goes : IsKept before after) where
+module _ (app : App) (before after : List Line) (goes : KeepsCode before after) where
   pub thread_kept : (entry : ℕ) → HasThread app before entry → HasThread app after entry
   thread_kept entry has = record {
     init = λ more bodies. further (λ lines. StandsFrom (storage app) lines bodies entry Starting (length (memory app))
@@ -90,7 +91,7 @@ module _ (app : App) (before after : List Line) (goes : IsKept before after) whe
         (λ more. has.idle more bodies) more;
   }
 
-  pub tasks_kept : (count : ℕ) (kind : Kind) (entries : List ℕ) → HasTasksBelow app before count kind entries
+  pub tasks_kept : (count : ℕ) (kind : TaskKind) (entries : List ℕ) → HasTasksBelow app before count kind entries
       → HasTasksBelow app after count kind entries
   tasks_kept count kind entries has n within t there of more =
       further (λ lines. DeclaredStands app n lines (slice_index entries n)) before after goes (has n within t there of)
@@ -101,7 +102,7 @@ module _ (app : App) (before after : List Line) (goes : IsKept before after) whe
       further (λ lines. HasDispatcher app p lines (slice_index entries k)) before after goes (has k within p there) more
 
   -- the next task
-  tasks_more : (kind : Kind) (k : ℕ) (t : Task) (entries told : List ℕ) → slice_get app.tasks k ≡ Some t
+  tasks_more : (kind : TaskKind) (k : ℕ) (t : Task) (entries told : List ℕ) → slice_get app.tasks k ≡ Some t
       → HasTasksBelow app before k kind entries → TellsTask app kind k t entries told after
       → HasTasksBelow app after (k + 1) kind told
   tasks_more kind k t entries told at_task has tells n within u there of more = elim (cases_lt n k) [
@@ -124,7 +125,7 @@ module _ (app : App) (before after : List Line) (goes : IsKept before after) whe
       → (more : List Line) → HasDispatcher app p (after ++ more) at) entries entry (dispatchers_kept entries has) own k
       within
 
-module _ (app : App) (first second : List Line) (entry : ℕ) (goes : IsKept first second)
+module _ (app : App) (first second : List Line) (entry : ℕ) (goes : KeepsCode first second)
     (at : entry ≡ length first) where
   -- `init`, and what comes after it
   pub thread_made : (start : ℕ) → start ≡ 0 → BodyStands app body.Init first start
@@ -168,7 +169,7 @@ written size before after long is =
     ∙ (ap (take size) (append-nil after) ∙ take_all size after (omega (arith, long, is)))
 
 -- the entries after a task was put, and after one of another kind was not
-module _ (app : App) (kind : Kind) (n : ℕ) (t : Task) (entries : List ℕ) (lines : List Line) where
+module _ (app : App) (kind : TaskKind) (n : ℕ) (t : Task) (entries : List ℕ) (lines : List Line) where
   pub tells_own : (entry : ℕ) → n < length entries → is_of_kind kind t ≡ true
       → ((more : List Line) → DeclaredStands app n (lines ++ more) entry)
       → TellsTask app kind n t entries (slice_set entries n entry) lines
@@ -301,7 +302,7 @@ module _ (app : App) where
       either false size = omega arith
 
   -- the entries of the tasks of another kind are as before, one task more
-  others_more : (kind : Kind) (n : ℕ) (t : Task) (start entries told : List ℕ) (lines : List Line)
+  others_more : (kind : TaskKind) (n : ℕ) (t : Task) (start entries told : List ℕ) (lines : List Line)
       → slice_get app.tasks n ≡ Some t → LeavesOthers app kind start entries
       → TellsTask app kind n t entries told lines → LeavesOthers app kind start told
   others_more kind n t start entries told lines at_task leaves tells = record {
@@ -318,7 +319,7 @@ module _ (app : App) where
       as_before k u there other false is = tells.others k (eqb-false k n is)
 
   -- the code of one task more, if it is of a kind
-  pub next_task : (kind : Kind) (n : ℕ) (t : Task) (first before after : List Line) (start entries told : List ℕ)
+  pub next_task : (kind : TaskKind) (n : ℕ) (t : Task) (first before after : List Line) (start entries told : List ℕ)
       → slice_get app.tasks n ≡ Some t
       → Adds app (sum_by (kind_size app kind) (take n app.tasks)) first before
       → LeavesOthers app kind start entries
@@ -335,7 +336,8 @@ module _ (app : App) where
   )
 
   -- the tasks of a kind stand where they stood, with the entries of those of another
-  pub tasks_left : (kind other : Kind) (lines : List Line) (before after : List ℕ) → LeavesOthers app other before after
+  pub tasks_left : (kind other : TaskKind) (lines : List Line) (before after : List ℕ)
+      → LeavesOthers app other before after
       → ((t : Task) → is_of_kind kind t ≡ true → is_of_kind other t ≡ false)
       → HasTasks app lines kind before → HasTasks app lines kind after
   tasks_left kind other lines before after leaves apart has n within t there of more =

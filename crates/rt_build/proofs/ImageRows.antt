@@ -26,12 +26,12 @@ use Rattle.rt_code.specs.declared.image.IrqRow.{IrqRow}
 use Rattle.rt_code.proofs.Writable.{names_writable}
 use Rattle.rt_gen_queue.specs.Called.{row_for, rows_for}
 use Rattle.rt_build.specs.Entries.{Entries, handler_row, irq_rows}
-use Rattle.rt_build.specs.Inside.Tables.{handler_of, irq_row}
+use Rattle.rt_build.specs.Inside.Tables.{service_handler, irq_row}
 
 module _ (app : App) (at : Entries) where
   -- the row of an interrupt, by its index
   abbrev pub its_row : ℕ → IrqDecl → IrqRow
-  its_row i d = irq_row d (handler_of app at (services app) i)
+  its_row i d = irq_row d (service_handler app at (services app) i)
 
   each_from : (P : IrqRow → Type 0) → ((i : ℕ) (d : IrqDecl) → slice_get app.irqs i ≡ Some d → P (its_row i d))
       → (i : ℕ) (ds : List IrqDecl) → AreFrom app.irqs i ds → AllByRecursion P (irq_rows app at i ds)
@@ -46,7 +46,7 @@ module _ (app : App) (at : Entries) where
 
   -- and each handler
   pub each_handler : (Q : Handler → Type 0) → ((s : Service) → Q (handler_row app at s)) → (i : ℕ) (h : Handler)
-      → handler_of app at (services app) i ≡ Some h → Q h
+      → service_handler app at (services app) i ≡ Some h → Q h
   each_handler Q each i h is = let one =
       made_of (handler_row app at) (slice_get (service_of app i) 0) h is in subst Q one.2 (each one.0)
 

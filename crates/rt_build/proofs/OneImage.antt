@@ -24,11 +24,11 @@ use Rattle.rt_code.specs.declared.image.IrqRow.{IrqRow}
 use Rattle.rt_gen_queue.specs.Line.{Line}
 use Rattle.rt_gen_queue.specs.Called.{row_for, rows_for}
 use Rattle.rt_gen_body.specs.Form.{fixed_body, HasForm}
-use Rattle.rt_build.specs.Built.{IsWritten, IsBuilt}
+use Rattle.rt_build.specs.Built.{IsPartAt, IsBuilt}
 use Rattle.rt_build.specs.Entries.{Entries, entry_of, handler_row, irq_rows}
 use Rattle.rt_build.specs.Image.{HasTables, IsImageOf}
 use Rattle.rt_build.specs.Laws.{IsFixedPart, HasFixedCode, FixedCodeHasOneImage, OneImageIsBuilt}
-use Rattle.rt_build.specs.Order.{Part, OfBody, OfLevel, OfTimer, begin_of, IsIdleFormed, IsFormed, task_parts}
+use Rattle.rt_build.specs.Order.{CodePart, OfBody, OfLevel, OfTimer, begin_of, IsIdleFormed, IsFormed, task_parts}
 use Rattle.rt_build.specs.Order.{timer_parts, fixed_parts, free_parts, IsPart, AreAbutting, IsInOrder}
 
 -- each of nothing is in its order alone
@@ -67,7 +67,7 @@ module _ (app : App) where
   idle_same None from xs ys same first second = first ∙ sym second
   idle_same (Some b) from xs ys same first second = same first second
 
-  part_same : (part : Part) (from : ℕ) (xs ys : List Line) → IsFixedPart app part → IsFormed app part from xs
+  part_same : (part : CodePart) (from : ℕ) (xs ys : List Line) → IsFixedPart app part → IsFormed app part from xs
       → IsFormed app part from ys → xs ≡ ys
   part_same (OfBody body.Init) from xs ys fixed first second = body_same body.Init from xs ys fixed first second
   part_same (OfBody body.Idle) from xs ys fixed first second =
@@ -79,14 +79,14 @@ module _ (app : App) where
 
   module _ (one other : Entries) where
     -- parts that begin at the same addresses
-    abbrev BeginsAlike : Part → Type 0
+    abbrev BeginsAlike : CodePart → Type 0
     BeginsAlike part = begin_of one part ≡ begin_of other part
 
     -- parts of which these are known, each of which has the same lines in both, and begins alike
-    parts_same : (IsKnown : Part → Type 0) (First Second : Part → ℕ → List Line → Type 0)
-        → ((part : Part) (from : ℕ) (xs ys : List Line) → IsKnown part → First part from xs → Second part from ys
+    parts_same : (IsKnown : CodePart → Type 0) (First Second : CodePart → ℕ → List Line → Type 0)
+        → ((part : CodePart) (from : ℕ) (xs ys : List Line) → IsKnown part → First part from xs → Second part from ys
         → (xs ≡ ys) × BeginsAlike part)
-        → (parts : List Part) (from : ℕ) (xs ys : List Line) → AllByRecursion IsKnown parts
+        → (parts : List CodePart) (from : ℕ) (xs ys : List Line) → AllByRecursion IsKnown parts
         → AreAbutting First from parts xs → AreAbutting Second from parts ys
         → (xs ≡ ys) × AllByRecursion BeginsAlike parts
     parts_same IsKnown First Second same [] from xs ys known first second = (first ∙ sym second, tt)
@@ -211,8 +211,8 @@ module _ (app : App) where
     code_abuts : (at : Entries) (code : List Line) → IsInOrder app at code
         → AreAbutting (IsPart app at) 0 (fixed_parts app) code
     code_abuts at code order =
-        subst (λ (ps : List Part). AreAbutting (IsPart app at) 0 ps code)
-        (ap (λ (ps : List Part). fixed_parts app ++ ps)
+        subst (λ (ps : List CodePart). AreAbutting (IsPart app at) 0 ps code)
+        (ap (λ (ps : List CodePart). fixed_parts app ++ ps)
         (none_permuted order.behind (free_parts app) order.free fixed.alone) ∙ append-nil (fixed_parts app)) order.abut
 
     fixed_images : (a b : Image) → IsImageOf app a → IsImageOf app b → a ≡ b
@@ -226,13 +226,13 @@ module _ (app : App) where
         (fixed_parts app) 0 a.code b.code fixed.bodies (code_abuts first.at a.code first.order)
         (code_abuts second.at b.code second.order) in
         let all : AllByRecursion Alike (fixed_parts app ++ free_parts app) =
-        subst (λ (ps : List Part). AllByRecursion Alike (fixed_parts app ++ ps)) (sym fixed.alone)
+        subst (λ (ps : List CodePart). AllByRecursion Alike (fixed_parts app ++ ps)) (sym fixed.alone)
         (subst (AllByRecursion Alike) (sym (append-nil (fixed_parts app))) code.1) in
         same_images first.at second.at all a b first.tables second.tables code.0
 
   built_images : (a b : Image) → IsBuilt app a → IsBuilt app b → a ≡ b
   built_images a b first second =
-      let code = parts_same first.at second.at (λ part. Unit {0}) (IsWritten app first.at) (IsWritten app second.at)
+      let code = parts_same first.at second.at (λ part. Unit {0}) (IsPartAt app first.at) (IsPartAt app second.at)
       (λ part from xs ys known here there. (here.are ∙ sym there.are, here.begins ∙ sym there.begins))
       (fixed_parts app ++ free_parts app) 0 a.code b.code (none_asked (fixed_parts app ++ free_parts app)) first.parts
       second.parts in

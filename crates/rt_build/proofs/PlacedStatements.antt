@@ -131,7 +131,7 @@ with_seen names visible x n seen = declared_seen (n ∷ visible) names.scope x.n
     (seen_more n visible names.scope.variables seen)
 
 behind_seen : (names : Names) (n : ℕ) (visible : List ℕ) → AreSeen visible names.scope.variables → (s : Statement)
-    → AreSeen (accepted.behind (resolved_app names.app) (listings names) n visible (statement names n s))
+    → AreSeen (accepted.visible_after (resolved_app names.app) (listings names) n visible (statement names n s))
     (names_after names n s).scope.variables
 behind_seen names n visible seen (Bind x v) = with_seen names visible x n seen
 behind_seen names n visible seen (Assign x e) = seen
@@ -187,7 +187,7 @@ mutual
   block_placed Empty names n visible seen fine = tt
   block_placed (Then s rest) names n visible seen fine =
       let on_rest = block_faults (names_after names n s) (n + binders_in s) rest in
-      let wider = accepted.behind (resolved_app names.app) (listings names) n visible (statement names n s) in
+      let wider = accepted.visible_after (resolved_app names.app) (listings names) n visible (statement names n s) in
       let placed_rest = block_placed rest (names_after names n s) (n + binders_in s) wider
       (behind_seen names n visible seen s) (append_none_right (statement_faults names n s) on_rest fine) in
       let of_app = before (λ a xs. IsBlockPlaced (resolved_app a) (listed_by a xs) (n + binders_in s) wider

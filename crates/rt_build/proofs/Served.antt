@@ -28,7 +28,7 @@ use Rattle.rt_app.proofs.SoundCeilings.{tasks_in_range, levels_in_range}
 use Rattle.rt_code.specs.declared.image.Handler.{Handler}
 use Rattle.rt_gen_queue.specs.Called.{row_for}
 use Rattle.rt_build.specs.Entries.{Entries, task_words, handler_words, handler_row, irq_rows}
-use Rattle.rt_build.specs.Inside.Tables.{handler_of, HasHandlers, irq_row}
+use Rattle.rt_build.specs.Inside.Tables.{service_handler, HasHandlers, irq_row}
 
 set_same : {X : Type 0} (xs : List X) (i : ℕ) (y : X) → i < length xs → slice_get (set xs i y) i ≡ Some y
 set_same [] i y within = absurd (omega arith)
@@ -76,7 +76,8 @@ module _ (app : App) (at : Entries) where
       first found = option_map (handler_row app at) (slice_get found 0)
 
       go : (irq : ℕ) → irq < length app.irqs → (b : Bool) → (s.irq == irq) ≡ b
-          → slice_get (set table s.irq (Some (handler_row app at s))) irq ≡ Some (handler_of app at (ss ++ s ∷ []) irq)
+          → slice_get (set table s.irq (Some (handler_row app at s))) irq
+          ≡ Some (service_handler app at (ss ++ s ∷ []) irq)
       go irq inside true is =
           let same : s.irq ≡ irq = eqb-true s.irq irq is in
           let none : filter (λ o. o.irq == irq) ss ≡ [] = subst (λ i. filter (λ o. o.irq == i) ss ≡ []) same fresh in
@@ -97,20 +98,21 @@ module _ (app : App) (at : Entries) where
 
   -- a row for each interrupt
   rows_from : (ss : List Service) (i : ℕ) (ds : List IrqDecl) (table : List (Option Handler)) → length table ≡ length ds
-      → ((k : ℕ) → k < length ds → slice_get table k ≡ Some (handler_of app at ss (i + k)))
+      → ((k : ℕ) → k < length ds → slice_get table k ≡ Some (service_handler app at ss (i + k)))
       → services app ≡ ss → map (λ (irq, handler). irq_row irq handler) (zip ds table) ≡ irq_rows app at i ds
   rows_from ss i [] table long each are = refl
   rows_from ss i (d ∷ ds) [] long each are = absurd (omega (arith, long))
   rows_from ss i (d ∷ ds) (h ∷ table) long each are =
       let e : i + 0 ≡ i = omega arith in
-      let own : h ≡ handler_of app at ss i = same_Some _ _ (each 0 (omega arith)) ∙ ap (handler_of app at ss) e in
-      let same : handler_of app at ss i ≡ handler_of app at (services app) i =
-      ap (λ os. handler_of app at os i) (sym are) in
-      let rest : (k : ℕ) → k < length ds → slice_get table k ≡ Some (handler_of app at ss (i + 1 + k)) =
+      let own : h ≡ service_handler app at ss i =
+      same_Some _ _ (each 0 (omega arith)) ∙ ap (service_handler app at ss) e in
+      let same : service_handler app at ss i ≡ service_handler app at (services app) i =
+      ap (λ os. service_handler app at os i) (sym are) in
+      let rest : (k : ℕ) → k < length ds → slice_get table k ≡ Some (service_handler app at ss (i + 1 + k)) =
       λ k inside. (let f : i + suc k ≡ i + 1 + k = omega arith in each (suc k) (omega arith)
-      ∙ ap (λ j. Some (handler_of app at ss j)) f) in
+      ∙ ap (λ j. Some (service_handler app at ss j)) f) in
       ap (λ o. irq_row d o ∷ map (λ (irq, handler). irq_row irq handler) (zip ds table)) (own ∙ same)
-      ∙ ap (λ rows. irq_row d (handler_of app at (services app) i) ∷ rows)
+      ∙ ap (λ rows. irq_row d (service_handler app at (services app) i) ∷ rows)
       (rows_from ss (i + 1) ds table (omega (arith, long)) rest are)
 
   pub rows_are : (table : List (Option Handler)) → HasHandlers app at (services app) table
@@ -118,7 +120,7 @@ module _ (app : App) (at : Entries) where
   rows_are table has =
       rows_from (services app) 0 app.irqs table has.long
       (λ k inside. (let e : 0 + k ≡ k = omega arith in has.each k inside
-      ∙ ap (λ j. Some (handler_of app at (services app) j)) (sym e))) refl
+      ∙ ap (λ j. Some (service_handler app at (services app) j)) (sym e))) refl
 
 -- the interrupt of a service is declared, and its level is a priority that there is
 module _ (app : App) (sound : IsSound app) (before behind : List Service) (s : Service)

@@ -14,7 +14,7 @@ use Rattle.rt_gen_disp.specs.Code.{dispatcher_code}
 use Rattle.rt_gen_timer.specs.TimerCode.{timer_code}
 use Rattle.rt_build.specs.Entries.{Entries}
 use Rattle.rt_build.specs.Image.{HasTables}
-use Rattle.rt_build.specs.Order.{Part, OfBody, OfLevel, OfTimer, begin_of, fixed_parts, free_parts, AreAbutting}
+use Rattle.rt_build.specs.Order.{CodePart, OfBody, OfLevel, OfTimer, begin_of, fixed_parts, free_parts, AreAbutting}
 
 -- the code of `idle` from an address on: where it is not declared, the thread waits for interrupts
 abbrev pub idle_code : App → Option Body → ℕ → List Line
@@ -27,7 +27,7 @@ mono_code app None entry = []
 mono_code app (Some mono) entry = timer_code app mono.priority entry
 
 -- the code of a part from an address on
-abbrev pub part_code : App → Part → ℕ → List Line
+abbrev pub part_code : App → CodePart → ℕ → List Line
 part_code app (OfBody body.Init) entry = body_code app body.Init entry
 part_code app (OfBody body.Idle) entry = idle_code app app.idle entry
 part_code app (OfBody (body.Task n)) entry = body_code app (body.Task n) entry
@@ -35,7 +35,7 @@ part_code app (OfLevel p) entry = dispatcher_code app p entry
 part_code app OfTimer entry = mono_code app app.mono entry
 
 -- a part begins at an address, and has these lines, which are determined
-pub record IsWritten (app : App) (at : Entries) (part : Part) (from : ℕ) (lines : List Line) : Type 0 where
+pub record IsPartAt (app : App) (at : Entries) (part : CodePart) (from : ℕ) (lines : List Line) : Type 0 where
   pub begins : begin_of at part ≡ from
   pub are : lines ≡ part_code app part from
 
@@ -44,4 +44,4 @@ pub record IsWritten (app : App) (at : Entries) (part : Part) (from : ℕ) (line
 pub record IsBuilt (app : App) (img : Image) : Type 0 where
   pub at : Entries
   pub tables : HasTables app at img
-  pub parts : AreAbutting (IsWritten app at) 0 (fixed_parts app ++ free_parts app) img.code
+  pub parts : AreAbutting (IsPartAt app at) 0 (fixed_parts app ++ free_parts app) img.code

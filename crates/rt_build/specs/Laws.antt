@@ -12,14 +12,14 @@ use Rattle.rt_code.specs.StandingLaws.{StandingLaws}
 use Rattle.rt_gen_body.specs.Form.{fixed_body}
 use Rattle.rt_build.specs.Built.{IsBuilt}
 use Rattle.rt_build.specs.Image.{IsImageOf}
-use Rattle.rt_build.specs.Order.{Part, OfBody, OfLevel, OfTimer, fixed_parts, free_parts}
+use Rattle.rt_build.specs.Order.{CodePart, OfBody, OfLevel, OfTimer, fixed_parts, free_parts}
 
 -- Code that stands keeps its laws in the memory of every application, accepted or not.
 abbrev pub CodeKeepsLaws : Type 0
 CodeKeepsLaws = (app : App) → StandingLaws (storage app)
 
 -- each line of a part is fixed
-abbrev pub IsFixedPart : App → Part → Type 0
+abbrev pub IsFixedPart : App → CodePart → Type 0
 IsFixedPart app (OfBody id) = IsSome (fixed_body app (member_at app id))
 IsFixedPart app (OfLevel p) = ⊥
 IsFixedPart app OfTimer = ⊥

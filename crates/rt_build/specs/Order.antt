@@ -17,16 +17,16 @@ use Rattle.rt_gen_body.specs.Form.{HasForm}
 use Rattle.rt_build.specs.Entries.{Entries}
 
 -- what code is made up of
-pub data Part : Type 0 where
+pub data CodePart : Type 0 where
   -- the body of `init`, of `idle` or of a task
-  OfBody : BodyId → Part
+  OfBody : BodyId → CodePart
   -- the dispatcher of a level
-  OfLevel : ℕ → Part
+  OfLevel : ℕ → CodePart
   -- the timer handler
-  OfTimer : Part
+  OfTimer : CodePart
 
 -- the address where a part of the code begins
-abbrev pub begin_of : Entries → Part → ℕ
+abbrev pub begin_of : Entries → CodePart → ℕ
 begin_of at (OfBody body.Init) = 0
 begin_of at (OfBody body.Idle) = at.idle
 begin_of at (OfBody (body.Task n)) = at.task n
@@ -34,7 +34,7 @@ begin_of at (OfLevel p) = at.dispatcher p
 begin_of at OfTimer = at.timer
 
 -- how many instructions a part of the code may have
-abbrev pub size_of : App → Part → ℕ
+abbrev pub size_of : App → CodePart → ℕ
 size_of app (OfBody id) = cost_of (size_measure app) (body_at app id)
 size_of app (OfLevel p) = dispatcher_size app p
 size_of app OfTimer = timer_size app app.mono
@@ -46,7 +46,7 @@ IsIdleFormed app (Some b) entry lines = HasForm app body.Idle entry lines
 
 -- the lines of a part from an address on, as far as they are fixed: those of a dispatcher and of the timer handler are
 -- not
-abbrev pub IsFormed : App → Part → ℕ → List Line → Type 0
+abbrev pub IsFormed : App → CodePart → ℕ → List Line → Type 0
 IsFormed app (OfBody body.Init) entry lines = HasForm app body.Init entry lines
 IsFormed app (OfBody body.Idle) entry lines = IsIdleFormed app app.idle entry lines
 IsFormed app (OfBody (body.Task n)) entry lines = HasForm app (body.Task n) entry lines
@@ -54,26 +54,26 @@ IsFormed app (OfLevel p) entry lines = Unit {0}
 IsFormed app OfTimer entry lines = Unit {0}
 
 -- the bodies of the tasks that pass, in order; the first of the tasks has this number
-abbrev pub task_parts : (Task → Bool) → ℕ → List Task → List Part
+abbrev pub task_parts : (Task → Bool) → ℕ → List Task → List CodePart
 task_parts test n [] = []
 task_parts test n (t ∷ more) = (if test t then OfBody (body.Task n) ∷ [] else []) ++ task_parts test (n + 1) more
 
 -- the timer handler, where there is a monotonic
-abbrev pub timer_parts : Option Mono → List Part
+abbrev pub timer_parts : Option Mono → List CodePart
 timer_parts None = []
 timer_parts (Some mono) = OfTimer ∷ []
 
 -- the parts whose order is fixed
-abbrev pub fixed_parts : App → List Part
+abbrev pub fixed_parts : App → List CodePart
 fixed_parts app = OfBody body.Init ∷ OfBody body.Idle ∷ task_parts (λ t. not (is_software t)) 0 app.tasks
 
 -- the parts after those whose order is fixed
-abbrev pub free_parts : App → List Part
+abbrev pub free_parts : App → List CodePart
 free_parts app = task_parts is_software 0 app.tasks ++ (map OfLevel (levels app) ++ timer_parts app.mono)
 
 -- These parts, one after the other, are all of these lines, from an address on, where this is so of each part with its
 -- lines.
-abbrev pub AreAbutting : (Part → ℕ → List Line → Type 0) → ℕ → List Part → List Line → Type 0
+abbrev pub AreAbutting : (CodePart → ℕ → List Line → Type 0) → ℕ → List CodePart → List Line → Type 0
 AreAbutting IsThere from [] lines = lines ≡ []
 AreAbutting IsThere from (part ∷ parts) lines =
     (own more : List Line) × (lines ≡ own ++ more) × IsThere part from own
@@ -81,7 +81,7 @@ AreAbutting IsThere from (part ∷ parts) lines =
 
 module _ (app : App) (at : Entries) where
   -- a part is these lines, from an address on
-  pub record IsPart (part : Part) (from : ℕ) (lines : List Line) : Type 0 where
+  pub record IsPart (part : CodePart) (from : ℕ) (lines : List Line) : Type 0 where
     pub begins : begin_of at part ≡ from
     pub short : length lines ≤ size_of app part
     pub formed : IsFormed app part from lines
@@ -89,7 +89,7 @@ module _ (app : App) (at : Entries) where
   -- the parts of the application are all of its code, first those whose order is fixed, and then the others in some
   -- order
   pub record IsInOrder (code : List Line) : Type 0 where
-    pub behind : List Part
+    pub behind : List CodePart
     pub free : IsPermutation behind (free_parts app)
     pub abut : AreAbutting IsPart 0 (fixed_parts app ++ behind) code
 

@@ -44,18 +44,18 @@ pub(crate) struct Code {
 
 /// A task binds an interrupt, or a dispatcher calls it.
 #[derive(Clone, Copy)]
-pub(crate) enum Kind {
+pub(crate) enum TaskKind {
     Hardware,
     Software,
 }
 
 /// Whether a task is of a kind.
-fn is_of_kind(task: &Task, kind: Kind) -> bool
+fn is_of_kind(task: &Task, kind: TaskKind) -> bool
     ensures { result ≡ is_of_kind kind (task_of task.now) }
 {
     match kind {
-        Kind::Hardware => !task.is_software(),
-        Kind::Software => task.is_software(),
+        TaskKind::Hardware => !task.is_software(),
+        TaskKind::Software => task.is_software(),
     }
 }
 
@@ -97,7 +97,7 @@ fn push_task(
     alloc: Global,
     plan: &Plan<'_>,
     rows: &ArmedRows<'_>,
-    kind: Kind,
+    kind: TaskKind,
     number: u8,
     entries: &mut [u32],
     lines: &mut Vec<Line>,
@@ -128,7 +128,7 @@ fn push_tasks(
     alloc: Global,
     plan: &Plan<'_>,
     rows: &ArmedRows<'_>,
-    kind: Kind,
+    kind: TaskKind,
     entries: &mut [u32],
     lines: &mut Vec<Line>,
 ) -> Result<(), NoMemory>
@@ -213,7 +213,7 @@ fn push_parts(
         alloc,
         plan,
         rows,
-        Kind::Hardware,
+        TaskKind::Hardware,
         &mut code.tasks,
         &mut code.lines,
     )?;
@@ -221,7 +221,7 @@ fn push_parts(
         alloc,
         plan,
         rows,
-        Kind::Software,
+        TaskKind::Software,
         &mut code.tasks,
         &mut code.lines,
     )?;

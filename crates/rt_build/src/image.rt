@@ -10,7 +10,7 @@ ghost use Rattle.rt_code.specs.Lines.{HasLines};
 ghost use Rattle.rt_code.specs.Runnable.{IsRunnable};
 
 use crate::code::{Code, generate};
-use crate::tables::{Tables, tables_of};
+use crate::tables::{ImageTables, tables_of};
 use rt_app::{App, Layout, Plan};
 use rt_code::Image;
 use rt_ids::NoMemory;
@@ -18,7 +18,7 @@ use rt_layout::plan;
 use std::alloc::Global;
 
 /// An image of these parts.
-fn assemble(plan: Plan<'_>, code: Code, tables: Tables) -> Image
+fn assemble(plan: Plan<'_>, code: Code, tables: ImageTables) -> Image
     ensures { result ≡ record {
       bits = plan.entry.app.now.bits;
       fpu = plan.entry.app.now.fpu;
@@ -34,7 +34,7 @@ fn assemble(plan: Plan<'_>, code: Code, tables: Tables) -> Image
     let Plan { app, lay, .. } = plan;
     let Layout { cells, .. } = lay;
     let Code { lines, .. } = code;
-    let Tables {
+    let ImageTables {
         stack,
         irqs,
         bodies,

@@ -24,7 +24,7 @@ use std::alloc::Global;
 
 /// What stands beside the code and the cells of an image.
 #[derive(Drop)]
-pub(crate) struct Tables {
+pub(crate) struct ImageTables {
     pub(crate) stack: Stack,
     pub(crate) irqs: Vec<IrqRow>,
     /// Of the bodies that dispatchers call.
@@ -207,7 +207,11 @@ fn rows(alloc: Global, plan: &Plan<'_>, code: &Code) -> Result<Vec<IrqRow>, NoMe
 }
 
 /// The tables of an application of this code.
-pub(crate) fn tables_of(alloc: Global, plan: &Plan<'_>, code: &Code) -> Result<Tables, NoMemory>
+pub(crate) fn tables_of(
+    alloc: Global,
+    plan: &Plan<'_>,
+    code: &Code,
+) -> Result<ImageTables, NoMemory>
     requires plan { IsAcceptedPlan plan.now }
     requires entries { HasEntries (app_of plan.now.app.now) code.now }
     ensures words { IfOk result (λ tables. tables.stack.thread_words ≡ thread_words (app_of plan.now.app.now)) }
@@ -222,7 +226,7 @@ pub(crate) fn tables_of(alloc: Global, plan: &Plan<'_>, code: &Code) -> Result<T
     let irqs = rows(alloc, plan, code)?;
     let bodies = body_rows(alloc, plan, code)?;
     let names = plan.app.names(alloc)?;
-    Ok(Tables {
+    Ok(ImageTables {
         stack,
         irqs,
         bodies,

@@ -4,7 +4,7 @@ use Rattle.rt_code.specs.Access.{access_of, cells_of}
 use Rattle.rt_code.specs.Effect.{effect, unchecked_effect, slot, next}
 use Rattle.rt_code.specs.Masking.{opening_instr, closing_instr}
 use Rattle.rt_code.specs.Operands.{slots_of, are_there}
-use Rattle.rt_code.specs.Owning.{Kind, Marked, Raised, Masked}
+use Rattle.rt_code.specs.Owning.{SectionKind, Marked, Raised, Masked}
 use Rattle.rt_code.specs.Processor.{Processor, Effect, Traps, Leads}
 use Rattle.rt_code.specs.declared.instr.Instr.{Instr}
 use Rattle.rt_code.specs.declared.instr.Instr.TheVariants as instr
@@ -65,13 +65,14 @@ pub return_stays : (i : Instr) (time : ℕ) (p q : Processor) → effect i time 
 return_stays i time p q h = return_done i time p q (done_leads i time p q request.Return h)
 
 -- what opens or closes a section asks nothing
-pub opening_asks : (value : ℕ) (kind : Kind) (time : ℕ) (p q : Processor) (asked : Request)
+pub opening_asks : (value : ℕ) (kind : SectionKind) (time : ℕ) (p q : Processor) (asked : Request)
     → effect (opening_instr value kind) time p ≡ Leads q asked → asked ≡ request.Nothing
 opening_asks value Marked time p q asked h = cc
 opening_asks value (Raised slot) time p q asked h = let e = done_leads (instr.Raise slot value) time p q asked h in cc
 opening_asks value (Masked slot) time p q asked h = let e = done_leads (instr.Mask slot) time p q asked h in cc
 
-pub closing_asks : (kind : Kind) (time : ℕ) (p q : Processor) (asked : Request) → effect (closing_instr kind) time p
+pub closing_asks : (kind : SectionKind) (time : ℕ) (p q : Processor) (asked : Request)
+    → effect (closing_instr kind) time p
     ≡ Leads q asked → asked ≡ request.Nothing
 closing_asks Marked time p q asked h = cc
 closing_asks (Raised slot) time p q asked h = let e = done_leads (instr.Restore slot) time p q asked h in cc
@@ -79,12 +80,12 @@ closing_asks (Masked slot) time p q asked h = unmask_done slot time p q asked
     (done_leads (instr.Unmask slot) time p q asked h)
 
 -- neither touches memory
-pub opening_touches : (value : ℕ) (kind : Kind) (p : Processor) → access_of (opening_instr value kind) p ≡ None
+pub opening_touches : (value : ℕ) (kind : SectionKind) (p : Processor) → access_of (opening_instr value kind) p ≡ None
 opening_touches value Marked p = refl
 opening_touches value (Raised slot) p = refl
 opening_touches value (Masked slot) p = refl
 
-pub closing_touches : (kind : Kind) (p : Processor) → access_of (closing_instr kind) p ≡ None
+pub closing_touches : (kind : SectionKind) (p : Processor) → access_of (closing_instr kind) p ≡ None
 closing_touches Marked p = refl
 closing_touches (Raised slot) p = refl
 closing_touches (Masked slot) p = refl

@@ -13,40 +13,40 @@ use Rattle.rt_actions.specs.Action.{Enters, Leaves}
 use Rattle.rt_actions.specs.Doing.{Doing, does}
 use Rattle.rt_actions.specs.Storage.{Storage, Runner, Starting, AtPriority}
 use Rattle.rt_ids.specs.declared.ids.Section.{Section}
-use Rattle.rt_code.specs.Owning.{Kind, Marked, Raised, Masked, OpenSection, Configuration, is_open, saved_slot}
+use Rattle.rt_code.specs.Owning.{SectionKind, Marked, Raised, Masked, OpenSection, Configuration, is_open, saved_slot}
 use Rattle.rt_code.specs.Owning.{saved_slots, mine}
 use Rattle.rt_code.specs.Owning.{Agree, LeavesMine}
 use Rattle.rt_code.specs.declared.instr.Instr.{Instr}
 use Rattle.rt_code.specs.declared.instr.Instr.TheVariants as instr
 
 -- the instruction that opens a section of this kind; BASEPRI becomes the priority value of its ceiling
-abbrev pub opening_instr : ℕ → Kind → Instr
+abbrev pub opening_instr : ℕ → SectionKind → Instr
 opening_instr value Marked = instr.Mark
 opening_instr value (Raised slot) = instr.Raise slot value
 opening_instr value (Masked slot) = instr.Mask slot
 
 -- the instruction that closes a section of this kind, and puts the mask back
-abbrev pub closing_instr : Kind → Instr
+abbrev pub closing_instr : SectionKind → Instr
 closing_instr Marked = instr.Mark
 closing_instr (Raised slot) = instr.Restore slot
 closing_instr (Masked slot) = instr.Unmask slot
 
 -- the slots with what a mask was, where the kind keeps one
-abbrev pub slots_with_mask : Kind → ℕ → List ℕ → List ℕ
+abbrev pub slots_with_mask : SectionKind → ℕ → List ℕ → List ℕ
 slots_with_mask Marked value slots = slots
 slots_with_mask (Raised slot) value slots = slice_set slots slot value
 slots_with_mask (Masked slot) value slots = slice_set slots slot value
 
 module _ (st : Storage) (who : Runner) where
   -- the mask that a ceiling asks for, at a preemption threshold that what runs holds off already
-  abbrev pub IsMask : ℕ → ℕ → Kind → Type 0
+  abbrev pub IsMask : ℕ → ℕ → SectionKind → Type 0
   IsMask ceiling threshold Marked = ceiling ≤ threshold
   IsMask ceiling threshold (Raised slot) = (threshold < ceiling) × (0 < st.value ceiling)
   IsMask ceiling threshold (Masked slot) = (threshold < ceiling) × (st.value ceiling ≡ 0)
 
   -- the kind that a section asks for: in `init`, which holds off all, a mark; elsewhere by the preemption threshold,
   -- the greatest of the runner's priority and of the ceilings of its open sections
-  abbrev pub IsKindFor : Runner → List OpenSection → Section → Kind → Type 0
+  abbrev pub IsKindFor : Runner → List OpenSection → Section → SectionKind → Type 0
   IsKindFor Starting held x kind = kind ≡ Marked
   IsKindFor (AtPriority p) held x kind =
       IsMask (st.ceiling x) (max p (greatest (map (λ h. st.ceiling h.section) held))) kind
@@ -64,9 +64,10 @@ module _ (st : Storage) (who : Runner) where
       (q : ℕ) → (st.is_kept (AtPriority q) (Guarded x) ≡ false) × (st.is_constant (AtPriority q) (Guarded x) ≡ false)
 
   -- where the job is after the opening of a section, with memory and queues as they then are
-  abbrev pub inside : Section → Kind → ℕ → ℕ → Doing Values → List ℕ → (Location → List Entry) → Configuration
+  abbrev pub with_section : Section → SectionKind → ℕ → ℕ → Doing Values → List ℕ → (Location → List Entry)
       → Configuration
-  inside x kind saved cost rest cells queues s = record s {
+      → Configuration
+  with_section x kind saved cost rest cells queues s = record s {
     held = record { section = x; kind = kind } ∷ s.held;
     lefts = (cost - 1) ∷ s.lefts;
     slots = slots_with_mask kind saved s.slots;
@@ -82,7 +83,7 @@ module _ (st : Storage) (who : Runner) where
     pub agree : Agree st who s.held vs values
     pub same : LeavesMine st who s cells queues
     pub represented : st.Represents (Guarded x) (slice_index cells) (queues (Guarded x)) (vs (Guarded x))
-    pub once : (e : Entry) → mine (inside x Marked 0 0 s.rest cells queues s) e ≤ 1
+    pub once : (e : Entry) → mine (with_section x Marked 0 0 s.rest cells queues s) e ≤ 1
     -- where it is the timer queue, one more message may be armed: armings are numbered
     pub few : MayArm (vs (Guarded x))
 
@@ -93,7 +94,7 @@ module _ (st : Storage) (who : Runner) where
     pub values : Values
     pub follows : ℕ → Values → Doing Values
     pub is : s.rest ≡ does (Enters x cost) values follows
-    pub kind : Kind
+    pub kind : SectionKind
     pub mask : IsKindFor who s.held x kind
     pub opens : i ≡ opening_instr (st.value (st.ceiling x)) kind
     -- the slot that keeps the mask is in the frame, and keeps no other
@@ -103,7 +104,7 @@ module _ (st : Storage) (who : Runner) where
     pub shared : NobodyKeeps who x
     pub on : (saved : ℕ) (vs : Values) (cells : List ℕ) (queues : Location → List Entry)
         → TakesOver x s values vs cells queues
-        → later (inside x kind saved cost (follows 0 vs) cells queues s)
+        → later (with_section x kind saved cost (follows 0 vs) cells queues s)
 
   -- The job's next action leaves the innermost section, and the instruction closes it. What the section guards is given
   -- back as it then is: its cells represent its value.
@@ -111,7 +112,7 @@ module _ (st : Storage) (who : Runner) where
     pub values : Values
     pub follows : ℕ → Values → Doing Values
     pub is : s.rest ≡ does (Leaves x) values follows
-    pub kind : Kind
+    pub kind : SectionKind
     pub outer : List OpenSection
     pub innermost : s.held ≡ record { section = x; kind = kind } ∷ outer
     pub closes : i ≡ closing_instr kind

@@ -14,15 +14,15 @@ use Rattle.rt_code.specs.Access.{Access, Loads, Stores}
 
 -- how a section holds others off: by nothing, since what runs does already; or by BASEPRI or PRIMASK, whose value
 -- before is in a slot
-pub data Kind : Type 0 where
-  Marked : Kind
-  Raised : (slot : ℕ) → Kind
-  Masked : (slot : ℕ) → Kind
+pub data SectionKind : Type 0 where
+  Marked : SectionKind
+  Raised : (slot : ℕ) → SectionKind
+  Masked : (slot : ℕ) → SectionKind
 
 -- an open section, and how it holds others off
 pub record OpenSection : Type 0 where
   pub section : Section
-  pub kind : Kind
+  pub kind : SectionKind
 
 -- where a job is: its own part of the core and of memory, and what it has left to do
 pub record Configuration : Type 0 where
@@ -47,7 +47,7 @@ abbrev pub is_open : List OpenSection → Section → Bool
 is_open held x = list_any (λ h. is_same_section h.section x) held
 
 -- the slot that holds what a mask was before a section of this kind, where it changed one
-abbrev pub saved_slot : Kind → List ℕ
+abbrev pub saved_slot : SectionKind → List ℕ
 saved_slot Marked = []
 saved_slot (Raised slot) = slot ∷ []
 saved_slot (Masked slot) = slot ∷ []

@@ -11,7 +11,7 @@ use Rattle.rt_code.specs.Access.{access_of}
 use Rattle.rt_code.specs.Effect.{effect}
 use Rattle.rt_code.specs.Leading.{LeadsTo, is_of_section, is_plain}
 use Rattle.rt_code.specs.Masking.{EntersSection, LeavesSection, IsKindFor, opening_instr, closing_instr}
-use Rattle.rt_code.specs.Owning.{Kind, OpenSection, Configuration, saved_slot, saved_slots, MayAccess}
+use Rattle.rt_code.specs.Owning.{SectionKind, OpenSection, Configuration, saved_slot, saved_slots, MayAccess}
 use Rattle.rt_code.specs.Processor.{Processor}
 use Rattle.rt_code.specs.Standing.{Stands, Goes, Calls, ComesBack, Finishes}
 use Rattle.rt_code.specs.Standing.{HaveLeft, KeepsSaved, spend_step, processor_of}
@@ -46,14 +46,14 @@ module _ (st : Storage) (code : List (Instr × Option Note)) (bodies : List Body
 
   -- a section opens by the kind that is asked for, with a slot of the frame that keeps no other mask
   pub record OpensByKind (x : Section) (i : Instr) : Type 0 where
-    pub kind : Kind
+    pub kind : SectionKind
     pub mask : IsKindFor st who who s.held x kind
     pub opens : i ≡ opening_instr (st.value (st.ceiling x)) kind
     pub slot : AllByRecursion (λ d. (d < length s.slots) × (¬ Contains (saved_slots s.held) d)) (saved_slot kind)
 
   -- the innermost section closes by the kind that it opened by
   pub record ClosesByKind (x : Section) (i : Instr) : Type 0 where
-    pub kind : Kind
+    pub kind : SectionKind
     pub outer : List OpenSection
     pub innermost : s.held ≡ record { section = x; kind = kind } ∷ outer
     pub closes : i ≡ closing_instr kind

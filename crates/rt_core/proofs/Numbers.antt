@@ -11,7 +11,7 @@ use Rattle.rt_code.specs.Image.{Image}
 use Rattle.rt_code.specs.Runnable.{IsRunnable}
 use Rattle.rt_code.specs.declared.image.IrqRow.{IrqRow}
 use Rattle.rt_code.specs.declared.image.Handler.{Handler}
-use Rattle.rt_nvic.specs.Nvic.{Nvic, IsSized, IsReady, Precedes, is_pending, priority_of, value_of}
+use Rattle.rt_nvic.specs.Nvic.{Nvic, IsSized, IsReady, Precedes, is_pending, priority_of, priority_value}
 use Rattle.rt_ids.specs.Lists.{then_from}
 use Rattle.rt_core.specs.Core.{Core}
 use Rattle.rt_core.specs.Priority.{value_or_none, can_preempt, pick, execution, running_value, base_value, mask_value}
@@ -41,7 +41,8 @@ pending_within n sized irq h =
 
 module _ (img : Image) (runnable : IsRunnable img) (c : Core) (n : Nvic) (sized : IsSized n)
     (same : c.pending ≡ n.pending) (alike : HasPriorities img n) where
-  value_alike : (x : IrqRow) → IsIn img.irqs x → x.number < IRQ_NUMBERS → value_of n x.number ≡ value_or_none x.handler
+  value_alike : (x : IrqRow) → IsIn img.irqs x → x.number < IRQ_NUMBERS
+      → priority_value n x.number ≡ value_or_none x.handler
   value_alike x is within = ap (λ o. unwrap_or o 256) (alike x.number within
       ∙ ap (option_map (λ h. h.value)) (handler_of_row img runnable x is)) ∙ one x.handler
     where
@@ -88,7 +89,7 @@ module _ (img : Image) (runnable : IsRunnable img) (c : Core) (n : Nvic) (sized 
           let within = pending_within n sized irq ready.pending in
           let value = value_alike x passes.0 (subst (λ k. k < IRQ_NUMBERS) (sym number) within) in
           let less : value_or_none x.handler < execution c = subst (λ v. v < execution c)
-          (ap (value_of n) (sym number) ∙ value) ready.higher in
+          (ap (priority_value n) (sym number) ∙ value) ready.higher in
           let pending : slice_index_or c.pending x.number false ≡ true = ap (λ p. slice_index_or p x.number false) same
           ∙ (ap (is_pending n) number ∙ ready.pending) in
           let higher : nat_lt (value_or_none x.handler) (execution c) ≡ true = grind (arith, nat_tests) in (
@@ -99,7 +100,7 @@ module _ (img : Image) (runnable : IsRunnable img) (c : Core) (n : Nvic) (sized 
                 (nat_lt (value_or_none x.handler) (execution c)) pending higher,
           )
 
-  least : (irq : ℕ) (x y : IrqRow) → value_of n x.number ≡ value_or_none x.handler → value_of n irq
+  least : (irq : ℕ) (x y : IrqRow) → priority_value n x.number ≡ value_or_none x.handler → priority_value n irq
       ≡ value_or_none y.handler → y.number ≡ irq
       → Precedes n irq x.number → NoLater x y → irq ≡ x.number
   least irq x y mine theirs number here there =
@@ -129,7 +130,7 @@ module _ (img : Image) (runnable : IsRunnable img) (c : Core) (n : Nvic) (sized 
           let there = all_at (λ y. can_preempt c y ≡ true → NoLater x y) img.irqs row.0 best_is.2 row.1 row.3 in
           let mine = value_alike x chosen.0 ready.1 in
           let within = pending_within n sized irq is.ready.pending in
-          let theirs = ap (value_of n) (sym row.2) ∙ value_alike row.0 row.1
+          let theirs = ap (priority_value n) (sym row.2) ∙ value_alike row.0 row.1
           (subst (λ k. k < IRQ_NUMBERS) (sym row.2) within) in
           let same : irq ≡ x.number = least irq x row.0 mine theirs row.2 here there in
           ap Some same

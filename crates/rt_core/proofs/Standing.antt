@@ -18,7 +18,7 @@ use Rattle.rt_code.specs.Effect.{effect}
 use Rattle.rt_code.specs.Image.{Image}
 use Rattle.rt_code.specs.Masking.{EntersSection, LeavesSection}
 use Rattle.rt_code.specs.Operands.{are_there}
-use Rattle.rt_code.specs.Owning.{Kind, Marked, Raised, Masked, Configuration, MayAccess, saved_slot}
+use Rattle.rt_code.specs.Owning.{SectionKind, Marked, Raised, Masked, Configuration, MayAccess, saved_slot}
 use Rattle.rt_code.specs.Processor.{Processor, Effect, Traps, Leads}
 use Rattle.rt_code.specs.Stack as stack
 use Rattle.rt_code.specs.Standing.{Finishes, Calls, EndsBody, Asks, Goes, Does, Fits, LineFits, Stands, KeepsSaved}
@@ -98,7 +98,7 @@ value_kept img c (section.Res r) p same = ap (λ cells. resource_value img cells
 value_kept img c x p same = refl
 
 -- a leave shows the value as it is before it
-value_left : (img : Image) (c : Core) (x : Section) (kind : Kind) → left_value img
+value_left : (img : Image) (c : Core) (x : Section) (kind : SectionKind) → left_value img
     (with_processor c (processor_after_closing c.processor kind)) x ≡ left_value img c x
 value_left img c x Marked = value_kept img c x (processor_after_closing c.processor Marked) refl
 value_left img c x (Raised slot) = value_kept img c x (processor_after_closing c.processor (Raised slot)) refl

@@ -11,7 +11,7 @@ ghost use Rattle.rt_core.specs.Outcome.{Outcome, Trapped, settle};
 ghost use Rattle.rt_core.specs.Note as notes;
 ghost use Rattle.rt_core.specs.Stepping as stepping;
 ghost use Rattle.rt_core.specs.Reaching.{Reaches, StepsToItem};
-ghost use Rattle.rt_core.specs.Inside.Came.{Comes, effect_of, note_at};
+ghost use Rattle.rt_core.specs.Inside.Came.{IsOutcome, effect_of, note_at};
 ghost use Rattle.rt_core.specs.Inside.Begun.{outcome_of_rest};
 
 use crate::alarm::Alarm;
@@ -61,7 +61,7 @@ impl Core {
     /// Exception entry.
     fn exception_entry(&mut self, irq: Irq) -> Result<Option<What>, Trap>
         requires { option_map (λ row. row.number) (priority.pick self.old.image self.old.core) ≡ Some irq }
-        ensures outcome { Comes result self.new.core
+        ensures outcome { IsOutcome result self.new.core
             (stepping.attempt self.old.image self.old.core (priority.pick self.old.image self.old.core)) }
         ensures rest { self.new ≡ record self.old { core = self.new.core } }
     {
@@ -83,7 +83,7 @@ impl Core {
 
     /// Exception return.
     fn exception_return(&mut self) -> Result<Option<What>, Trap>
-        ensures outcome { Comes result self.new.core (stepping.answer self.old.image self.old.core request.Return) }
+        ensures outcome { IsOutcome result self.new.core (stepping.answer self.old.image self.old.core request.Return) }
         ensures rest { self.new ≡ record self.old { core = self.new.core } }
     {
         let Some(address) = self.frames.leave() else {
@@ -98,7 +98,7 @@ impl Core {
     /// A call of a body.
     fn call(&mut self, row: u32, from: u32) -> Result<Option<What>, Trap>
         requires { self.old.core.processor.address + 1 < 2 ^ 32 }
-        ensures outcome { Comes result self.new.core
+        ensures outcome { IsOutcome result self.new.core
             (stepping.answer self.old.image self.old.core (request.Call row from)) }
         ensures rest { self.new ≡ record self.old { core = self.new.core } }
     {
@@ -119,7 +119,7 @@ impl Core {
 
     /// A body's return.
     fn back(&mut self) -> Result<Option<What>, Trap>
-        ensures outcome { Comes result self.new.core (stepping.answer self.old.image self.old.core request.Back) }
+        ensures outcome { IsOutcome result self.new.core (stepping.answer self.old.image self.old.core request.Back) }
         ensures rest { self.new ≡ record self.old { core = self.new.core } }
     {
         let Some(address) = self.frames.back() else {
@@ -131,7 +131,7 @@ impl Core {
 
     /// Sets the alarm to an instant, for an interrupt, which becomes pending at once where the instant has come.
     fn set_alarm(&mut self, instant: u32, irq: Irq) -> Result<Option<What>, Trap>
-        ensures outcome { Comes result self.new.core
+        ensures outcome { IsOutcome result self.new.core
             (stepping.answer self.old.image self.old.core (request.Alarm instant irq)) }
         ensures rest { self.new ≡ record self.old { core = self.new.core } }
     {
@@ -147,7 +147,7 @@ impl Core {
     /// What an instruction asks of the core.
     fn answer(&mut self, asked: Request) -> Result<Option<What>, Trap>
         requires { (row from : ℕ) → asked ≡ request.Call row from → self.old.core.processor.address + 1 < 2 ^ 32 }
-        ensures outcome { Comes result self.new.core (stepping.answer self.old.image self.old.core asked) }
+        ensures outcome { IsOutcome result self.new.core (stepping.answer self.old.image self.old.core asked) }
         ensures rest { self.new ≡ record self.old { core = self.new.core } }
     {
         match asked {
@@ -276,7 +276,7 @@ impl Core {
     ) -> Result<Option<What>, Trap>
         requires { (row from : ℕ) → came ≡ Ok (request.Call row from)
             → self.old.core.processor.address + 1 < 2 ^ 32 }
-        ensures outcome { Comes result self.new.core
+        ensures outcome { IsOutcome result self.new.core
             (stepping.go_on self.old.image self.old.core note (effect_of self.old.core.processor came)) }
         ensures rest { self.new ≡ record self.old { core = self.new.core } }
     {
@@ -300,7 +300,7 @@ impl Core {
 
     /// The item of what came of a step.
     fn settle(&mut self, came: Result<Option<What>, Trap>) -> Option<What>
-        ensures settled { (outcome : Outcome) → Comes came self.old.core outcome → settle outcome
+        ensures settled { (outcome : Outcome) → IsOutcome came self.old.core outcome → settle outcome
             ≡ (self.new.core, result) }
         ensures rest { self.new ≡ record self.old { core = self.new.core } }
     {

@@ -20,7 +20,7 @@ use Rattle.rt_run.proofs.Advancing.{stands_still, leads_on, items_split}
 use Rattle.rt_run.proofs.Scripted.{events_more}
 use Rattle.rt_run.proofs.Reached.{reached_leads, reached_nothing, reached_item}
 use Rattle.rt_count.specs.Summary.{summary_of}
-use Rattle.rt_count.specs.Joining.{IsWithin}
+use Rattle.rt_count.specs.Joining.{CountsAtMost}
 use Rattle.rt_count.specs.Inside.Adding.{summary_with_item, summary_with_items}
 use Rattle.rt_count.specs.Inside.Counting.{Counted}
 use Rattle.rt_count.specs.declared.summary.Summary.{Summary}
@@ -132,7 +132,7 @@ run_is script a b s t runs fresh is run =
     ∙ ap (λ k. summary_of runs (items_of k (labels a.image (reset a.image) (events script)))) fresh.steps
 
 -- what is within a bound is within a greater one
-pub within_more : (m n : ℕ) (s : Summary) → m ≤ n → IsWithin m s → IsWithin n s
+pub within_more : (m n : ℕ) (s : Summary) → m ≤ n → CountsAtMost m s → CountsAtMost n s
 within_more m n s less within = record {
   takes = omega (arith, less, within.takes);
   emits = omega (arith, less, within.emits);

@@ -14,7 +14,7 @@ joined_summary s t = record {
 }
 
 -- nothing is counted more often than so many times
-pub record IsWithin (most : ℕ) (s : Summary) : Type 0 where
+pub record CountsAtMost (most : ℕ) (s : Summary) : Type 0 where
   pub takes : s.takes ≤ most
   pub emits : s.emits ≤ most
   pub full : s.full ≤ most

@@ -10,7 +10,7 @@ ghost use Rattle.rt_run.specs.Done.{Leads};
 ghost use Rattle.rt_count.specs.Summary.{summary_of};
 ghost use Rattle.rt_count.specs.declared.summary.Summary.{Summary as Counts};
 ghost use Rattle.rt_count.specs.Inside.Counting.{Counted};
-ghost use Rattle.rt_count.specs.Joining.{IsWithin};
+ghost use Rattle.rt_count.specs.Joining.{CountsAtMost};
 
 use crate::summary::Summary;
 use rt_core::Core;
@@ -23,10 +23,10 @@ use rt_script::{Line, Script};
 fn count_to_item(core: &mut Core, most: u32, summary: &mut Summary) -> u32
     requires few { core.old.steps + most < 2 ^ 31 }
     requires some { 0 < most }
-    requires within { IsWithin core.old.steps summary.old }
+    requires within { CountsAtMost core.old.steps summary.old }
     ensures fewer { result < most }
     ensures counted { Counted (replicate (most - result) Step) core.old core.new summary.old summary.new }
-    ensures within { IsWithin core.new.steps summary.new }
+    ensures within { CountsAtMost core.new.steps summary.new }
 {
     let before = core.steps();
     let Some(what) = core.steps_to_item(most) else {
@@ -39,9 +39,9 @@ fn count_to_item(core: &mut Core, most: u32, summary: &mut Summary) -> u32
 /// So many core steps.
 fn count_steps(core: &mut Core, count: u32, summary: &mut Summary)
     requires few { core.old.steps + count < 2 ^ 31 }
-    requires within { IsWithin core.old.steps summary.old }
+    requires within { CountsAtMost core.old.steps summary.old }
     ensures counted { Counted (replicate count Step) core.old core.new summary.old summary.new }
-    ensures within { IsWithin core.new.steps summary.new }
+    ensures within { CountsAtMost core.new.steps summary.new }
 {
     let mut left = count;
     while left > 0 {
@@ -83,9 +83,9 @@ fn arrive_on(core: &mut Core, irq: Irq, count: u32)
 fn count_line(core: &mut Core, line: &Line, summary: &mut Summary)
     requires few { core.old.steps + count_of line.now < 2 ^ 31 }
     requires early { core.old.core.time + count_of line.now < 2 ^ 31 }
-    requires within { IsWithin core.old.steps summary.old }
+    requires within { CountsAtMost core.old.steps summary.old }
     ensures counted { Counted (line_events line.now) core.old core.new summary.old summary.new }
-    ensures within { IsWithin core.new.steps summary.new }
+    ensures within { CountsAtMost core.new.steps summary.new }
 {
     match line {
         Line::Steps(count) => count_steps(core, *count, summary),
@@ -99,9 +99,9 @@ fn count_line(core: &mut Core, line: &Line, summary: &mut Summary)
 fn count_lines(core: &mut Core, lines: &[Line], summary: &mut Summary)
     requires fresh { IsFresh core.old }
     requires script { IsScript lines.now }
-    requires within { IsWithin core.old.steps summary.old }
+    requires within { CountsAtMost core.old.steps summary.old }
     ensures counted { Counted (events lines.now) core.old core.new summary.old summary.new }
-    ensures within { IsWithin core.new.steps summary.new }
+    ensures within { CountsAtMost core.new.steps summary.new }
 {
     for line in lines {
         count_line(core, line, summary);
@@ -116,7 +116,7 @@ pub fn count_run(core: &mut Core, script: &Script) -> Summary
     ensures all { Leads (events script.now) core.old core.new }
 
     // A core step is a take, an emitted value or a refused message at most once.
-    ensures within { IsWithin SCRIPT_EVENTS result }
+    ensures within { CountsAtMost SCRIPT_EVENTS result }
 {
     let mut summary = Summary::of_silent_runs(1);
     count_lines(core, script.lines(), &mut summary);

@@ -2,7 +2,7 @@
 
 ghost use Rattle.std.specs.Prelude.{◌≡◌, ◌^◌, [], ◌++◌, IfOk, OnOk};
 ghost use Rattle.rt_count.specs.Summary as spec;
-ghost use Rattle.rt_count.specs.Joining.{joined_summary, IsWithin, SumsFit};
+ghost use Rattle.rt_count.specs.Joining.{joined_summary, CountsAtMost, SumsFit};
 ghost use Rattle.rt_count.specs.Inside.Adding.{summary_with_item};
 ghost use Rattle.rt_count.specs.Text as text;
 
@@ -46,7 +46,7 @@ impl Summary {
     /// Counts what one more core step shows.
     #[inline(always)]
     pub(crate) fn count(&mut self, what: &What)
-        requires { IsWithin (2 ^ 31) self.old }
+        requires { CountsAtMost (2 ^ 31) self.old }
         ensures { self.new ≡ summary_with_item self.old what.now }
     {
         match what {

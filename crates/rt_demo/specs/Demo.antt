@@ -61,9 +61,9 @@ messages k =
     ++ text_with_number (codes ") later(") k ++ codes ");\n}\n"
 
 -- the whole text of a task
-abbrev pub task : ℕ → List ℕ
-task k = options k ++ section k ++ messages k
+abbrev pub demo_task : ℕ → List ℕ
+demo_task k = options k ++ section k ++ messages k
 
 -- the application of n hardware tasks
 abbrev pub demo : ℕ → List ℕ
-demo n = head ++ flat_map interrupt (numbers_below n) ++ common ++ flat_map task (numbers_below n)
+demo n = head ++ flat_map interrupt (numbers_below n) ++ common ++ flat_map demo_task (numbers_below n)

@@ -78,7 +78,7 @@ fn push_interrupt(out: &mut Vec<u8>, k: u8) -> Result<(), NoMemory>
 
 /// Appends the hardware tasks.
 fn push_tasks(out: &mut Vec<u8>, n: u8) -> Result<(), NoMemory>
-    ensures { OnOk result (out.new.items ≡ out.old.items ++ flat_map spec.task (numbers_below n)) }
+    ensures { OnOk result (out.new.items ≡ out.old.items ++ flat_map spec.demo_task (numbers_below n)) }
 {
     for k in 0..n {
         push_task(out, k)?;
@@ -88,7 +88,7 @@ fn push_tasks(out: &mut Vec<u8>, n: u8) -> Result<(), NoMemory>
 
 /// Appends the hardware task of this number.
 fn push_task(out: &mut Vec<u8>, k: u8) -> Result<(), NoMemory>
-    ensures { OnOk result (out.new.items ≡ out.old.items ++ spec.task k) }
+    ensures { OnOk result (out.new.items ≡ out.old.items ++ spec.demo_task k) }
 {
     push_options(out, k)?;
     push_section(out, k)?;

@@ -5,7 +5,8 @@ use Rattle.rt_live.proofs.Vocabulary.{List, Machine, Names, Pends, Row, Steps, T
 use Rattle.rt_live.proofs.Vocabulary.{bit_in_row, declared_irqs, empty_row, false≢true, irqs_of, last_turns, length}
 use Rattle.rt_live.proofs.Vocabulary.{map, own_events, pending_bit, row_count, steps_below, subst, sym, true}
 use Rattle.rt_live.proofs.Vocabulary.{with_looks, ℕ, ◌++◌, ◌/◌, ◌<◌, ◌^◌, ◌∙◌, ◌∷◌, ◌≡◌}
-use Rattle.rt_dual.proofs.Vocabulary.{AreEmpty, Both, HasRun, HaveRun, IsWoven, Place, Second, Share, Side, irqs_empty}
+use Rattle.rt_dual.proofs.Vocabulary.{AreEmpty, Both, HasRun, HaveRun, IsWoven, CorePlace, Second, Share, Side}
+use Rattle.rt_dual.proofs.Vocabulary.{irqs_empty}
 use Rattle.rt_dual.proofs.Vocabulary.{leads_by, own_length, placed_line, turns, weave}
 use Rattle.rt_live.proofs.{Woven.looks-append, Woven.looks_own, Readied.able_placed}
 use Rattle.rt_dual.specs.Inside.Both.{AreBefore, CanRun, CanWrite, HasEnded, IsBefore}
@@ -20,7 +21,7 @@ bits_kept core old new irqs same has irq low =
     (λ is. (has irq low).0 (sym kept ∙ is), λ there. kept ∙ (has irq low).1 there)
 
 -- a core can run on its side
-module _ {place : Place} {made : List ℕ} {share : Share} {head : List ℕ} {row : Row} {m : Machine} {other : Image}
+module _ {place : CorePlace} {made : List ℕ} {share : Share} {head : List ℕ} {row : Row} {m : Machine} {other : Image}
     {side : Side} (fresh : IsFresh m) (lines : HasLines m.image)
     (before : IsBefore place made share head row m.image other side) (near : place.here < 2) (many : row_count row ≡ 32)
     (far : HasBits place.there row.may (declared_irqs other.names))
@@ -57,7 +58,7 @@ have_run {old = old} fresh_a fresh_b before one two = record {
 }
 
 -- a core that has ended on its side
-module _ {place : Place} {made : List ℕ} {share : Share} {head : List ℕ} {row : Row} {other : Image}
+module _ {place : CorePlace} {made : List ℕ} {share : Share} {head : List ℕ} {row : Row} {other : Image}
     {script : List Line} {m n : Machine} {side : Side} (run : HasRun place made share head row other script m n side)
   where
     -- what its turns came to

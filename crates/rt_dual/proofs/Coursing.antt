@@ -3,7 +3,8 @@ use Rattle.rt_live.proofs.Vocabulary.{Caller, Core, Entry, Event, Image, Leads, 
 use Rattle.rt_live.proofs.Vocabulary.{Row, [], account_of, account_text, ap, append_assoc, calls_in, irqs_of, lines_of}
 use Rattle.rt_live.proofs.Vocabulary.{looks, map, own_events, part, refl, request_of, subst, sym, took_on, total_text}
 use Rattle.rt_live.proofs.Vocabulary.{turn_requests, ℕ, ◌++◌, ◌∙◌, ◌≡◌}
-use Rattle.rt_dual.proofs.Vocabulary.{AccountRow, Both, HasRun, HaveRun, IsCourse, IsPairText, IsWritten, Place, Share}
+use Rattle.rt_dual.proofs.Vocabulary.{AccountRow, Both, HasRun, HaveRun, IsCourse, IsPairText, IsWritten, CorePlace}
+use Rattle.rt_dual.proofs.Vocabulary.{Share}
 use Rattle.rt_dual.proofs.Vocabulary.{Side, course_events, first_events, forward, second_events, sends_of}
 use Rattle.std.proofs.Common.{ap₂}
 use Rattle.rt_dual.specs.{Course.turns, Output.account, Output.core_text, Output.course_text, Inside.Both.front}
@@ -11,7 +12,7 @@ use Rattle.rt_live.proofs.Ended.{fresh_text}
 use Rattle.rt_dual.proofs.Beforehand.{own_calls, rows_irqs, woven}
 
 -- one of the cores, which has ended on its side
-module _ {place : Place} {made : List ℕ} {share : Share} {head : List ℕ} {row : Row} {other : Image}
+module _ {place : CorePlace} {made : List ℕ} {share : Share} {head : List ℕ} {row : Row} {other : Image}
     {script : List Line} {m n : Machine} {side : Side} (run : HasRun place made share head row other script m n side)
     (history : List Entry) where
   abbrev events : List Event

@@ -1,5 +1,6 @@
 -- Turns of which the first events were done.
-use Rattle.rt_live.proofs.Vocabulary.{AllByRecursion, Bool, Call, Caller, Done, Ended, Ends, Err, Event, FindsDeclared}
+use Rattle.rt_live.proofs.Vocabulary.{AllByRecursion, Bool, Call, Caller, Done, Ended, EndsByLine, Err, Event}
+use Rattle.rt_live.proofs.Vocabulary.{FindsDeclared}
 use Rattle.rt_live.proofs.Vocabulary.{IsDeclared, IsWholeLook, List, Machine, Names, Ok, OnOk, Option, Result, Turn, []}
 use Rattle.rt_live.proofs.Vocabulary.{all_append, ap, append-nil, append_assoc, arith, arrivals_from, false, inl, inr}
 use Rattle.rt_live.proofs.Vocabulary.{interleaving, is_ok, length, length-append, length-replicate, look_arrivals}
@@ -98,7 +99,7 @@ module _ {route : ℕ → Option ℕ} {here there : ℕ} {ts : List Turn} {calls
 
 -- whichever it was
 pub has_begun : (all : Bool) {route : ℕ → Option ℕ} {ts : List Turn} {k l : Caller} {a b : Machine} {x y : List ℕ}
-    → Ends route ts all k l a b x y → HasBegun ts a b
+    → EndsByLine route ts all k l a b x y → HasBegun ts a b
 has_begun all {route} {ts} {k} {a = a} {b = b} {x = x} {y = y} ends = by all ends.ended
   where
     by : (whole : Bool) → Ended route k.here k.there ts whole ends.calls a b x y → HasBegun ts a b
@@ -108,6 +109,6 @@ has_begun all {route} {ts} {k} {a = a} {b = b} {x = x} {y = y} ends = by all end
 
 -- by an answer
 pub if_ended : {T E P : Type 0} {route : ℕ → Option ℕ} {ts : List Turn} {k l : Caller} {a b : Machine} {x y : List ℕ}
-    (r : Result T E) → Ends route ts (is_ok r) k l a b x y → (Ends route ts true k l a b x y → P) → OnOk r P
+    (r : Result T E) → EndsByLine route ts (is_ok r) k l a b x y → (EndsByLine route ts true k l a b x y → P) → OnOk r P
 if_ended (Ok value) ended from = from ended
 if_ended (Err error) ended from = tt

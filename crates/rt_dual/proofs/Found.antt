@@ -9,7 +9,8 @@ use Rattle.rt_live.proofs.Vocabulary.{map, ne_eqb, one_if, option_to_list, own_l
 use Rattle.rt_live.proofs.Vocabulary.{request_of, reset, routed, row_of, step, step_item, steps, steps-append}
 use Rattle.rt_live.proofs.Vocabulary.{steps_weigh, subst, suc, sym, true, turn_requests, weight, weight_append}
 use Rattle.rt_live.proofs.Vocabulary.{word_in_row, ℕ, ◌*◌, ◌++◌, ◌+◌, ◌/◌, ◌==◌, ◌∷◌, ◌≡◌, ◌≢◌, ◌≤◌, ◌⊎◌}
-use Rattle.rt_dual.proofs.Vocabulary.{AccountRow, First, IsCourse, IsPairText, Place, Second, course_events, events_of}
+use Rattle.rt_dual.proofs.Vocabulary.{AccountRow, First, IsCourse, IsPairText, CorePlace, Second, course_events}
+use Rattle.rt_dual.proofs.Vocabulary.{events_of}
 use Rattle.rt_dual.proofs.Vocabulary.{first_events, forward, own_length, second_events, turns}
 use Rattle.rt_words.proofs.Found.{bits_below, counted, all_found_there, all_asked_there, found_there, few_found_there}
 use Rattle.rt_words.proofs.Found.{part_counts}
@@ -202,7 +203,7 @@ module _ (first second : Image) (script : List Line) (bytes : List ℕ) (p : IsP
       course_named second (second_events script) p.two p.is_two.declared
       (own_named Second second.names script (second_names second.names script))
 
-  module _ (img other : Image) {place far : Place} {es fs : List Event} {found seen : List (List ℕ)}
+  module _ (img other : Image) {place far : CorePlace} {es fs : List Event} {found seen : List (List ℕ)}
       (is : IsCourse place img other.names es found p.history) (beyond : IsCourse far other img.names fs seen p.history)
       (apart : place.there ≢ place.here) (both : (test : Call → Bool) → count_by test (calls_in p.history)
       ≡ count_by test (part p.history place.line) + count_by test (part p.history far.line)) where

@@ -7,7 +7,8 @@ use Rattle.rt_live.proofs.Vocabulary.{core_after, interleaving, items_of, length
 use Rattle.rt_live.proofs.Vocabulary.{look_requests, looks, map, part, part_all, refl, replicate, request_of, reset}
 use Rattle.rt_live.proofs.Vocabulary.{routed, set, step, subst, suc, sym, turn_requests, zero, zeros_at as zeros, ℕ}
 use Rattle.rt_live.proofs.Vocabulary.{ℕ_discrete, ◌++◌, ◌∙◌, ◌∷◌, ◌≡◌}
-use Rattle.rt_dual.proofs.Vocabulary.{IsCourse, IsPairText, Place, events_of, events_of-append, first_events, forward}
+use Rattle.rt_dual.proofs.Vocabulary.{IsCourse, IsPairText, CorePlace, events_of, events_of-append, first_events}
+use Rattle.rt_dual.proofs.Vocabulary.{forward}
 use Rattle.rt_dual.proofs.Vocabulary.{second_events, turns}
 use Rattle.rt_lemmas.proofs.Lists.{all_both}
 use Rattle.rt_core.specs.Trace.{happen, labels}
@@ -72,7 +73,7 @@ abbrev Empty : Entry → Type 0
 Empty e = IsEmpty (request_of e.call)
 
 -- a core of a pair that posts nothing by its own events
-module _ {place : Place} {img : Image} {other : Names} {events : List Event} {found : List (List ℕ)}
+module _ {place : CorePlace} {img : Image} {other : Names} {events : List Event} {found : List (List ℕ)}
     {history : List Entry} (is : IsCourse place img other events found history) where
   -- the calls of its line in a history of latches of 0
   empty_part : (es : List Entry) → AllByRecursion Empty es

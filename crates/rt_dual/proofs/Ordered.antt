@@ -7,7 +7,7 @@ use Rattle.rt_live.proofs.Vocabulary.{count_first, declared_irqs, eq-eqb, inl, i
 use Rattle.rt_live.proofs.Vocabulary.{map-append, ne_eqb, one_if, part, part_first, raised_count, raises, refl}
 use Rattle.rt_live.proofs.Vocabulary.{replicate, request_of, reset, subst, sum_by-cons, sym, turn_requests, ℕ}
 use Rattle.rt_live.proofs.Vocabulary.{ℕ_discrete, ◌%◌, ◌*◌, ◌++◌, ◌+◌, ◌/◌, ◌<◌, ◌==◌, ◌∙◌, ◌∷◌, ◌≡◌, ◌≢◌}
-use Rattle.rt_dual.proofs.Vocabulary.{IsCourse, IsPairText, Place, forward, turns}
+use Rattle.rt_dual.proofs.Vocabulary.{IsCourse, IsPairText, CorePlace, forward, turns}
 use Rattle.std.proofs.{Common.◌&&◌, lemmas.List.Sums.sum_by_push}
 use Rattle.rt_lemmas.proofs.Lists.{all_unmap, append_none_left}
 use Rattle.rt_live.proofs.Onward.{part_on, led_apart}
@@ -65,7 +65,7 @@ raised_in bit (Latch k word ∷ calls) some =
     (raised_in bit calls (omega (arith, some, count_first (raises bit) (Latch k word) calls)))
 
 -- what the calls of a core ask for
-module _ {place : Place} {img : Image} {other : Names} {events : List Event} {found : List (List ℕ)}
+module _ {place : CorePlace} {img : Image} {other : Names} {events : List Event} {found : List (List ℕ)}
     {history : List Entry} (is : IsCourse place img other events found history) where
   -- a call among what it asks for
   pub asked_at : (before behind : List Entry) (c : Call)

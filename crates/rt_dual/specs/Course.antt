@@ -30,17 +30,17 @@ abbrev pub turns : List Event → List Turn
 turns events = with_looks events ++ last_turns 0
 
 -- the place of a core in the row: the number that the row has for it, that of the other core, and that of its line
-pub record Place : Type 0 where
+pub record CorePlace : Type 0 where
   pub here : ℕ
   pub there : ℕ
   pub line : ℕ
 
 -- the first core's place; its line is the first line of the row
-abbrev pub first_place : Place
+abbrev pub first_place : CorePlace
 first_place = record { here = 0; there = 1; line = 255 }
 
 -- the second core's
-abbrev pub second_place : Place
+abbrev pub second_place : CorePlace
 second_place = record { here = 1; there = 0; line = 254 }
 
 -- the events that came to a core: its own, with what the looks found in front of each step and behind the last event
@@ -55,7 +55,7 @@ course_items img events found = trace img (course_events events found)
 -- with bits of declared interrupts alone. The calls of its line in this history of both cores are what its events ask
 -- for, in order and no other: look behind look its latches, which found this, and behind each step that shows a post
 -- the pend that the post leads to on the other core.
-pub record IsCourse (place : Place) (img : Image) (other : Names) (events : List Event) (found : List (List ℕ))
+pub record IsCourse (place : CorePlace) (img : Image) (other : Names) (events : List Event) (found : List (List ℕ))
     (history : List Entry) : Type 0 where
   pub bits : AllByRecursion (λ irq. irq < IRQ_NUMBERS) (declared_irqs img.names)
   pub many : length found ≡ looks (turns events)

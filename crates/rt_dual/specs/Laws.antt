@@ -12,12 +12,12 @@ use Rattle.rt_words.specs.{History.part, Row.bit_in_row, declared.call.Entry.Ent
 use Rattle.rt_live.specs.History.{IsEmptyLook}
 use Rattle.rt_live.specs.Interleaving.{Turn, Happens, looks, interleaving}
 use Rattle.rt_live.specs.Requests.{Request, request_of, turn_requests, routed}
-use Rattle.rt_dual.specs.{Course.Place, Course.first_place, Course.second_place, Course.first_events}
+use Rattle.rt_dual.specs.{Course.CorePlace, Course.first_place, Course.second_place, Course.first_events}
 use Rattle.rt_dual.specs.{Course.second_events, Course.turns, Forwarded.forward, Output.IsPairText}
 use Rattle.rt_trace.specs.declared.item.What.TheVariants as what
 
 -- each bit that a look of the core in the one place found was raised before in the history, by the core in the other
-abbrev pub LooksFindPosts : Place → Place → List Entry → Type 0
+abbrev pub LooksFindPosts : CorePlace → CorePlace → List Entry → Type 0
 LooksFindPosts near far history =
     (before behind : List Entry) (word found bit : ℕ)
     → history ≡ before ++ record { line = near.line; call = Latch word found } ∷ behind
@@ -45,7 +45,7 @@ pub record IsPosted (route : ℕ → Option ℕ) (here there : ℕ) (img : Image
 
 -- Each pend of the core in this place comes behind the looks by whose bits it was posted: what its line had called
 -- before is what the core asked for up to the post.
-abbrev pub LooksPrecedePosts : Place → Image → Names → List Event → List (List ℕ) → List Entry → Type 0
+abbrev pub LooksPrecedePosts : CorePlace → Image → Names → List Event → List (List ℕ) → List Entry → Type 0
 LooksPrecedePosts place img other events found history =
     (before behind : List Entry) (bit : ℕ) (answer : Pended)
     → history ≡ before ++ record { line = place.line; call = Pend bit answer } ∷ behind

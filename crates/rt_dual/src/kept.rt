@@ -8,13 +8,13 @@ use rt_outside::{Failed, Sink};
 /// The text of a core, which is kept in memory until both cores have ended. As a sink it fails where memory is wanted
 /// and not there.
 #[derive(Drop)]
-pub struct Kept {
+pub struct KeptText {
     pub bytes: Vec<u8>,
     /// How often memory was not there; stands still at its type's end.
     pub failed: u64,
 }
 
-impl Sink for Kept {
+impl Sink for KeptText {
     ghost taken = { λ kept. kept.bytes.items };
 
     ghost faults = { λ kept. kept.failed };

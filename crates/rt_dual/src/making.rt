@@ -2,19 +2,19 @@
 ghost use Rattle.std.specs.List.{AllByRecursion};
 ghost use Rattle.std.specs.Prelude.{IfOk, OnOk, [], ℕ, ◌<◌, ◌∷◌, ◌≡◌};
 ghost use Rattle.rt_ids.specs.declared.limits.TheConstants.{IRQ_NUMBERS};
-ghost use Rattle.rt_words.specs.{Lines.count, Lines.new_line, declared.row.TheConstants.ROW_WORDS};
+ghost use Rattle.rt_words.specs.{Lines.word_count, Lines.new_line, declared.row.TheConstants.ROW_WORDS};
 ghost use Rattle.rt_listing.specs.Numbers.{HasTypedNumbers};
 ghost use Rattle.rt_live.specs.{Account.declared_irqs, Ready.HasBits, Ready.irqs_of};
 ghost use Rattle.rt_dual.specs.{Forwarded.forward, Inside.Both.AreBefore, Inside.Both.front, Inside.Both.leads_by};
 
-use crate::kept::Kept;
-use crate::routes::{Table, table_of};
+use crate::kept::KeptText;
+use crate::routes::{RouteTable, table_of};
 use rt_code::Image;
 use rt_ids::{NoMemory, push_bytes};
 use rt_listing::listing;
 use rt_live::account::AccountRow;
 use rt_live::making::{add_bits, rows_of};
-use rt_live::{Role, Share};
+use rt_live::{CoreRole, Share};
 use rt_words::{Line, ROW_WORDS, Words};
 use std::alloc::Global;
 
@@ -24,9 +24,9 @@ pub struct Side {
     /// Its line of the words.
     pub line: Box<Line>,
     /// Which events come to it, and where its posts lead.
-    pub role: Role<Table>,
+    pub role: CoreRole<RouteTable>,
     /// Its text so far: what is written in front of its trace, and the trace.
-    pub text: Kept,
+    pub text: KeptText,
     /// The rows of its account.
     pub rows: Vec<AccountRow>,
 }
@@ -44,7 +44,7 @@ pub struct Both {
 
 /// What is written in front of the trace of a core: its own line, the listing of its image and the trace's own line.
 #[inline(never)]
-fn front_of(alloc: Global, head: &[u8], image: &Image) -> Result<Kept, NoMemory>
+fn front_of(alloc: Global, head: &[u8], image: &Image) -> Result<KeptText, NoMemory>
     ensures text { IfOk result (λ text. text.bytes.items ≡ front head.now image.now) }
     ensures numbers { IfOk result (λ _. HasTypedNumbers image.now) }
 {
@@ -53,7 +53,7 @@ fn front_of(alloc: Global, head: &[u8], image: &Image) -> Result<Kept, NoMemory>
     push_bytes(&mut bytes, head)?;
     push_bytes(&mut bytes, listed.as_slice())?;
     push_bytes(&mut bytes, b"trace\n")?;
-    Ok(Kept { bytes, failed: 0 })
+    Ok(KeptText { bytes, failed: 0 })
 }
 
 /// What is made for a core that calls the words by this line.
@@ -80,7 +80,7 @@ fn side_of(
     let text = front_of(alloc, head, image)?;
     Ok(Side {
         line,
-        role: Role { share, routes },
+        role: CoreRole { share, routes },
         text,
         rows,
     })
@@ -93,7 +93,7 @@ fn words_of(
     first: &[AccountRow],
     second: &[AccountRow],
 ) -> Result<(Words, Box<Line>), NoMemory>
-    ensures many { IfOk result (λ r. count r.0 ≡ ROW_WORDS) }
+    ensures many { IfOk result (λ r. word_count r.0 ≡ ROW_WORDS) }
     ensures may_one { IfOk result (λ r. HasBits 0 r.0.may (irqs_of first.now)) }
     ensures may_two { IfOk result (λ r. HasBits 1 r.0.may (irqs_of second.now)) }
     ensures line { IfOk result (λ r. r.1.value ≡ new_line r.0 255 0 1) }

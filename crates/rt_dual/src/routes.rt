@@ -11,12 +11,12 @@ use std::alloc::Global;
 
 /// For each interrupt number of a core the one that a post of it pends on the other core.
 #[derive(Drop)]
-pub struct Table {
+pub struct RouteTable {
     /// A place for each interrupt number, 0 to 495.
     pub places: Vec<Option<Irq>>,
 }
 
-impl Routes for Table {
+impl Routes for RouteTable {
     ghost use Rattle.rt_dual.specs.Inside.Both.{leads_by};
 
     ghost leads = { leads_by };
@@ -51,7 +51,7 @@ fn route(image: &Image, other: &Names, irq: Irq) -> Option<Irq>
 }
 
 /// Where the posts of a core with this image go on the other core, whose names are given.
-pub fn table_of(alloc: Global, image: &Image, other: &Names) -> Result<Table, NoMemory>
+pub fn table_of(alloc: Global, image: &Image, other: &Names) -> Result<RouteTable, NoMemory>
     ensures there { IfOk result (λ table. (irq : ℕ) → irq < IRQ_NUMBERS
         → slice_index_or table.places.items irq None ≡ forward image.now other.now irq) }
     ensures above { IfOk result (λ table. (irq : ℕ) → IRQ_NUMBERS ≤ irq
@@ -64,5 +64,5 @@ pub fn table_of(alloc: Global, image: &Image, other: &Names) -> Result<Table, No
         };
         places.push(route(image, other, irq))?;
     }
-    Ok(Table { places })
+    Ok(RouteTable { places })
 }

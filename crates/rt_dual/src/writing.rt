@@ -3,7 +3,7 @@ ghost use Rattle.std.specs.Prelude.{OnErr, OnOk, ◌++◌, ◌≡◌};
 ghost use Rattle.rt_outside.specs.{Bytes.Took, Bytes.TookPrefix, Faults.HasCause};
 ghost use Rattle.rt_live.specs.Account.{account_text};
 
-use crate::kept::Kept;
+use crate::kept::KeptText;
 use rt_code::Image;
 use rt_live::account::{Account, put_account};
 use rt_outside::{Failed, Sink, put_all};
@@ -12,7 +12,7 @@ use rt_outside::{Failed, Sink, put_all};
 #[inline(never)]
 pub(crate) fn put_core<K: Sink>(
     out: &mut K,
-    text: &Kept,
+    text: &KeptText,
     account: &Account,
     image: &Image,
 ) -> Result<(), Failed>

@@ -10,7 +10,7 @@ use Rattle.rt_app.specs.declared.stmt.Stmt.{Stmt}
 use Rattle.rt_ids.specs.Lists.{greatest}
 use Rattle.rt_ids.proofs.Greatest.{greatest_append}
 use Rattle.rt_app.specs.Spawned.{statement_spawns, spawns}
-use Rattle.rt_app.specs.Frame.{depth, is_loop, spawn_words}
+use Rattle.rt_app.specs.Frame.{expression_depth, is_loop, spawn_words}
 use Rattle.rt_frames.specs.declared.frame.Parts.{Parts}
 use Rattle.rt_frames.specs.Inside.Saturated.{saturated_number}
 use Rattle.rt_frames.specs.Inside.FrameParts.{both, expression_parts, statement_parts, block_parts}
@@ -64,9 +64,10 @@ locked_parts : (r : ℕ) (inner : Block) (at : ℕ) → record (block_parts inne
 locked_parts r inner at = same _ _ _ _ _ _ _ _ _ _ refl refl refl (omega arith) refl
 
 pub depths_more : (xs : List Expr) (i : ℕ) (x : Expr) → i < length xs → x ≡ get_or xs i x
-    → greatest (map depth (map expression_of (take (i + 1) xs)))
-    ≡ max (greatest (map depth (map expression_of (take i xs)))) (depth (expression_of x))
-depths_more = expressions_more (λ es. greatest (map depth es)) depth max (λ e es. refl) (λ a b c. omega arith)
+    → greatest (map expression_depth (map expression_of (take (i + 1) xs)))
+    ≡ max (greatest (map expression_depth (map expression_of (take i xs)))) (expression_depth (expression_of x))
+depths_more = expressions_more (λ es. greatest (map expression_depth es)) expression_depth max (λ e es. refl)
+    (λ a b c. omega arith)
     (λ e. omega arith)
 
 pub branch_gives : (s : Statement) (e : Expression) (a b : Block) (x p q r all : Parts) → s ≡ Branch e a b → x

@@ -53,7 +53,7 @@ fn both(first: Parts, second: Parts) -> Parts
 
 /// The depth of an expression, up to the greatest number of 32 bits.
 fn depth(expr: &Expr) -> u32
-    ensures { result ≡ saturated_number (frame.depth (expression_of expr.now)) }
+    ensures { result ≡ saturated_number (frame.expression_depth (expression_of expr.now)) }
 {
     match expr {
         Expr::Num(_number) => 1,
@@ -64,7 +64,7 @@ fn depth(expr: &Expr) -> u32
 
 /// The greatest depth of expressions, and 0 where there is none.
 fn greatest_depth(exprs: &[Expr]) -> u32
-    ensures { result ≡ saturated_number (greatest (map frame.depth (map expression_of exprs.now))) }
+    ensures { result ≡ saturated_number (greatest (map frame.expression_depth (map expression_of exprs.now))) }
 {
     let mut most: u32 = 0;
     for expr in exprs {

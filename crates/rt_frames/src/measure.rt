@@ -181,7 +181,7 @@ impl Measure {
 
     /// The turns of a loop from a number up to another, as they are counted.
     fn turns(&self, first: u32, last: u32) -> u32
-        ensures { result ≡ cost.turns self.now first last }
+        ensures { result ≡ cost.counted_turns self.now first last }
     {
         if self.is_size {
             1
@@ -192,7 +192,7 @@ impl Measure {
 
     /// Of a loop from a number up to another, whose turn has a block of this sum.
     fn repeat(&self, first: u32, last: u32, turn: u32) -> u32
-        ensures { result ≡ cost.capped_cost (LOOP_COST + cost.turns self.now first last * (turn + TURN_COST)) }
+        ensures { result ≡ cost.capped_cost (LOOP_COST + cost.counted_turns self.now first last * (turn + TURN_COST)) }
     {
         let one = turn.saturating_add(TURN_COST);
         let all = self.turns(first, last).saturating_mul(one);

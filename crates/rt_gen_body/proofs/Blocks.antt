@@ -1,7 +1,8 @@
 -- The code of every block stands, with that of sections round blocks: it does what the block means, within its steps.
 use Rattle.rt_gen_queue.proofs.Vocabulary.{AllByRecursion, App, Assign, BODY_COST, Bind, Block, Branch, Calc, Call}
 use Rattle.rt_gen_queue.proofs.Vocabulary.{Contains, Emit, Empty, Guarded, HasCodeAt, OpenSection, HoldsOff, IsKindFor}
-use Rattle.rt_gen_queue.proofs.Vocabulary.{IsSoundLock, Kind, Leaves, Line, List, Locked, Now, Pend, Repeat, Spawns}
+use Rattle.rt_gen_queue.proofs.Vocabulary.{IsSoundLock, SectionKind, Leaves, Line, List, Locked, Now, Pend, Repeat}
+use Rattle.rt_gen_queue.proofs.Vocabulary.{Spawns}
 use Rattle.rt_gen_queue.proofs.Vocabulary.{Statement, Then, Values, [], accepted_are_sound, act, all_append, all_has}
 use Rattle.rt_gen_queue.proofs.Vocabulary.{all_weaker, ap, arith, block_steps, cap_steps, contains_cases}
 use Rattle.rt_gen_queue.proofs.Vocabulary.{contains_there, cost_measure, false_from_ne_true, guard_of, has_loop, inl}
@@ -18,7 +19,7 @@ use Rattle.rt_lemmas.proofs.Membership.{contained_any}
 use Rattle.rt_ids.specs.declared.ids.Section.TheVariants as section
 use Rattle.rt_app.proofs.Members.{in_back, in_front}
 use Rattle.rt_app.specs.{Frame.is_loop, Sound.IsSoundBlock, Sound.IsSoundStatement, Spawned.statement_spawns}
-use Rattle.rt_app.specs.Accepted.{IsBlockPlaced, IsStatementPlaced, behind}
+use Rattle.rt_app.specs.Accepted.{IsBlockPlaced, IsStatementPlaced, visible_after}
 use Rattle.rt_app.specs.Cost.{block_cost, capped_cost, lock_cost}
 use Rattle.rt_gen_queue.proofs.{Entering.kind_fits, Masks.of_kinds, Masks.saved_beside, Owning.reads_inside}
 use Rattle.rt_gen_queue.proofs.{Placing.code_behind, Placing.code_front}
@@ -60,7 +61,7 @@ in_lock b p r = record p {
 
 module _ (b : Body) (p : Scope) (r offset : ℕ) (inner : Block) (sound : IsSoundLock b.z.app b.m p.locked r)
     (fits : Fits b p (needs b.z.app (Locked r inner offset))) where
-  abbrev kind : Kind
+  abbrev kind : SectionKind
   kind = kind_of (guard_at b.c r) p.threshold p.lock
 
   abbrev open_now : OpenSection
@@ -180,12 +181,12 @@ module _ (b : Body) (p : Scope) (r offset : ℕ) (inner : Block) (sound : IsSoun
 
 -- after a statement all is in scope that was, and what is new is the next variable
 behind_more : (app : App) (listed : List ℕ) (n : ℕ) (visible : List ℕ) (s : Statement) (y : ℕ) → Contains visible y
-    → Contains (behind app listed n visible s) y
+    → Contains (visible_after app listed n visible s) y
 behind_more app listed n visible (Bind x v) y here = contains_there n visible y here
 behind_more app listed n visible s y here = here
 
 behind_below : (app : App) (listed : List ℕ) (n : ℕ) (visible : List ℕ) (s : Statement)
-    → ((y : ℕ) → Contains visible y → y < n) → (y : ℕ) → Contains (behind app listed n visible s) y
+    → ((y : ℕ) → Contains visible y → y < n) → (y : ℕ) → Contains (visible_after app listed n visible s) y
     → y < n + variables_in s
 behind_below app listed n visible (Bind x v) below y here =
     elim (contains_cases n visible y here) [ inl e ↦ omega arith | inr old ↦ omega (arith, below y old) ]
@@ -226,7 +227,7 @@ module _ (b : Body) where
     pub statement_stands : (s : Statement) (p : Scope) → Fits b p (needs b.z.app s)
         → IsSoundStatement b.z.app b.m p.count p.locked p.fixed s
         → IsStatementPlaced b.z.app (listed_by b.m) p.count p.visible s
-        → Performs b p (behind b.z.app (listed_by b.m) p.count p.visible s)
+        → Performs b p (visible_after b.z.app (listed_by b.m) p.count p.visible s)
         (λ at. statement_code b.c p.threshold p.lock at s) (statement_steps (cost_measure b.z.app) s) (run b.z.app s)
     statement_stands (Bind x (Calc e)) p fits sound placed =
         sets_variable e (record { deep = fits.depth; reached = sound.1; meant = placed.1 })
@@ -288,7 +289,7 @@ module _ (b : Body) where
     }
     block_stands (Then s rest) p fits sound placed =
         let more : ℕ = block_steps (cost_measure b.z.app) rest in
-        let visible : List ℕ = behind b.z.app (listed_by b.m) p.count p.visible s in
+        let visible : List ℕ = visible_after b.z.app (listed_by b.m) p.count p.visible s in
         let one = statement_stands s p
         (part_fits fits (omega arith) (omega arith, omega arith) (omega arith) (or_left (is_loop s) (has_loop rest))
         (in_front (statement_spawns s) (spawns rest))) sound.0 placed.0 in

@@ -28,7 +28,7 @@ use Rattle.rt_gen_body.specs.BlockCode.{block_code, branch_code, guard_at, lock_
 use Rattle.rt_gen_body.specs.SimpleCode.{goes_code, is_timed, send_code, values_code, values_of}
 use Rattle.rt_gen_body.specs.ValueCode.{Context, arguments_code, expression_code, load, next_slot, store}
 use Rattle.rt_gen_body.specs.ValueCode.{value_code}
-use Rattle.rt_gen_body.specs.BodyCode.{blocks_of, code_of, context_of, threshold_of}
+use Rattle.rt_gen_body.specs.BodyCode.{body_blocks, code_of, context_of, threshold_of}
 
 -- of a line with a note that it is no `emit`; of one without, nothing where it is none; and the rest
 abbrev Needs : Option Note → Instr → Type 0 → Type 0
@@ -314,6 +314,6 @@ module _ (app : App) (id : BodyId) (entry : ℕ) where
   pub code_emits : (o : Option Member) → HasNoVariables o → HasEmits (emitted_of o) (code_of app id o entry)
   code_emits None none = end_nothing
   code_emits (Some m) none =
-      emits_before (emitted m.body.block) (blocks_of app (Some m) entry) (end_line app id entry ∷ [])
+      emits_before (emitted m.body.block) (body_blocks app (Some m) entry) (end_line app id entry ∷ [])
       (block_emits (context_of app m) (omega (arith, none)) m.body.block (threshold_of app m)
       (first_lock_slot m.args m.body) entry (omega (arith, none))) end_nothing

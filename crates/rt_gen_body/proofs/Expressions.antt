@@ -11,7 +11,7 @@ use Rattle.rt_gen_queue.proofs.Vocabulary.{run, slice_get, slice_index, slice_se
 use Rattle.rt_gen_queue.proofs.Vocabulary.{value_in, ℕ, ◌++◌, ◌+◌, ◌<◌, ◌==◌, ◌∙◌, ◌∷◌, ◌≡◌, ◌≢◌, ◌≤◌, ◌⊎◌}
 use Rattle.std.proofs.lemmas.Grind.{get_or-set_at}
 use Rattle.rt_ids.specs.declared.ids.Section.TheVariants as section
-use Rattle.rt_app.specs.{Accepted.AreMeant, Accepted.IsMeant, Frame.depth, Meaning.Later, Sound.AreReached}
+use Rattle.rt_app.specs.{Accepted.AreMeant, Accepted.IsMeant, Frame.expression_depth, Meaning.Later, Sound.AreReached}
 use Rattle.rt_app.specs.{Sound.IsReached, declared.expr.Atom.Atom}
 use Rattle.rt_app.specs.declared.expr.Atom.TheVariants as atom
 use Rattle.rt_code.specs.declared.instr.Instr.TheVariants as instr
@@ -50,7 +50,7 @@ pub record Target (b : Body) (p : Scope) (slot free : ℕ) : Type 0 where
   pub low : b.c.expressions ≤ slot
   pub floor : b.c.expressions ≤ free
 
-pub one_deep : (e : Expression) → 1 ≤ depth e
+pub one_deep : (e : Expression) → 1 ≤ expression_depth e
 one_deep (Num n) = omega arith
 one_deep (Read x at) = omega arith
 one_deep (Oper o left right) = omega arith
@@ -74,7 +74,7 @@ left_kept {slot = slot} {free = free} t order inside next is = elim t.target [
 
 -- an expression that may be evaluated here
 pub record Sound (b : Body) (p : Scope) (e : Expression) : Type 0 where
-  pub deep : b.c.expressions + depth e ≤ b.top
+  pub deep : b.c.expressions + expression_depth e ≤ b.top
   pub reached : AreReached b.z.app b.m p.locked e
   pub meant : AreMeant b.z.app (listed_by b.m) p.visible e
 
@@ -122,7 +122,7 @@ module _ {b : Body} {p : Scope} {h : Here} {vars : List ℕ} {vs : Values} where
       (on (suc h.done) (suc h.at) (slice_set h.slots slot value) (omega arith) (omega arith) (evaluated_at there))
 
 pub evaluates : {b : Body} {p : Scope} (e : Expression) {h : Here} {vars : List ℕ} {vs : Values} {slot free : ℕ}
-    → Target b p slot free → free + depth e ≤ suc b.top → AreReached b.z.app b.m p.locked e
+    → Target b p slot free → free + expression_depth e ≤ suc b.top → AreReached b.z.app b.m p.locked e
     → AreMeant b.z.app (listed_by b.m) p.visible e
     → IsAboutToRun b p h (expression_code b.c e slot free) (expression_steps e) vars vs
     → Follows b h (expression_steps e) (length (expression_code b.c e slot free)) slot free (value_in vars vs e)

@@ -26,7 +26,7 @@ use Rattle.rt_gen_body.specs.Bodies.{BodyStands, DeclaredStands, IsBodyOf}
 use Rattle.rt_gen_body.specs.{Inside.Generating.slots_code, ValueCode.Context}
 use Rattle.rt_gen_body.specs.BlockCode.{block_code, branch_code, statement_code, two_code}
 use Rattle.rt_gen_body.specs.Inside.Choices.{EndsWith, first_code}
-use Rattle.rt_gen_body.specs.BodyCode.{blocks_of, code_of, guards_of}
+use Rattle.rt_gen_body.specs.BodyCode.{body_blocks, code_of, guards_of}
 
 -- the address after lines
 pub behind_at : (n : ℕ) (xs ys : List Line) → n + length (xs ++ ys) ≡ n + length xs + length ys
@@ -123,11 +123,11 @@ task_limits app accepted n t at = all_at KeepsTaskLimits (app_of app).tasks n (t
 pub task_code : (app : code.App) (guards : List Guard) (id : BodyId) {n : ℕ} (t : row.Task) (at : ℕ)
     → guards ≡ guards_of (app_of app) → id ≡ body.Task n → slice_get (app_of app).tasks n ≡ Some (task_of t)
     → slots_code (app_of app) guards t.args t.priority (body_of t.body) at
-    ≡ blocks_of (app_of app) (member_at (app_of app) id) at
+    ≡ body_blocks (app_of app) (member_at (app_of app) id) at
 task_code app guards id t at guarded is there = rw (guarded, is, there) refl
 
 pub no_task : (app : code.App) (id : BodyId) (n : ℕ) (at : ℕ) → id ≡ body.Task n
-    → slice_get (app_of app).tasks n ≡ None → blocks_of (app_of app) (member_at (app_of app) id) at ≡ []
+    → slice_get (app_of app).tasks n ≡ None → body_blocks (app_of app) (member_at (app_of app) id) at ≡ []
 no_task app id n at named absent = rw (named, absent) refl
 
 -- the same of a task that is found by its number, and of none

@@ -28,7 +28,7 @@ use Rattle.rt_gen_body.proofs.{Blocks.block_stands, Storing.facts_for}
 use Rattle.rt_gen_body.proofs.Owning.{AllRepresented, all_agreed, known_of, represented}
 use Rattle.rt_gen_body.proofs.Scopes.{Body, Facts, Scope, State, then_at}
 use Rattle.rt_gen_body.specs.{Bodies.BodyStands, Form.end_line, BlockCode.block_code}
-use Rattle.rt_gen_body.specs.BodyCode.{blocks_of, code_of, context_of, threshold_of}
+use Rattle.rt_gen_body.specs.BodyCode.{body_blocks, code_of, context_of, threshold_of}
 
 -- a cost that is short is the steps and the end
 pub cost_is : (app : App) (b : AppBody) → block_steps (cost_measure app) b.block + 1 ≤ BODY_COST
@@ -263,11 +263,11 @@ record OfThread (z : Setting) (id : BodyId) (o : Option AppBody) (entry : ℕ) :
   runs : z.who ≡ runner_if (is_init id) 0
   is : member_at z.app id ≡ option_map (of_thread id) o
   room : thread_frame o ≤ thread_words z.app
-  has : HasCodeAt z.code entry (blocks_of z.app (option_map (of_thread id) o) entry)
+  has : HasCodeAt z.code entry (body_blocks z.app (option_map (of_thread id) o) entry)
 
 -- such a body stands: of one that is not there is the end alone
 thread_stands : (z : Setting) (id : BodyId) (o : Option AppBody) (entry : ℕ) → OfThread z id o entry
-    → Ending (alone z) (entry + length (blocks_of z.app (option_map (of_thread id) o) entry)) (Ends id)
+    → Ending (alone z) (entry + length (body_blocks z.app (option_map (of_thread id) o) entry)) (Ends id)
     → Whole z (thread_words z.app) entry (cost_of (cost_measure z.app) o)
     (declared_doing z.app o [] (act (Ends id) nothing))
 thread_stands z id None entry w ending = λ slots cells queues vs long all taken.
@@ -290,8 +290,8 @@ thread_stands z id (Some b) entry w ending =
 
 -- the code of a body, declared or not: its blocks, and its last line after them
 pub record BodyThere (app : App) (id : BodyId) (o : Option Member) (code : List Line) (entry : ℕ) : Type 0 where
-  pub blocks : HasCodeAt code entry (blocks_of app o entry)
-  pub last : slice_get code (entry + length (blocks_of app o entry)) ≡ Some (end_line app id entry)
+  pub blocks : HasCodeAt code entry (body_blocks app o entry)
+  pub last : slice_get code (entry + length (body_blocks app o entry)) ≡ Some (end_line app id entry)
 
 -- after other code, and with more after it
 pub body_between : (app : App) (id : BodyId) (o : Option Member) (front more : List Line)
@@ -302,8 +302,8 @@ body_between app id o front more =
     let has : HasCodeAt ((front ++ code_of app id o entry) ++ more) entry (code_of app id o entry) =
     rw append_assoc (code_there front (code_of app id o entry) more) in
     record {
-      blocks = code_front _ entry (blocks_of app o entry) end has;
-      last = (code_behind _ entry (entry + length (blocks_of app o entry)) (blocks_of app o entry) end refl has).0;
+      blocks = code_front _ entry (body_blocks app o entry) end has;
+      last = (code_behind _ entry (entry + length (body_blocks app o entry)) (body_blocks app o entry) end refl has).0;
     }
 
 module _ {app : App} (accepted : IsAccepted app) (sound : IsSound app) where
@@ -318,13 +318,13 @@ module _ {app : App} (accepted : IsAccepted app) (sound : IsSound app) where
       let m : Option Member = member_at app body.Init in
       let entry : ℕ = length front in
       let lines : List Line = code_of app body.Init m entry in
-      let at : ℕ = entry + length (blocks_of app m entry) in
+      let at : ℕ = entry + length (body_blocks app m entry) in
       let there = body_between app body.Init m front more in
       let size : suc at ≡ length (front ++ lines) =
       omega (
         arith,
         length-append front lines,
-        length-append (blocks_of app m entry) (end_line app body.Init entry ∷ []),
+        length-append (body_blocks app m entry) (end_line app body.Init entry ∷ []),
       ) in
       let z : Setting = runs Starting (length (front ++ lines)) ((front ++ lines) ++ more) bodies None in
       thread_stands z body.Init app.init entry
@@ -346,7 +346,7 @@ module _ {app : App} (accepted : IsAccepted app) (sound : IsSound app) where
   idle_stands front more bodies =
       let m : Option Member = member_at app body.Idle in
       let entry : ℕ = length front in
-      let at : ℕ = entry + length (blocks_of app m entry) in
+      let at : ℕ = entry + length (body_blocks app m entry) in
       let there = body_between app body.Idle m front more in
       let z : Setting = runs (AtPriority 0) entry ((front ++ code_of app body.Idle m entry) ++ more) bodies None in
       thread_stands z body.Idle app.idle entry
@@ -377,7 +377,7 @@ module _ {app : App} (accepted : IsAccepted app) (sound : IsSound app) where
     }
 
     last_is : (called : Bool) → is_software t ≡ called
-        → slice_get code (entry + length (blocks_of app (Some (of_task n t)) entry))
+        → slice_get code (entry + length (body_blocks app (Some (of_task n t)) entry))
         ≡ Some (if called then line_with_note instr.Back (note.End (body.Task n)) else plain instr.Ret)
     last_is called kind = there.last ∙ rw (is, kind) refl
 

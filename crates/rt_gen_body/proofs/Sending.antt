@@ -10,7 +10,7 @@ use Rattle.rt_gen_queue.proofs.Vocabulary.{spawn_actions, spawn_code, spawn_word
 use Rattle.rt_gen_queue.proofs.Vocabulary.{suc, sym, take, true, value_in, ℕ, ◌&&◌, ◌*◌, ◌+◌, ◌-◌, ◌<◌, ◌∙◌, ◌∷◌, ◌≡◌}
 use Rattle.rt_gen_queue.proofs.Vocabulary.{◌≤◌}
 use Rattle.rt_ids.specs.declared.ids.Section.TheVariants as section
-use Rattle.rt_app.specs.{Accepted.AreMeant, Accepted.IsSpawnPlaced, BodyCost.timer_section_cost, Frame.depth}
+use Rattle.rt_app.specs.{Accepted.AreMeant, Accepted.IsSpawnPlaced, BodyCost.timer_section_cost, Frame.expression_depth}
 use Rattle.rt_app.specs.{Frame.spawn_depth, Steps.expressions_steps, Steps.spawn_steps}
 use Rattle.rt_app.specs.Sound.{AreReached, IsSoundSpawn, SpawnsTask}
 use Rattle.rt_app.specs.declared.costs.TheConstants.{HANDLE_MESSAGE_COST, MESSAGE_COST, SPAWN_COST, TIMER_QUEUE_WORDS}
@@ -275,7 +275,7 @@ goes_on {b = b} {p = p} {h = h} {vars = vars} {vs = vs} (Move word delay task ha
     }) (left q rest begins on))
 
 module _ (b : Body) (p : Scope) where
-  all_sound : (es : List Expression) → b.c.expressions + greatest (map depth es) ≤ b.top
+  all_sound : (es : List Expression) → b.c.expressions + greatest (map expression_depth es) ≤ b.top
       → AllByRecursion (AreReached b.z.app b.m p.locked) es
       → AllByRecursion (AreMeant b.z.app (listed_by b.m) p.visible) es → AllByRecursion (Sound b p) es
   all_sound [] deep reached meant = tt

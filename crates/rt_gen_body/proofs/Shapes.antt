@@ -22,7 +22,7 @@ use Rattle.rt_ids.specs.declared.ids.Section.TheVariants as section
 use Rattle.rt_app.proofs.Members.{made_of}
 use Rattle.rt_app.specs.{Bodies.body_at, BodyCost.cost_of, BodyCost.size_measure, Steps.expressions_steps}
 use Rattle.rt_app.specs.{Steps.spawn_steps, declared.costs.TheConstants.SPAWN_COST, declared.expr.Atom.Atom}
-use Rattle.rt_app.specs.Accepted.{IsBlockPlaced, IsStatementPlaced, behind}
+use Rattle.rt_app.specs.Accepted.{IsBlockPlaced, IsStatementPlaced, visible_after}
 use Rattle.rt_app.specs.declared.expr.Atom.TheVariants as atom
 use Rattle.rt_code.specs.Listable.{HasSection}
 use Rattle.rt_code.specs.declared.instr.Instr.TheVariants as instr
@@ -37,7 +37,7 @@ use Rattle.rt_gen_body.specs.BlockCode.{block_code, branch_code, guard_at, lock_
 use Rattle.rt_gen_body.specs.SimpleCode.{goes_code, is_timed, send_code, values_code, values_of}
 use Rattle.rt_gen_body.specs.ValueCode.{Context, arguments_code, expression_code, load, next_slot, store}
 use Rattle.rt_gen_body.specs.ValueCode.{value_code}
-use Rattle.rt_gen_body.specs.BodyCode.{blocks_of, code_of, context_of, threshold_of}
+use Rattle.rt_gen_body.specs.BodyCode.{body_blocks, code_of, context_of, threshold_of}
 use Rattle.rt_gen_timer.proofs.Generated.{after_claimed, after_short, cancel_claimed, move_claimed, timer_named}
 use Rattle.rt_gen_timer.specs.TimerCode.{queue_of}
 
@@ -221,7 +221,8 @@ module _ {app : App} (m : Member) (accepted : IsAccepted app) where
     block_fine (Then s rest) w threshold lock at placed =
         both (statement_fine s w threshold lock at placed.0)
         (block_fine rest
-        (record w { count = w.count + variables_in s; visible = behind app w.listed w.count w.visible s }) threshold
+        (record w { count = w.count + variables_in s; visible = visible_after app w.listed w.count w.visible s })
+        threshold
         lock
         (at + length (statement_code c threshold lock at s)) placed.1)
 
@@ -316,12 +317,12 @@ block_fixed app c threshold lock at (Then other rest) {lines = lines} known is =
 
 module _ (app : App) where
   blocks_fixed : (member : Option Member) (at : ℕ) (lines : List Line) → fixed_body app member ≡ Some lines
-      → blocks_of app member at ≡ lines
+      → body_blocks app member at ≡ lines
   blocks_fixed None at lines is = same_Some [] lines is
   blocks_fixed (Some m) at lines is = go (m.args == 0) refl is
     where
       go : (b : Bool) → (m.args == 0) ≡ b → (if b then fixed_block app m.body.block else None) ≡ Some lines
-          → blocks_of app (Some m) at ≡ lines
+          → body_blocks app (Some m) at ≡ lines
       go true none fixed =
           let args : m.args ≡ 0 = eqb-true m.args 0 none in
           let both =
@@ -333,7 +334,7 @@ module _ (app : App) where
   -- the code of each body
   pub code_formed : (id : BodyId) (entry : ℕ) → HasForm app id entry (code_of app id (member_at app id) entry)
   code_formed id entry = record {
-    ends = (blocks_of app (member_at app id) entry, refl);
+    ends = (body_blocks app (member_at app id) entry, refl);
     emits = code_emits app id entry (member_at app id);
     fixed = λ front is. ap (λ (lines : List Line). lines ++ end_line app id entry ∷ [])
         (blocks_fixed (member_at app id) entry front is);

@@ -33,14 +33,14 @@ abbrev pub threshold_of : App → Member → ℕ
 threshold_of app m = if is_init m.id then 2 ^ app.bits else m.priority
 
 -- a body that is not declared has no blocks, and its end alone
-abbrev pub blocks_of : App → Option Member → ℕ → List Line
-blocks_of app None entry = []
-blocks_of app (Some m) entry =
+abbrev pub body_blocks : App → Option Member → ℕ → List Line
+body_blocks app None entry = []
+body_blocks app (Some m) entry =
     block_code (context_of app m) (threshold_of app m) (first_lock_slot m.args m.body) entry m.body.block
 
 -- the code of a body: its blocks, and then the line that ends it
 abbrev pub code_of : App → BodyId → Option Member → ℕ → List Line
-code_of app id member entry = blocks_of app member entry ++ end_line app id entry ∷ []
+code_of app id member entry = body_blocks app member entry ++ end_line app id entry ∷ []
 
 -- the code of the body that the application declares there
 abbrev pub body_code : App → BodyId → ℕ → List Line

@@ -16,7 +16,7 @@ ghost use Rattle.rt_gen_queue.specs.Line.{IsNameable};
 ghost use Rattle.rt_gen_queue.specs.Guards.{guard_of_ceiling};
 ghost use Rattle.rt_gen_body.specs.Bodies.{IsBodyOf, BodyStands};
 ghost use Rattle.rt_gen_body.specs.Form.{end_line, HasForm};
-ghost use Rattle.rt_gen_body.specs.BodyCode.{guards_of, blocks_of, body_code};
+ghost use Rattle.rt_gen_body.specs.BodyCode.{guards_of, body_blocks, body_code};
 ghost use Rattle.rt_gen_queue.specs.Making.{next_address, Appends};
 ghost use Rattle.rt_gen_body.specs.Inside.Generating.{slots_code};
 
@@ -46,7 +46,7 @@ fn guards(alloc: Global, bits: u8, ceilings: &[u8]) -> Result<Vec<Guard>, NoMemo
 /// What all bodies are generated with: the plan, the messages that may be armed, and how the sections of each resource
 /// mask.
 #[derive(Clone, Copy)]
-struct Source<'a> {
+struct BodyContext<'a> {
     plan: &'a Plan<'a>,
     rows: &'a ArmedRows<'a>,
     guards: &'a [Guard],
@@ -63,7 +63,7 @@ fn all_priorities(bits: u8) -> u8
 /// The lines of a body's blocks, which runs at a preemption threshold and with so many arguments.
 fn blocks(
     alloc: Global,
-    source: &Source<'_>,
+    source: &BodyContext<'_>,
     threshold: u8,
     args: u8,
     body: &Body,
@@ -107,10 +107,10 @@ fn append_blocks(
     requires rows { rows.now ≡ plan.now.app.now }
     requires guards { guards.now ≡ guards_of (app_of plan.now.app.now) }
     ensures { OnOk result (Appends lines.old lines.new
-        (blocks_of (app_of plan.now.app.now) (member_at (app_of plan.now.app.now) id) (next_address lines.old))) }
+        (body_blocks (app_of plan.now.app.now) (member_at (app_of plan.now.app.now) id) (next_address lines.old))) }
 {
     let app = plan.app;
-    let source = Source { plan, rows, guards };
+    let source = BodyContext { plan, rows, guards };
     match id {
         BodyId::Init => match &app.init {
             Some(body) => blocks(alloc, &source, all_priorities(app.bits), 0, body, lines),

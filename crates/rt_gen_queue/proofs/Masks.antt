@@ -1,5 +1,6 @@
 -- What the guard of a section masks, at any preemption threshold, and what its lines write and name.
-use Rattle.rt_gen_queue.proofs.Vocabulary.{AllByRecursion, Bool, IsMask, IsNameable, Kind, List, Marked, Masked, Names}
+use Rattle.rt_gen_queue.proofs.Vocabulary.{AllByRecursion, Bool, IsMask, IsNameable, SectionKind, List, Marked, Masked}
+use Rattle.rt_gen_queue.proofs.Vocabulary.{Names}
 use Rattle.rt_gen_queue.proofs.Vocabulary.{Raised, Runner, Section, Storage, arith, closing_instr, enter_line, false}
 use Rattle.rt_gen_queue.proofs.Vocabulary.{get_or-set_other, if◌then◌else◌, kind_of, leave_line, length, length-set}
 use Rattle.rt_gen_queue.proofs.Vocabulary.{nat_le, nat_tests, opening_instr, refl, saved_slot, slots_with_mask}
@@ -9,11 +10,12 @@ use Rattle.rt_code.specs.Listable.{HasInstr, HasSection}
 use Rattle.rt_gen_queue.specs.declared.guard.Guard.{Guard}
 
 -- by whether the threshold is there already, and whether the ceiling's value is 0
-abbrev kind_by : Bool → Bool → ℕ → Kind
+abbrev kind_by : Bool → Bool → ℕ → SectionKind
 kind_by low all slot = if low then Marked else if all then Masked slot else Raised slot
 
 -- what holds of each kind of section
-pub of_kinds : (g : Guard) (threshold : ℕ) (P : (ℕ → Kind) → Type 0) → P (λ slot. Marked) → P (λ slot. Masked slot)
+pub of_kinds : (g : Guard) (threshold : ℕ) (P : (ℕ → SectionKind) → Type 0) → P (λ slot. Marked)
+    → P (λ slot. Masked slot)
     → P (λ slot. Raised slot) → P (λ slot. kind_of g threshold slot)
 of_kinds g threshold P low all some = go (nat_le g.ceiling threshold) (g.value == 0)
   where

@@ -91,7 +91,8 @@ pub use Rattle.rt_code.specs.{
 pub use Rattle.rt_code.specs.{declared.image.BodyRow.BodyRow, declared.instr.Instr.Instr, declared.instr.Note.Note}
 pub use Rattle.rt_code.specs.Masking.{IsKindFor, IsMask, IsWithin, NobodyKeeps, TakesOver, closing_instr, opening_instr}
 pub use Rattle.rt_code.specs.Masking.{slots_with_mask}
-pub use Rattle.rt_code.specs.Owning.{Agree, OpenSection, Kind, LeavesMine, Marked, Masked, MayAccess, MayLoad, MayStore}
+pub use Rattle.rt_code.specs.Owning.{Agree, OpenSection, SectionKind, LeavesMine, Marked, Masked, MayAccess, MayLoad}
+pub use Rattle.rt_code.specs.Owning.{MayStore}
 pub use Rattle.rt_code.specs.Owning.{Raised, Configuration, is_open, mine, owns, reads, saved_slot, saved_slots}
 pub use Rattle.rt_code.specs.Standing.{Asks, Goes, KeepsSaved, LineFits, Stands, StandsFrom, spend_step}
 pub use Rattle.rt_code.specs.Standing.{processor_of}

@@ -7,7 +7,7 @@ use Rattle.rt_ids.specs.declared.ids.Section.{Section}
 use Rattle.rt_app.specs.Tree.{App}
 use Rattle.rt_app.specs.Ceiling.{ceiling}
 use Rattle.rt_code.specs.Masking.{opening_instr, closing_instr}
-use Rattle.rt_code.specs.Owning.{Kind, Marked, Raised, Masked}
+use Rattle.rt_code.specs.Owning.{SectionKind, Marked, Raised, Masked}
 use Rattle.rt_code.specs.declared.instr.Note.TheVariants as note
 use Rattle.rt_gen_queue.specs.Line.{Line, line_with_note}
 use Rattle.rt_gen_queue.specs.declared.guard.Guard.{Guard}
@@ -17,7 +17,7 @@ abbrev pub guard_of_ceiling : ℕ → ℕ → Guard
 guard_of_ceiling bits top = record { ceiling = top; value = hardware bits top }
 
 -- the kind of a section at a preemption threshold, with a slot for what the mask was
-abbrev pub kind_of : Guard → ℕ → ℕ → Kind
+abbrev pub kind_of : Guard → ℕ → ℕ → SectionKind
 kind_of g threshold slot =
     if nat_le g.ceiling threshold then Marked else if g.value == 0 then Masked slot else Raised slot
 
@@ -39,7 +39,7 @@ module _ (app : App) where
   guard_of x = guard_of_ceiling app.bits (ceiling app x)
 
   -- the kind of a section of the application at a preemption threshold, with a slot for what the mask was
-  abbrev pub kind_at : Section → ℕ → ℕ → Kind
+  abbrev pub kind_at : Section → ℕ → ℕ → SectionKind
   kind_at x threshold slot = kind_of (guard_of x) threshold slot
 
   -- the line that opens a section of the application at a preemption threshold

@@ -14,19 +14,19 @@ use rt_ids::{NoMemory, TaskId};
 
 /// A call that goes to the timer queue, with the software task of its message.
 #[derive(Clone, Copy)]
-pub(crate) enum Call {
+pub(crate) enum TimerCall {
     After(TaskId),
     Cancel(TaskId),
     Move(TaskId),
 }
 
-impl Call {
+impl TimerCall {
     /// The task.
     pub(crate) fn task(&self) -> TaskId
-        ensures { result ≡ spec.task_of self.now }
+        ensures { result ≡ spec.message_task self.now }
     {
         match self {
-            Call::After(task) | Call::Cancel(task) | Call::Move(task) => *task,
+            TimerCall::After(task) | TimerCall::Cancel(task) | TimerCall::Move(task) => *task,
         }
     }
 }
@@ -35,7 +35,7 @@ impl Call {
 pub(crate) fn push_call(
     emitter: &Emitter,
     armed: &ArmedTask,
-    call: &Call,
+    call: &TimerCall,
     threshold: u8,
     at: u32,
     lines: &mut Lines,
@@ -51,8 +51,8 @@ pub(crate) fn push_call(
         (spec.lines_of call.now emitter.now.queue emitter.now.slot threshold armed.now at)) }
 {
     match call {
-        Call::After(_) => emitter.push_after(armed, threshold, at, lines),
-        Call::Cancel(_) => emitter.push_cancel(armed, threshold, at, lines),
-        Call::Move(_) => emitter.push_move(armed, threshold, at, lines),
+        TimerCall::After(_) => emitter.push_after(armed, threshold, at, lines),
+        TimerCall::Cancel(_) => emitter.push_cancel(armed, threshold, at, lines),
+        TimerCall::Move(_) => emitter.push_move(armed, threshold, at, lines),
     }
 }

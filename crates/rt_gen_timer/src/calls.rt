@@ -13,7 +13,7 @@ use crate::section::{ALARM, TIME};
 use crate::slots::{
     ANSWER, ARGUMENTS, COUNT, HAND, HOLE, INSTANT, NUMBER, ONE, OTHER, PLACE, RIGHT, TWO,
 };
-use crate::template::{Column, Part, Template};
+use crate::template::{Column, QueuePart, Template};
 use rt_code::{Instr, Note};
 use rt_gen_queue::Lines;
 use rt_ids::{NoMemory, Op};
@@ -88,15 +88,15 @@ impl Emitter {
         let note = Note::Arm(armed.target.task, self.slot + INSTANT);
         self.push(
             &[
-                Part::Enter(threshold),
-                Part::Code(&TIME, at + 1),
-                Part::Code(&NEXT, at),
-                Part::Code(&[Template::Set(HAND, offset)], at),
-                Part::Code(&ROW, at),
-                Part::Code(&SIFT_UP, at + 23),
-                Part::Settle(note),
-                Part::Code(&ALARM, at + 39),
-                Part::Leave(threshold),
+                QueuePart::Enter(threshold),
+                QueuePart::Code(&TIME, at + 1),
+                QueuePart::Code(&NEXT, at),
+                QueuePart::Code(&[Template::Set(HAND, offset)], at),
+                QueuePart::Code(&ROW, at),
+                QueuePart::Code(&SIFT_UP, at + 23),
+                QueuePart::Settle(note),
+                QueuePart::Code(&ALARM, at + 39),
+                QueuePart::Leave(threshold),
             ],
             lines,
         )
@@ -140,10 +140,10 @@ impl Emitter {
         ];
         self.push(
             &[
-                Part::Enter(threshold),
-                Part::Code(&BEHIND, at),
-                Part::Code(&search, at),
-                Part::Code(&own, at),
+                QueuePart::Enter(threshold),
+                QueuePart::Code(&BEHIND, at),
+                QueuePart::Code(&search, at),
+                QueuePart::Code(&own, at),
             ],
             lines,
         )
@@ -174,17 +174,17 @@ impl Emitter {
         self.push_remove(at + 17, lines)?;
         self.push(
             &[
-                Part::Lines(&[(Instr::Mark, Some(note))]),
-                Part::Code(&ALARM, at + 72),
-                Part::Leave(threshold),
-                Part::Code(&place, at),
-                Part::Lines(&self.free(&armed.target, threshold)),
-                Part::Code(
+                QueuePart::Lines(&[(Instr::Mark, Some(note))]),
+                QueuePart::Code(&ALARM, at + 72),
+                QueuePart::Leave(threshold),
+                QueuePart::Code(&place, at),
+                QueuePart::Lines(&self.free(&armed.target, threshold)),
+                QueuePart::Code(
                     &[Template::Set(ANSWER, 0), Template::Jump(CANCEL_LINES)],
                     at,
                 ),
-                Part::Leave(threshold),
-                Part::Code(&[Template::Set(ANSWER, 1)], at),
+                QueuePart::Leave(threshold),
+                QueuePart::Code(&[Template::Set(ANSWER, 1)], at),
             ],
             lines,
         )
@@ -201,12 +201,12 @@ impl Emitter {
         let (handle, instant) = (self.slot + ARGUMENTS, self.slot + INSTANT);
         self.push(
             &[
-                Part::Code(&[Template::Copy(HAND, PLACE)], at),
-                Part::Code(&TIME, at + 1),
-                Part::Code(&AGAIN, at),
-                Part::Code(&SIFT_UP, at + 12),
-                Part::Code(&SIFT_DOWN, at + 27),
-                Part::Settle(Note::Move(armed.target.task, handle, instant)),
+                QueuePart::Code(&[Template::Copy(HAND, PLACE)], at),
+                QueuePart::Code(&TIME, at + 1),
+                QueuePart::Code(&AGAIN, at),
+                QueuePart::Code(&SIFT_UP, at + 12),
+                QueuePart::Code(&SIFT_DOWN, at + 27),
+                QueuePart::Settle(Note::Move(armed.target.task, handle, instant)),
             ],
             lines,
         )
@@ -232,11 +232,11 @@ impl Emitter {
         self.push_put_off(armed, at + 17, lines)?;
         self.push(
             &[
-                Part::Code(&ALARM, at + 76),
-                Part::Leave(threshold),
-                Part::Code(&[Template::Set(ANSWER, 0), Template::Jump(MOVE_LINES)], at),
-                Part::Leave(threshold),
-                Part::Code(&[Template::Set(ANSWER, 1)], at),
+                QueuePart::Code(&ALARM, at + 76),
+                QueuePart::Leave(threshold),
+                QueuePart::Code(&[Template::Set(ANSWER, 0), Template::Jump(MOVE_LINES)], at),
+                QueuePart::Leave(threshold),
+                QueuePart::Code(&[Template::Set(ANSWER, 1)], at),
             ],
             lines,
         )

@@ -9,7 +9,7 @@ ghost use Rattle.rt_gen_timer.specs.Inside.Templates as spec;
 
 use crate::queue::TimerQueue;
 use crate::slots::{HAND, HOLE, MASK};
-use crate::template::{Column, Part, Template};
+use crate::template::{Column, QueuePart, Template};
 use rt_code::Instr;
 use rt_gen_queue::Lines;
 use rt_ids::{NoMemory, Section};
@@ -71,7 +71,7 @@ impl Emitter {
     }
 
     /// Appends the lines of a part.
-    fn push_part(&self, part: &Part<'_, '_>, lines: &mut Lines) -> Result<(), NoMemory>
+    fn push_part(&self, part: &QueuePart<'_, '_>, lines: &mut Lines) -> Result<(), NoMemory>
         requires few { self.now.queue.messages ≤ CAPACITY * TASKS }
         requires slots { self.now.slot + TIMER_QUEUE_WORDS < 2 ^ 32 }
         requires fits { spec.part_fits part.now ≡ true }
@@ -79,23 +79,27 @@ impl Emitter {
     {
         let (slot, guard) = (self.slot, self.queue.guard);
         match *part {
-            Part::Code(code, at) => self.push_code(code, at, lines),
-            Part::Enter(threshold) => {
+            QueuePart::Code(code, at) => self.push_code(code, at, lines),
+            QueuePart::Enter(threshold) => {
                 lines.append(&[guard.enter_line(Section::Timer, threshold, slot + MASK)])
             }
-            Part::Leave(threshold) => {
+            QueuePart::Leave(threshold) => {
                 lines.append(&[guard.leave_line(Section::Timer, threshold, slot + MASK)])
             }
-            Part::Settle(note) => {
+            QueuePart::Settle(note) => {
                 let heap = self.queue.cell(Column::Heap);
                 lines.push_noted(Instr::StoreAt(heap, slot + HOLE, slot + HAND), note)
             }
-            Part::Lines(others) => lines.append(others),
+            QueuePart::Lines(others) => lines.append(others),
         }
     }
 
     /// Appends the lines of parts, one after the other.
-    pub(crate) fn push(&self, parts: &[Part<'_, '_>], lines: &mut Lines) -> Result<(), NoMemory>
+    pub(crate) fn push(
+        &self,
+        parts: &[QueuePart<'_, '_>],
+        lines: &mut Lines,
+    ) -> Result<(), NoMemory>
         requires few { self.now.queue.messages ≤ CAPACITY * TASKS }
         requires slots { self.now.slot + TIMER_QUEUE_WORDS < 2 ^ 32 }
         requires fit { list_all spec.part_fits parts.now ≡ true }

@@ -18,7 +18,7 @@ ghost use Rattle.rt_gen_timer.specs.Inside.Calls as calls;
 ghost use Rattle.rt_gen_timer.specs.declared.generate.TheConstants.{CALL_ROOM};
 
 use crate::armed::armed_task;
-use crate::call::{Call, push_call};
+use crate::call::{TimerCall, push_call};
 use crate::emitter::Emitter;
 use crate::queue::queue_of;
 use rt_app::Plan;
@@ -65,7 +65,7 @@ fn append_call(
     alloc: Global,
     plan: &Plan<'_>,
     rows: &ArmedRows<'_>,
-    call: &Call,
+    call: &TimerCall,
     threshold: u8,
     slot: u32,
     entry: u32,
@@ -75,8 +75,8 @@ fn append_call(
     requires planned { IsPlan plan.now }
     requires rows { rows.now ≡ plan.now.app.now }
     requires timed { IsSome (app_of plan.now.app.now).mono }
-    requires software { is_some_and is_software (slice_get (app_of plan.now.app.now).tasks (calls.task_of call.now))
-        ≡ true }
+    requires software { let tasks = (app_of plan.now.app.now).tasks in
+        is_some_and is_software (slice_get tasks (calls.message_task call.now)) ≡ true }
     ensures code { OnOk result (code.new.items ≡ code.old.items
         ++ calls.code_of (app_of plan.now.app.now) call.now threshold slot entry) }
     ensures size { OnOk result (length code.new.items ≤ length code.old.items + calls.cost_of call.now) }
@@ -120,7 +120,7 @@ pub fn gen_after(
         (drop (length code.old.items) code.new.items)) }
     ensures left { OnErr result (code.new.items ≡ code.old.items) }
 {
-    let call = Call::After(task);
+    let call = TimerCall::After(task);
     append_call(alloc, plan, rows, &call, threshold, slot, entry, code)
 }
 
@@ -151,7 +151,7 @@ pub fn gen_cancel(
         (drop (length code.old.items) code.new.items)) }
     ensures left { OnErr result (code.new.items ≡ code.old.items) }
 {
-    let call = Call::Cancel(task);
+    let call = TimerCall::Cancel(task);
     append_call(alloc, plan, rows, &call, threshold, slot, entry, code)
 }
 
@@ -183,6 +183,6 @@ pub fn gen_move(
         (drop (length code.old.items) code.new.items)) }
     ensures left { OnErr result (code.new.items ≡ code.old.items) }
 {
-    let call = Call::Move(task);
+    let call = TimerCall::Move(task);
     append_call(alloc, plan, rows, &call, threshold, slot, entry, code)
 }

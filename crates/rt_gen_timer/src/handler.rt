@@ -10,7 +10,7 @@ use crate::armed::ArmedTask;
 use crate::emitter::Emitter;
 use crate::section::ALARM;
 use crate::slots::{ANSWER, ARGUMENTS, COUNT, HOLE, INSTANT, ONE, OTHER, PLACE, TWO};
-use crate::template::{Column, Part, Template};
+use crate::template::{Column, QueuePart, Template};
 use rt_code::{Instr, Note};
 use rt_gen_queue::Lines;
 use rt_gen_queue::parts::ready;
@@ -57,11 +57,11 @@ impl Emitter {
     {
         self.push(
             &[
-                Part::Enter(threshold),
-                Part::Code(&DUE, at),
-                Part::Code(&ALARM, at + IDLE_OFFSET),
-                Part::Leave(threshold),
-                Part::Code(&[Template::Ret, Template::Set(HOLE, 0)], at),
+                QueuePart::Enter(threshold),
+                QueuePart::Code(&DUE, at),
+                QueuePart::Code(&ALARM, at + IDLE_OFFSET),
+                QueuePart::Leave(threshold),
+                QueuePart::Code(&[Template::Ret, Template::Set(HOLE, 0)], at),
             ],
             lines,
         )?;
@@ -95,12 +95,12 @@ impl Emitter {
         ];
         self.push(
             &[
-                Part::Code(&word, at),
-                Part::Lines(&[(Instr::Mark, Some(Note::Fire(armed.target.task)))]),
-                Part::Code(&ALARM, at + 6),
-                Part::Leave(threshold),
-                Part::Lines(&ready(&armed.target, threshold, self.slot + ARGUMENTS)),
-                Part::Code(&[Template::Ret], at),
+                QueuePart::Code(&word, at),
+                QueuePart::Lines(&[(Instr::Mark, Some(Note::Fire(armed.target.task)))]),
+                QueuePart::Code(&ALARM, at + 6),
+                QueuePart::Leave(threshold),
+                QueuePart::Lines(&ready(&armed.target, threshold, self.slot + ARGUMENTS)),
+                QueuePart::Code(&[Template::Ret], at),
             ],
             lines,
         )

@@ -9,7 +9,7 @@ ghost use Rattle.rt_gen_timer.specs.TimerLines as spec;
 use crate::emitter::Emitter;
 use crate::heap::{SIFT_DOWN, SIFT_UP};
 use crate::slots::{ANSWER, COUNT, HAND, HOLE, INSTANT, MASK, NUMBER, ONE, OTHER, PLACE, RIGHT};
-use crate::template::{Column, Part, Template};
+use crate::template::{Column, QueuePart, Template};
 use rt_code::{Instr, Line, Note};
 use rt_gen_queue::Lines;
 use rt_gen_queue::target::Target;
@@ -62,10 +62,10 @@ impl Emitter {
     {
         self.push(
             &[
-                Part::Code(&LAST, at),
-                Part::Code(&SIFT_UP, at + 7),
-                Part::Code(&SIFT_DOWN, at + 22),
-                Part::Code(&FILL, at),
+                QueuePart::Code(&LAST, at),
+                QueuePart::Code(&SIFT_UP, at + 7),
+                QueuePart::Code(&SIFT_DOWN, at + 22),
+                QueuePart::Code(&FILL, at),
             ],
             lines,
         )

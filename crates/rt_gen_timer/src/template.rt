@@ -59,7 +59,7 @@ pub(crate) enum Template {
 
 /// A part of the code for a timer queue.
 #[derive(Clone, Copy)]
-pub(crate) enum Part<'a, 'b> {
+pub(crate) enum QueuePart<'a, 'b> {
     /// The lines of templates, with the address from which their jumps count.
     Code(&'a [Template], u32),
     /// The line that opens the section of the timer queue, at a preemption threshold that what runs holds off already.

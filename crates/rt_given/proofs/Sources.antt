@@ -7,18 +7,18 @@ use Rattle.std.proofs.Math.Nat.{div-le_self}
 use Rattle.rand_pcg.specs.Lcg.{Lcg}
 use Rattle.rand_pcg.specs.Pcg.{pcg32}
 use Rattle.rt_script.specs.Generated.{drawn_words}
-use Rattle.rt_given.specs.Words.{WordsAreDrawn, WordsCountUp, behind, given_words, next_word}
+use Rattle.rt_given.specs.Words.{WordsAreDrawn, WordsCountUp, next_source, given_words, next_word}
 use Rattle.rt_given.specs.declared.source.Source.{Source}
 use Rattle.rt_given.specs.declared.source.Source.TheVariants.{Counting, Drawing}
 
 -- the source behind so many words
 abbrev pub source_after : ℕ → Source → Source
 source_after zero s = s
-source_after (suc n) s = source_after n (behind s)
+source_after (suc n) s = source_after n (next_source s)
 
-pub after_one : (n : ℕ) (s : Source) → source_after (suc n) s ≡ behind (source_after n s)
+pub after_one : (n : ℕ) (s : Source) → source_after (suc n) s ≡ next_source (source_after n s)
 after_one zero s = refl
-after_one (suc n) s = after_one n (behind s)
+after_one (suc n) s = after_one n (next_source s)
 
 pub no_word : (s : Source) → given_words 0 s ≡ []
 unfolding given_words
@@ -27,7 +27,7 @@ no_word s = refl
 pub one_word_more : (n : ℕ) (s : Source) → given_words (suc n) s ≡ given_words n s ++ next_word (source_after n s) ∷ []
 unfolding given_words
 one_word_more zero s = refl
-one_word_more (suc n) s = ap (λ (words : List ℕ). next_word s ∷ words) (one_word_more n (behind s))
+one_word_more (suc n) s = ap (λ (words : List ℕ). next_word s ∷ words) (one_word_more n (next_source s))
 
 -- some words, and those behind them
 pub words_split : (n more : ℕ) (s : Source) → given_words (n + more) s
@@ -36,12 +36,12 @@ unfolding given_words
 words_split zero more s = let same : zero + more ≡ more = omega arith in ap (λ k. given_words k s) same
 words_split (suc n) more s =
     let same : suc n + more ≡ suc (n + more) = omega arith in
-    ap (λ k. given_words k s) same ∙ ap (λ (words : List ℕ). next_word s ∷ words) (words_split n more (behind s))
+    ap (λ k. given_words k s) same ∙ ap (λ (words : List ℕ). next_word s ∷ words) (words_split n more (next_source s))
 
 pub words_long : (n : ℕ) (s : Source) → length (given_words n s) ≡ n
 unfolding given_words
 words_long zero s = refl
-words_long (suc n) s = ap suc (words_long n (behind s))
+words_long (suc n) s = ap suc (words_long n (next_source s))
 
 -- a word has 32 bits
 abbrev pub IsShort : ℕ → Type 0

@@ -35,12 +35,12 @@ abbrev pub asked : List GivenLine → List Line
 asked lines = flat_map asked_line lines
 
 -- the interrupt that the task of an input binds
-abbrev pub irq_of : App → Input → Option ℕ
-irq_of app input = then_from (slice_get app.tasks input.task) (λ t. then_from t.binds (irq_number app))
+abbrev pub input_irq : App → Input → Option ℕ
+input_irq app input = then_from (slice_get app.tasks input.task) (λ t. then_from t.binds (irq_number app))
 
 -- the task of an input binds this interrupt
 abbrev pub is_for : App → ℕ → Input → Bool
-is_for app irq input = is_some_and (λ n. n == irq) (irq_of app input)
+is_for app irq input = is_some_and (λ n. n == irq) (input_irq app input)
 
 -- how many events a line is
 abbrev pub count_of : GivenLine → ℕ

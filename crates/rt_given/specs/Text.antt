@@ -6,16 +6,16 @@ use Rattle.rt_given.specs.declared.refusal.Cause.{Cause}
 use Rattle.rt_given.specs.declared.refusal.Cause.TheVariants as cause
 
 -- the number and the words of a cause
-abbrev pub words : Cause → List ℕ
-words cause.TooLong = codes "1 too long"
-words cause.BadLine = codes "2 bad line"
-words cause.UnknownInterrupt = codes "3 unknown interrupt"
-words cause.TooManyEvents = codes "4 too many events"
-words cause.TooManyDevices = codes "5 too many devices"
-words cause.UnknownInput = codes "6 unknown input"
-words cause.NoInput = codes "7 no input"
-words cause.ManyInputs = codes "8 many inputs"
+abbrev pub cause_words : Cause → List ℕ
+cause_words cause.TooLong = codes "1 too long"
+cause_words cause.BadLine = codes "2 bad line"
+cause_words cause.UnknownInterrupt = codes "3 unknown interrupt"
+cause_words cause.TooManyEvents = codes "4 too many events"
+cause_words cause.TooManyDevices = codes "5 too many devices"
+cause_words cause.UnknownInput = codes "6 unknown input"
+cause_words cause.NoInput = codes "7 no input"
+cause_words cause.ManyInputs = codes "8 many inputs"
 
 -- the line that is printed
 abbrev pub refusal_text : ℕ → Cause → List ℕ
-refusal_text line c = refusals.refusal_text (codes "script") line (words c)
+refusal_text line c = refusals.refusal_text (codes "script") line (cause_words c)

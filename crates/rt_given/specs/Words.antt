@@ -18,14 +18,14 @@ next_word (Counting word) = word
 next_word (Drawing generator) = (pcg32 generator).0
 
 -- the source behind it
-abbrev pub behind : Source → Source
-behind (Counting word) = Counting ((word + 1) % 2 ^ 32)
-behind (Drawing generator) = Drawing (pcg32 generator).1
+abbrev pub next_source : Source → Source
+next_source (Counting word) = Counting ((word + 1) % 2 ^ 32)
+next_source (Drawing generator) = Drawing (pcg32 generator).1
 
 -- so many words of a source, from the next one on
 unfoldable pub given_words : ℕ → Source → List ℕ
 given_words zero source = []
-given_words (suc n) source = next_word source ∷ given_words n (behind source)
+given_words (suc n) source = next_word source ∷ given_words n (next_source source)
 
 -- the source of a line's words, where it asks for words
 abbrev pub source_of : GivenLine → Option Source
@@ -39,8 +39,8 @@ words_by n None = []
 words_by n (Some source) = given_words n source
 
 -- the words of a line, one for each of its requests
-abbrev pub words_of : GivenLine → List ℕ
-words_of line = words_by (count_of line) (source_of line)
+abbrev pub words_asked : GivenLine → List ℕ
+words_asked line = words_by (count_of line) (source_of line)
 
 -- The words that count up from a number are that number and those behind it, modulo 2^32.
 abbrev pub WordsCountUp : Type 0

@@ -11,7 +11,7 @@ use rt_ids::Irq;
 
 /// The interrupt that the task of an input binds.
 fn irq_of(app: &App, input: Input) -> Option<Irq>
-    ensures { result ≡ given.irq_of (app_of app.now) input }
+    ensures { result ≡ given.input_irq (app_of app.now) input }
 {
     let binds = app.task(input.task)?.binds?;
     let irq = app.irqs.get(usize::from(binds))?;

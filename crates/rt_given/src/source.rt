@@ -40,7 +40,7 @@ impl Source {
     /// The next word.
     pub fn next(&mut self) -> u32
         ensures word { result ≡ spec.next_word self.old }
-        ensures behind { self.new ≡ spec.behind self.old }
+        ensures behind { self.new ≡ spec.next_source self.old }
     {
         match self {
             Source::Counting(next) => {

@@ -18,8 +18,8 @@ or_empty None = []
 or_empty (Some xs) = xs
 
 -- a body with its options, at this offset
-abbrev pub body_of : Options → Block → ℕ → Body
-body_of o statements at = record { shared = or_empty o.shared; local = or_empty o.local; block = statements; at = at }
+abbrev pub body_with : Options → Block → ℕ → Body
+body_with o statements at = record { shared = or_empty o.shared; local = or_empty o.local; block = statements; at = at }
 
 -- `init` or `idle`, which begins with this word, or nothing
 abbrev pub thread_body : ℕ → Owner → List ℕ → Language (Option Body)
@@ -27,7 +27,7 @@ thread_body most owner text = or_else None (do
   at ← word text
   o ← options owner
   b ← block most most 1 0
-  gives (Some (body_of o b.0 at)))
+  gives (Some (body_with o b.0 at)))
 
 -- one more parameter of a task, after these
 abbrev pub parameter : List Ident → Language (List Ident)
@@ -57,5 +57,5 @@ task most before = do
     priority = o.priority;
     capacity = o.capacity;
     args = args;
-    body = body_of o b.0 x.at;
+    body = body_with o b.0 x.at;
   })

@@ -22,8 +22,8 @@ soon most what = do
   gives (Soon task args)
 
 -- a `spawn_after`, whose first word may pass this limit
-abbrev pub after : ℕ → Option Limit → Language Spawn
-after most what = do
+abbrev pub delayed_spawn : ℕ → Option Limit → Language Spawn
+delayed_spawn most what = do
   at ← limited_word (codes "spawn_after") what
   sign (codes "(")
   delay ← expression most
@@ -61,7 +61,7 @@ move most what = do
 
 -- a spawn whose first word may pass a limit
 abbrev pub spawn : ℕ → Option Limit → Language Spawn
-spawn most what = soon most what or after most what or cancel most what or move most what
+spawn most what = soon most what or delayed_spawn most what or cancel most what or move most what
 
 -- the value of a `let`
 abbrev pub value : ℕ → Language Value

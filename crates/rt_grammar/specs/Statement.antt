@@ -61,9 +61,9 @@ statement most block inside nesting before =
     or lock inside nesting before or emit most before or pend before or call most before
 
 -- the block of a list of statements
-abbrev pub block_of : List Statement → Block
-block_of [] = Empty
-block_of (s ∷ statements) = Then s (block_of statements)
+abbrev pub joined_block : List Statement → Block
+joined_block [] = Empty
+joined_block (s ∷ statements) = Then s (joined_block statements)
 
 -- one more statement after those so far
 abbrev pub one_more : ℕ → Blocks → Blocks → ℕ → Counted (List Statement) → Language (Counted (List Statement))
@@ -77,7 +77,7 @@ braced_block most block inside nesting before = do
   limited_sign (codes "{") (nesting_limit nesting)
   all ← repeat (one_more most block inside nesting) ([], before)
   sign (codes "}")
-  gives (block_of all.0, all.1)
+  gives (joined_block all.0, all.1)
 
 -- a block, and what follows a lock's name, with at most so many blocks inside each other
 abbrev mutual

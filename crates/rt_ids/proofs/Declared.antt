@@ -17,13 +17,14 @@ use Rattle.std.proofs.lemmas.Option.{same_Some, none-some, slice_get-map}
 use Rattle.std.proofs.lemmas.Slice.Eq.{bytes_eq-Decides}
 use Rattle.rt_ids.specs.declared.limits.TheConstants.{IRQS, TASKS, SHARED}
 use Rattle.rt_ids.specs.Lists.{AreDifferent}
-use Rattle.rt_ids.specs.Names.{Names, AreNames, irq_of, task_of, resource_of, with_irq, with_task, with_resource}
+use Rattle.rt_ids.specs.Names.{Names, AreNames, irq_of, task_index, resource_of, with_irq, with_task, with_resource}
 use Rattle.rt_ids.specs.Word.{IsName}
 use Rattle.rt_ids.proofs.Lists.{list_any-map, position-map, find_by_position, is_some-position, is_some-find}
 use Rattle.rt_ids.proofs.Lists.{none_from_is_some, all_push, index_pushed, index_taken, or_last, position_pushed}
 
 -- a name that no test finds stands at no index
-pub nowhere : (names : List (List ℕ)) (name : List ℕ) → list_any (bytes_eq name) names ≡ false → (i : ℕ) → slice_get names i
+pub nowhere : (names : List (List ℕ)) (name : List ℕ) → list_any (bytes_eq name) names ≡ false → (i : ℕ)
+    → slice_get names i
     ≡ Some name → ⊥
 nowhere [] name none i at = none-some name at
 nowhere (x ∷ xs) name none zero at =
@@ -45,7 +46,8 @@ nowhere_found (x ∷ xs) name none = by (nowhere_found xs name (λ i at. none (s
     by rest true same = absurd (none 0 (ap Some (sym ((bytes_eq-Decides name x).0 same))))
     by rest false other = rest
 
-pub differ_pushed : (names : List (List ℕ)) (name : List ℕ) → list_any (bytes_eq name) names ≡ false → AreDifferent names
+pub differ_pushed : (names : List (List ℕ)) (name : List ℕ) → list_any (bytes_eq name) names ≡ false
+    → AreDifferent names
     → AreDifferent (names ++ name ∷ [])
 differ_pushed names name none differ i j x a b =
     elim (index_pushed names name i x a) [
@@ -70,7 +72,7 @@ module _ (names : Names) (name : List ℕ) where
   new_irq : irq_of names name ≡ None → list_any (bytes_eq name) (map (λ irq. irq.0) names.irqs) ≡ false
   new_irq none = sym (is_some-find (bytes_eq name) names.irqs) ∙ ap is_some none
 
-  new_task : task_of names name ≡ None → list_any (bytes_eq name) names.tasks ≡ false
+  new_task : task_index names name ≡ None → list_any (bytes_eq name) names.tasks ≡ false
   new_task none = sym (is_some-position (bytes_eq name) names.tasks) ∙ ap is_some none
 
   new_resource : resource_of names name ≡ None → list_any (bytes_eq name) names.shared ≡ false
@@ -90,7 +92,7 @@ module _ (names : Names) (name : List ℕ) where
     few_shared = are.few_shared;
   }
 
-  pub task_added : AreNames names → IsName name → task_of names name ≡ None → length names.tasks < TASKS
+  pub task_added : AreNames names → IsName name → task_index names name ≡ None → length names.tasks < TASKS
       → AreNames (with_task names name)
   task_added are named none room = record {
     irqs = are.irqs;
@@ -130,9 +132,9 @@ module _ (names : Names) (n : ℕ) (name : List ℕ) where
       ∙ ap (list_any (bytes_eq name)) before ∙ new_next (map bare all) n name differ here)
 
   pub next_task : (all : List (List ℕ)) → names.tasks ≡ take n all → AreDifferent all → slice_get all n ≡ Some name
-      → task_of names name ≡ None
+      → task_index names name ≡ None
   next_task all are differ at =
-      none_from_is_some (task_of names name) (is_some-position (bytes_eq name) names.tasks
+      none_from_is_some (task_index names name) (is_some-position (bytes_eq name) names.tasks
       ∙ ap (list_any (bytes_eq name)) are ∙ new_next all n name differ at)
 
   pub next_resource : (all : List (List ℕ)) → names.shared ≡ take n all → AreDifferent all → slice_get all n ≡ Some name
@@ -274,12 +276,12 @@ module _ (irqs : List (Vec ℕ Global × ℕ)) (tasks shared : List (Vec ℕ Glo
             (subst IsName (sym is) named) unknown fits),
       )
 
-  pub task_kept : (new : List (Vec ℕ Global)) → new ≡ insert_key same_text tasks v → task_of self name ≡ None
+  pub task_kept : (new : List (Vec ℕ Global)) → new ≡ insert_key same_text tasks v → task_index self name ≡ None
       → length self.tasks < TASKS
       → (kept_names irqs new shared ≡ with_task self name) × AreNames (kept_names irqs new shared)
   task_kept new at none room =
-      let unknown : task_of (kept_names irqs tasks shared) (text v) ≡ None =
-      ap (λ names. task_of names (text v)) view_is ∙ ap (task_of self) is ∙ none in
+      let unknown : task_index (kept_names irqs tasks shared) (text v) ≡ None =
+      ap (λ names. task_index names (text v)) view_is ∙ ap (task_index self) is ∙ none in
       let fits : length (map text tasks) < TASKS = subst (λ (names : Names). length names.tasks < TASKS) (sym view_is)
       room in
       let last : new ≡ tasks ++ v ∷ [] = at ∙ key_last v tasks

@@ -32,8 +32,8 @@ abbrev pub irq_of : Names → List ℕ → Option ℕ
 irq_of names name = option_map (λ irq. irq.1) (find (λ irq. bytes_eq name irq.0) names.irqs)
 
 -- the task of a name
-abbrev pub task_of : Names → List ℕ → Option ℕ
-task_of names name = position (bytes_eq name) names.tasks
+abbrev pub task_index : Names → List ℕ → Option ℕ
+task_index names name = position (bytes_eq name) names.tasks
 
 -- the shared resource of a name
 abbrev pub resource_of : Names → List ℕ → Option ℕ

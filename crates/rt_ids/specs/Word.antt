@@ -6,8 +6,8 @@ use Rattle.rt_ids.specs.declared.limits.TheConstants.{NAME_BYTES}
 use Rattle.rt_ids.specs.Byte.{is_letter, is_name_byte}
 
 -- the words of the language
-abbrev pub words : List (List ℕ)
-words =
+abbrev pub language_words : List (List ℕ)
+language_words =
     codes "app" ∷ codes "bits" ∷ codes "dispatchers" ∷ codes "interrupts" ∷ codes "monotonic" ∷ codes "binds"
     ∷ codes "priority"
     ∷ codes "capacity" ∷ codes "shared" ∷ codes "local" ∷ codes "lock_free" ∷ codes "init" ∷ codes "idle" ∷ codes "task"
@@ -18,7 +18,7 @@ words =
 
 -- whether a text is one of the words of the language
 abbrev pub is_word : List ℕ → Bool
-is_word text = list_any (λ w. bytes_eq text w) words
+is_word text = list_any (λ w. bytes_eq text w) language_words
 
 -- a letter or `_`, then letters, digits and `_`; the empty text is none
 abbrev pub is_identifier : List ℕ → Bool

@@ -3,7 +3,7 @@
 ghost use Rattle.std.specs.Prelude.{◌≡◌, ℕ, ◌<◌, [], None, length, slice_get, slice_index_or, option_map, IfOk, OnOk};
 ghost use Rattle.std.specs.Prelude.{OnErr};
 ghost use Rattle.rt_ids.specs.declared.limits.TheConstants.{IRQS, TASKS, SHARED};
-ghost use Rattle.rt_ids.specs.Names.{AreNames, no_names, irq_of, task_of, resource_of, with_irq, with_task};
+ghost use Rattle.rt_ids.specs.Names.{AreNames, no_names, irq_of, task_index, resource_of, with_irq, with_task};
 ghost use Rattle.rt_ids.specs.Names.{with_resource};
 ghost use Rattle.rt_ids.specs.Naming as naming;
 ghost use Rattle.rt_ids.specs.Inside.Kept.{with_first};
@@ -80,7 +80,7 @@ impl Names {
     /// Declares a task more.
     pub fn add_task(&mut self, alloc: Global, name: &[u8]) -> Result<(), NoMemory>
         requires named { IsName name.now }
-        requires unknown { task_of self.old name.now ≡ None }
+        requires unknown { task_index self.old name.now ≡ None }
         requires room { length self.old.tasks < TASKS }
         ensures added { OnOk result (self.new ≡ with_task self.old name.now) }
         ensures unchanged { OnErr result (self.new ≡ self.old) }
@@ -164,7 +164,7 @@ impl Names {
 
     /// The task of this name, where there is one.
     pub fn task_named(&self, name: &[u8]) -> Option<TaskId>
-        ensures { result ≡ task_of self.now name.now }
+        ensures { result ≡ task_index self.now name.now }
     {
         match self.tasks.get_index_of(name) {
             Some(index) => Some(TaskId(index as u8)),

@@ -33,7 +33,7 @@ use Rattle.rt_sim.proofs.Reached.{declared_append}
 use Rattle.rt_board.specs.Board.{Board, IsInput, AreInputs}
 use Rattle.rt_board.specs.declared.board.Input.{Input}
 use Rattle.rt_inputs.specs.Inputs.{Happening, Comes, Gives, Registers, no_words, with_word, events_of, AreWords, taken}
-use Rattle.rt_inputs.specs.Inputs.{irq_of, put_for, puts_for, puts_before, moves_from, moves_of}
+use Rattle.rt_inputs.specs.Inputs.{input_irq, put_for, puts_for, puts_before, moves_from, moves_of}
 use Rattle.rt_inputs.specs.Laws.{GivenWordsAreFree, RunsWithInputsAreGood}
 use Rattle.rt_inputs.proofs.Joined.{things_append, take_arms_none, core_append, labels_append}
 use Rattle.rt_inputs.proofs.Joined.{state_behind, same_jobs, free_event, free_word}
@@ -106,11 +106,11 @@ module _ (app : App) (img : Image) (accepted : IsAccepted app) (is_image : IsIma
       Behind some = WordsAreFree app img some × ((state_behind app img some).jobs ≡ (state_behind app img moves).jobs)
 
       one_put : (some : List (WithWords Event)) (input : Input) → IsInput app input → Behind some
-          → (b : Bool) → is_some_and (λ n. n == irq) (irq_of app input) ≡ b
+          → (b : Bool) → is_some_and (λ n. n == irq) (input_irq app input) ≡ b
           → Behind (some ++ (if b then Puts input.local (registers input.local) ∷ [] else []))
       one_put some input is behind false other = subst Behind (sym (append-nil some)) behind
       one_put some input is behind true its =
-          let bound = some_irq (irq_of app input) its in
+          let bound = some_irq (input_irq app input) its in
           let unused = subst (λ (jobs : List Job). IsUnused app jobs input.local) (sym behind.1)
           (inputs_are_unused app accepted input is (state_behind app img moves) irq selects bound) in (
             free_word app img some input.local (registers input.local) behind.0
@@ -130,7 +130,7 @@ module _ (app : App) (img : Image) (accepted : IsAccepted app) (is_image : IsIma
           let own = put_for app board registers irq input in
           subst Behind (append_assoc some own (flat_map (put_for app board registers irq) inputs))
           (all_put inputs board (some ++ own) are.1
-          (one_put some input are.0 behind (is_some_and (λ n. n == irq) (irq_of app input)) refl))
+          (one_put some input are.0 behind (is_some_and (λ n. n == irq) (input_irq app input)) refl))
 
   module _ (board : Board) (inputs : AreInputs app board.inputs) where
     puts_free : (moves : List (WithWords Event)) (registers : Registers) → ((n : ℕ) → registers n < 2 ^ 32)

@@ -20,7 +20,7 @@ use Rattle.rt_core.proofs.Showing.{steps_are}
 use Rattle.rt_sim.specs.Beside.{core_after_put, core_beside, labels_beside}
 use Rattle.rt_board.specs.Board.{Board}
 use Rattle.rt_board.specs.declared.board.Input.{Input}
-use Rattle.rt_inputs.specs.Inputs.{Happening, Comes, Gives, Registers, with_word, events_of, taken, irq_of, put_for}
+use Rattle.rt_inputs.specs.Inputs.{Happening, Comes, Gives, Registers, with_word, events_of, taken, input_irq, put_for}
 use Rattle.rt_inputs.specs.Inputs.{puts_for, puts_before, moves_from}
 use Rattle.rt_inputs.specs.Shown.{lines_from}
 use Rattle.rt_inputs.specs.Going.{registers_after}
@@ -34,7 +34,7 @@ module _ (app : App) (img : Image) (board : Board) (registers : Registers) where
   none_for irq (input ∷ inputs) =
       let rest = flat_map (put_for app board registers irq) inputs in
       things_append (put_for app board registers irq input) rest
-      ∙ one (is_some_and (λ n. n == irq) (irq_of app input)) (things rest) (none_for irq inputs)
+      ∙ one (is_some_and (λ n. n == irq) (input_irq app input)) (things rest) (none_for irq inputs)
     where
       one : (b : Bool) (rest : List Event) → rest ≡ []
           → things (if b then Puts input.local (registers input.local) ∷ [] else []) ++ rest ≡ []

@@ -34,7 +34,7 @@ use Rattle.rt_laws.proofs.Pending.{priority_is, starts_above}
 use Rattle.rt_sim.proofs.Keepers.{keepers_apart}
 use Rattle.rt_board.specs.Board.{IsInput}
 use Rattle.rt_board.specs.declared.board.Input.{Input}
-use Rattle.rt_inputs.specs.Inputs.{irq_of}
+use Rattle.rt_inputs.specs.Inputs.{input_irq}
 use Rattle.rt_inputs.specs.Laws.{InputsAreUnused}
 
 module _ (app : App) (accepted : IsAccepted app) (input : Input) (is : IsInput app input) where
@@ -105,7 +105,7 @@ module _ (app : App) (accepted : IsAccepted app) (input : Input) (is : IsInput a
       < is.task.priority = below in
       (job_does_not job.role job.priority (omega (arith, all)), jobs_do_not jobs (omega (arith, all)))
 
-  served_at : (irq : ℕ) → irq_of app input ≡ Some irq → priority_of app irq ≡ is.task.priority
+  served_at : (irq : ℕ) → input_irq app input ≡ Some irq → priority_of app irq ≡ is.task.priority
   served_at irq bound = go is.task.binds refl (ap (λ o. then_from o (λ (t : Task). then_from t.binds (irq_number app)))
       (sym is.task_is) ∙ bound)
     where

@@ -15,7 +15,7 @@ use Rattle.rt_laws.specs.DeviceWords.{WithWords, One, Puts, things}
 use Rattle.rt_sim.specs.Beside.{core_after_put, core_beside}
 use Rattle.rt_board.specs.Board.{Board, no_board}
 use Rattle.rt_board.specs.declared.board.Input.{Input}
-use Rattle.rt_inputs.specs.Inputs.{Registers, irq_of, put_for, puts_for}
+use Rattle.rt_inputs.specs.Inputs.{Registers, input_irq, put_for, puts_for}
 use Rattle.rt_inputs.specs.Shown as shown
 use Rattle.rt_inputs.specs.Shown.{line_text}
 use Rattle.rt_inputs.specs.Inside.Placed.{text_for, lines_of_words}
@@ -63,7 +63,7 @@ lines_join step (Puts local word ∷ xs) ys = ap (λ ls. shown.Input step local 
 -- what is put for one input is no event
 pub one_none : (app : App) (registers : Registers) (irq : ℕ) (input : Input)
     → things (put_for app no_board registers irq input) ≡ []
-one_none app registers irq input = by (is_some_and (λ n. n == irq) (irq_of app input))
+one_none app registers irq input = by (is_some_and (λ n. n == irq) (input_irq app input))
   where
     by : (b : Bool) → let puts : List (WithWords Event) =
         if b then Puts input.local (registers input.local) ∷ [] else [] in things puts ≡ []
@@ -72,7 +72,7 @@ one_none app registers irq input = by (is_some_and (λ n. n == irq) (irq_of app 
 
 module _ (app : App) (board : Board) (registers : Registers) (step irq : ℕ) where
   -- the text of the word of an input whose task binds the interrupt
-  pub text_passes : (input : Input) → is_some_and (λ n. n == irq) (irq_of app input) ≡ true
+  pub text_passes : (input : Input) → is_some_and (λ n. n == irq) (input_irq app input) ≡ true
       → text_for app board registers step irq input
       ≡ line_text app (shown.Input step input.local (registers input.local))
   text_passes input passes =

@@ -55,14 +55,14 @@ taken shown = None
 
 module _ (app : App) where
   -- the number of the interrupt that the task of an input binds
-  abbrev pub irq_of : Input → Option ℕ
-  irq_of input = then_from (slice_get app.tasks input.task) (λ t. then_from t.binds (irq_number app))
+  abbrev pub input_irq : Input → Option ℕ
+  input_irq input = then_from (slice_get app.tasks input.task) (λ t. then_from t.binds (irq_number app))
 
   module _ (board : Board) (registers : Registers) where
     -- what a device puts for an input where this interrupt is taken
     abbrev pub put_for : ℕ → Input → List (WithWords Event)
     put_for irq input =
-        if is_some_and (λ n. n == irq) (irq_of input) then Puts input.local (registers input.local) ∷ [] else []
+        if is_some_and (λ n. n == irq) (input_irq input) then Puts input.local (registers input.local) ∷ [] else []
 
     -- what devices put where this interrupt is taken, or none is
     abbrev pub puts_for : Option ℕ → List (WithWords Event)

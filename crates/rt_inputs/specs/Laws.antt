@@ -14,14 +14,14 @@ use Rattle.rt_sim.specs.Beside.{core_after_put, WordsAreFree, CountsFitBeside, R
 use Rattle.rt_sim.specs.Good.{AreDeclared}
 use Rattle.rt_board.specs.Board.{Board, IsInput, AreInputs}
 use Rattle.rt_board.specs.declared.board.Input.{Input}
-use Rattle.rt_inputs.specs.Inputs.{Happening, AreWords, events_of, irq_of, moves_of}
+use Rattle.rt_inputs.specs.Inputs.{Happening, AreWords, events_of, input_irq, moves_of}
 
 -- In any state of Baker's machine in which the preemption test selects the interrupt of an input's task, no started job
 -- may use the input's local resource: the task's priority is above the system ceiling, and nobody else owns it.
 abbrev pub InputsAreUnused : Type 0
 InputsAreUnused =
     (app : App) → IsAccepted app → (input : Input) → IsInput app input → (s : State) (irq : ℕ)
-    → candidate app s ≡ Some irq → irq_of app input ≡ Some irq
+    → candidate app s ≡ Some irq → input_irq app input ≡ Some irq
     → IsUnused app s.jobs input.local
 
 -- Whatever happens beside devices, they put words only where no started job may use them.

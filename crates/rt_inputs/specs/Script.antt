@@ -6,7 +6,7 @@ use Rattle.rt_code.specs.Image.{Image}
 use Rattle.rt_laws.specs.DeviceWords.{WithWords, things}
 use Rattle.rt_sim.specs.Beside.{shown_beside}
 use Rattle.rt_board.specs.Board.{Board}
-use Rattle.rt_given.specs.Words.{words_of}
+use Rattle.rt_given.specs.Words.{words_asked}
 use Rattle.rt_given.specs.declared.line.GivenLine.{GivenLine}
 use Rattle.rt_given.specs.declared.line.GivenLine.TheVariants as given
 use Rattle.rt_inputs.specs.Inputs.{Happening, Comes, Gives, moves_of}
@@ -28,9 +28,9 @@ line_happenings (given.Ticks n) = replicate n (Comes Tick)
 line_happenings (given.Pends irq n) = replicate n (Comes (Arrive irq))
 line_happenings (given.Device d irq n) = replicate n (Comes (Arrive irq))
 line_happenings (given.Counts d irq n local first) =
-    given_requests irq local (words_of (given.Counts d irq n local first))
+    given_requests irq local (words_asked (given.Counts d irq n local first))
 line_happenings (given.Draws d irq n local seed) =
-    given_requests irq local (words_of (given.Draws d irq n local seed))
+    given_requests irq local (words_asked (given.Draws d irq n local seed))
 line_happenings (given.Gives local word) = Gives local word ∷ []
 
 -- what happens under a script

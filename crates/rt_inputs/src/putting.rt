@@ -29,7 +29,7 @@ pub(crate) fn taken(what: &What) -> Option<Irq>
 
 /// The interrupt that the task of an input binds.
 fn irq_of(app: &App, input: Input) -> Option<Irq>
-    ensures { result ≡ spec.irq_of (app_of app.now) input }
+    ensures { result ≡ spec.input_irq (app_of app.now) input }
 {
     let binds = app.task(input.task)?.binds?;
     let irq = app.irqs.get(usize::from(binds))?;
@@ -38,7 +38,7 @@ fn irq_of(app: &App, input: Input) -> Option<Irq>
 
 /// Whether the task of an input binds this interrupt.
 pub(crate) fn is_for(app: &App, input: Input, irq: Irq) -> bool
-    ensures { result ≡ is_some_and (λ n. n == irq) (spec.irq_of (app_of app.now) input) }
+    ensures { result ≡ is_some_and (λ n. n == irq) (spec.input_irq (app_of app.now) input) }
 {
     match irq_of(app, input) {
         Some(bound) => bound == irq,

@@ -20,7 +20,7 @@ use Rattle.rt_inputs.specs.Shown.{ShownLine}
 use Rattle.rt_trace.specs.Reading as traces
 use Rattle.rt_trace.specs.declared.reader.Phase.{Phase}
 use Rattle.rt_inputs_audit.specs.Audit.{IsVerdictBeside}
-use Rattle.rt_inputs_audit.specs.Auditor.{standing, Goes, Refuses, Stands, HasAudited, IsJudgedText}
+use Rattle.rt_inputs_audit.specs.Auditor.{standing, IsJudgedSoFar, Refuses, AuditStands, HasAudited, IsJudgedText}
 use Rattle.rt_inputs_audit.specs.Judging.{HasJudged}
 use Rattle.rt_inputs_audit.specs.Reading.{Standing, Told, shown_of, cause_of, line_told, inputs_reader}
 use Rattle.rt_inputs_audit.specs.Reading.{IsInputsText, IsRefused}
@@ -38,7 +38,7 @@ module _ (app : App) (b : Board) (names : Names) where
   module _ (ls : List (List ℕ)) (old new : InputsReader) (line : List ℕ) where
     -- a line that shows nothing
     pub goes_silent : (judge : InputsJudge) → line_told names app b old.inner.phase line ≡ Ok (new.inner.phase, None)
-        → Goes app b names ls old judge → Goes app b names (ls ++ line ∷ []) new judge
+        → IsJudgedSoFar app b names ls old judge → IsJudgedSoFar app b names (ls ++ line ∷ []) new judge
     goes_silent judge told g = record {
       shown = g.shown;
       few = omega (arith, g.few, length-append ls (line ∷ []));
@@ -50,8 +50,9 @@ module _ (app : App) (b : Board) (names : Names) where
     -- and one that shows something
     pub goes_on : (before after : InputsJudge) (read : TraceLine)
         → line_told names app b old.inner.phase line ≡ Ok (new.inner.phase, Some read)
-        → ((shown : List ShownLine) → HasJudged app b shown before → HasJudged app b (shown ++ shown_of read ∷ []) after)
-        → Goes app b names ls old before → Goes app b names (ls ++ line ∷ []) new after
+        → ((shown : List ShownLine) → HasJudged app b shown before
+        → HasJudged app b (shown ++ shown_of read ∷ []) after)
+        → IsJudgedSoFar app b names ls old before → IsJudgedSoFar app b names (ls ++ line ∷ []) new after
     goes_on before after read told judges g = record {
       shown = g.shown ++ shown_of read ∷ [];
       few = omega (arith, g.few, length-append g.shown (shown_of read ∷ []), length-append ls (line ∷ []));
@@ -62,7 +63,7 @@ module _ (app : App) (b : Board) (names : Names) where
     -- a line that is wrong
     pub line_refuses : (judge : InputsJudge) (number : ℕ) (cause : Cause) → suc (length ls) ≡ number
         → line_told names app b old.inner.phase line ≡ Err cause
-        → Goes app b names ls old judge → Refuses app b names (ls ++ line ∷ []) (refused_at number cause)
+        → IsJudgedSoFar app b names ls old judge → Refuses app b names (ls ++ line ∷ []) (refused_at number cause)
     line_refuses judge number cause counted told g = λ text more short parts.
         first_wrong number cause (record {
           short = short;
@@ -84,7 +85,8 @@ module _ (app : App) (b : Board) (names : Names) where
   -- and where that is kept
   pub stands_on : (ls : List (List ℕ)) (line : List ℕ) (reader : InputsReader) (judge : InputsJudge)
       (refusing : Option (TextRefused Cause)) (refusal : TextRefused Cause) → refusing ≡ Some refusal
-      → Stands app b names ls reader judge refusing → Stands app b names (ls ++ line ∷ []) reader judge refusing
+      → AuditStands app b names ls reader judge refusing
+      → AuditStands app b names (ls ++ line ∷ []) reader judge refusing
   stands_on ls line reader judge None refusal some h = absurd cc
   stands_on ls line reader judge (Some kept) refusal some h = refuses_on ls line kept h
 
@@ -120,7 +122,7 @@ module _ {chosen : Option App} {on : Option Board} {names : Names} {machine : Ma
       let refuses = rw wrong at h.stands in
       refused_there refusal (refuses text [] short (sym (append-nil (lines text))))
 
-  goes : refusing ≡ None → Goes own board names (lines text) reader judge
+  goes : refusing ≡ None → IsJudgedSoFar own board names (lines text) reader judge
   goes none = rw none at h.stands
 
   pub end_unended : refusing ≡ None → (count : ℕ) (cause : Cause) → length (lines text) ≡ count

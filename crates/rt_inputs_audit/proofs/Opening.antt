@@ -23,7 +23,7 @@ use Rattle.rt_baker.proofs.Counting.{silent_within}
 use Rattle.rt_board.specs.Board.{Board}
 use Rattle.rt_board.specs.declared.board.Input as board
 use Rattle.rt_inputs.specs.Shown.{ShownLine, Shows, Input}
-use Rattle.rt_inputs_audit.specs.Audit.{IsWithin}
+use Rattle.rt_inputs_audit.specs.Audit.{ShowsWithinStack}
 use Rattle.rt_inputs_audit.specs.Following.{Held, Place, take_label, settled, behind_item, LineComes, IsNext}
 use Rattle.rt_inputs_audit.specs.Following.{InputComes, EndsAt}
 use Rattle.rt_inputs_audit.specs.Given.{inputs_at}
@@ -32,7 +32,8 @@ use Rattle.rt_inputs_audit.specs.declared.followed.Followed.{Followed}
 use Rattle.rt_inputs_audit.proofs.Counting.{put_within}
 
 -- the interrupt that is to be taken
-pub owing_stops : (app : App) (s : AuditorState) (b : Bool) → b ≡ s.owing → b ≡ true → (t : laws.State) → StateIs app s t
+pub owing_stops : (app : App) (s : AuditorState) (b : Bool) → b ≡ s.owing → b ≡ true → (t : laws.State)
+    → StateIs app s t
     → (irq depth : ℕ) → May app t (take_label irq depth) → ⊥
 owing_stops app s b is holds t h irq depth may =
     let owed : t.owing ≡ true = owes_as app s t true h (sym is ∙ holds) in
@@ -167,7 +168,7 @@ free_place t n = record { state = t; done = n; held = None }
 
 module _ (app : App) (b : Board) (old new : Followed) where
   -- a line judged where nothing is held
-  pub free_came : (line : ShownLine) → old.held ≡ None → IsWithin app line
+  pub free_came : (line : ShownLine) → old.held ≡ None → ShowsWithinStack app line
       → ((t : laws.State) → StateIs app old.state t → Went app b (free_place t (steps_done old.done)) line new)
       → LineJudged app b true old new line
   unfolding LineJudged
@@ -180,7 +181,7 @@ module _ (app : App) (b : Board) (old new : Followed) where
           (went p.state h.is)
 
   pub free_refused : (line : ShownLine) → old.held ≡ None
-      → ((t : laws.State) → StateIs app old.state t → IsWithin app line
+      → ((t : laws.State) → StateIs app old.state t → ShowsWithinStack app line
       → LineComes app (free_place t (steps_done old.done)) line → ⊥)
       → LineJudged app b false old new line
   unfolding LineJudged
@@ -211,7 +212,8 @@ module _ (app : App) (b : Board) (old new : Followed) where
         is =
             subst (λ (is : List board.Input).
             PlaceIs app new
-            (settled app (after_all app t (silent (step - steps_done old.done))) (steps_done old.done) step irq depth is))
+            (settled app (after_all app t (silent (step - steps_done old.done)))
+            (steps_done old.done) step irq depth is))
             same
             (settles (after_all app t (silent (step - steps_done old.done))) (steps_done old.done) opened.is refl);
       })
@@ -260,7 +262,8 @@ module _ (app : App) (b : Board) (old new : Followed) where
   unfolding LineJudged
   item_refused x k holds = λ p h within comes.
       let at : Some k ≡ p.held = sym holds ∙ h.held in
-      subst (λ (o : Option Held). LineComes app (record { state = p.state; done = p.done; held = o }) (Shows x)) (sym at)
+      subst (λ (o : Option Held). LineComes app (record { state = p.state; done = p.done; held = o }) (Shows x))
+      (sym at)
       comes
 
   -- an input where none is held

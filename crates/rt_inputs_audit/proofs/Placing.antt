@@ -15,7 +15,7 @@ use Rattle.rt_laws.specs.DeviceWords.{WithWords, One, ones, things}
 use Rattle.rt_laws.proofs.Beside.{things_behind}
 use Rattle.rt_board.specs.Board.{Board, IsInput}
 use Rattle.rt_board.specs.declared.board.Input as board
-use Rattle.rt_inputs.specs.Inputs.{irq_of}
+use Rattle.rt_inputs.specs.Inputs.{input_irq}
 use Rattle.rt_inputs.specs.Shown.{ShownLine, Shows, Input, lines_from}
 use Rattle.rt_inputs_audit.specs.Given.{inputs_at, written_before, GivesFrom}
 use Rattle.rt_inputs_audit.specs.Following.{Held, take_label}
@@ -29,7 +29,7 @@ IsSomeInput (input ∷ inputs) = Unit {0}
 module _ (app : App) where
   -- an input of the task that binds this interrupt
   abbrev pub IsInputOf : ℕ → board.Input → Type 0
-  IsInputOf irq input = IsInput app input × (irq_of app input ≡ Some irq)
+  IsInputOf irq input = IsInput app input × (input_irq app input ≡ Some irq)
 
   -- a take that is held may come, and its inputs are of its task
   pub record HoldsTake (s : State) (h : Held) : Type 0 where
@@ -46,17 +46,17 @@ module _ (app : App) where
   number_told irq (Some n) is = let same : n ≡ irq = grind (arith, nat_tests) in ap (λ k. Some k) same
 
   inputs_of : (irq : ℕ) (inputs : List board.Input) → AllByRecursion (IsInput app) inputs
-      → AllByRecursion (IsInputOf irq) (filter (λ input. is_some_and (λ n. n == irq) (irq_of app input)) inputs)
+      → AllByRecursion (IsInputOf irq) (filter (λ input. is_some_and (λ n. n == irq) (input_irq app input)) inputs)
   inputs_of irq [] all = tt
   inputs_of irq (input ∷ inputs) all =
-      go (is_some_and (λ n. n == irq) (irq_of app input)) refl (inputs_of irq inputs all.1)
+      go (is_some_and (λ n. n == irq) (input_irq app input)) refl (inputs_of irq inputs all.1)
     where
-      go : (b : Bool) → is_some_and (λ n. n == irq) (irq_of app input) ≡ b
-          → AllByRecursion (IsInputOf irq) (filter (λ i. is_some_and (λ n. n == irq) (irq_of app i)) inputs)
+      go : (b : Bool) → is_some_and (λ n. n == irq) (input_irq app input) ≡ b
+          → AllByRecursion (IsInputOf irq) (filter (λ i. is_some_and (λ n. n == irq) (input_irq app i)) inputs)
           → AllByRecursion (IsInputOf irq)
-          (cond b (input ∷ filter (λ i. is_some_and (λ n. n == irq) (irq_of app i)) inputs)
-          (filter (λ i. is_some_and (λ n. n == irq) (irq_of app i)) inputs))
-      go true is more = ((all.0, number_told irq (irq_of app input) is), more)
+          (cond b (input ∷ filter (λ i. is_some_and (λ n. n == irq) (input_irq app i)) inputs)
+          (filter (λ i. is_some_and (λ n. n == irq) (input_irq app i)) inputs))
+      go true is more = ((all.0, number_told irq (input_irq app input) is), more)
       go false is more = more
 
   pub board_inputs : (b : Board) → AllByRecursion (IsInput app) b.inputs → (irq : ℕ)

@@ -1,7 +1,8 @@
 -- The lines of a run with inputs are read as what they show.
 use Rattle.std.proofs.Common.{◌≡◌, ◌≤◌, ◌<◌, ◌^◌, ℕ, zero, suc, true, false, if◌then◌else◌, List, [], ◌∷◌, ◌++◌}
 use Rattle.std.proofs.Common.{length, map, slice_get, decimal, codes, bytes_eq, Option, Some, None, Ok, Err, Result}
-use Rattle.std.proofs.Common.{option_map, option_to_list, unwrap_or, refl, ap, sym, subst, ◌∙◌, arith, append_assoc, append-nil}
+use Rattle.std.proofs.Common.{option_map, option_to_list, unwrap_or, refl, ap, sym, subst, ◌∙◌, arith, append_assoc}
+use Rattle.std.proofs.Common.{append-nil}
 use Rattle.std.specs.Bool.{Decides}
 use Rattle.std.specs.List.{AllByRecursion}
 use Rattle.std.proofs.lemmas.Option.{same_Some, none-some}
@@ -37,15 +38,16 @@ use Rattle.rt_trace.specs.TraceLines.{IsListing}
 use Rattle.rt_trace.specs.Words.{rows}
 use Rattle.rt_trace.specs.declared.reader.Phase.{Phase}
 use Rattle.rt_trace.specs.declared.reader.Phase.TheVariants as phase
-use Rattle.rt_trace.specs.declared.row.Row.TheVariants as row
+use Rattle.rt_trace.specs.declared.row.TraceRow.TheVariants as row
 use Rattle.rt_trace.proofs.LinesRead.{lines_read}
 use Rattle.rt_board.specs.Board.{Board, IsInput, AreInputs}
 use Rattle.rt_board.specs.Wording.{is_named}
 use Rattle.rt_board.specs.declared.board.Input as board
 use Rattle.rt_given.specs.Wording.{input_named}
 use Rattle.rt_inputs.specs.Shown.{ShownLine, Shows, Input, input_line}
-use Rattle.rt_inputs_audit.specs.Laws.{HasOwnLine, line_of, WrittenLinesAreRead}
-use Rattle.rt_inputs_audit.specs.Reading.{shown_of, input_at, input_of, maybe_input, unless_input, or_input, line_told, step}
+use Rattle.rt_inputs_audit.specs.Laws.{HasOwnLine, shown_line_text, WrittenLinesAreRead}
+use Rattle.rt_inputs_audit.specs.Reading.{shown_of, input_at, input_of, maybe_input, unless_input, or_input, line_told}
+use Rattle.rt_inputs_audit.specs.Reading.{reader_step}
 use Rattle.rt_inputs_audit.specs.Reading.{Standing, inputs_reader, IsInputsText}
 use Rattle.rt_inputs_audit.specs.declared.line.TraceLine.{TraceLine}
 use Rattle.rt_inputs_audit.specs.declared.line.TraceLine.TheVariants as told
@@ -141,7 +143,14 @@ module _ (app : App) (accepted : IsAccepted app) (b : Board) (are : AreInputs ap
           ∙ words_spaced (decimal step) (codes "input" ∷ r.name ∷ decimal word ∷ [])
           (word_free 32 (decimal step) refl (decimal_bytes step)) (
             word_free 32 (codes "input") refl refl,
-            (word_free 32 r.name refl (name_bytes r.name named), (word_free 32 (decimal word) refl (decimal_bytes word), tt)),
+            (
+              word_free 32 r.name refl (name_bytes r.name named),
+              (
+                word_free 32 (decimal word) refl
+                    (decimal_bytes word),
+                tt,
+              ),
+            ),
           )
 
       -- the line of a word is read as the word
@@ -159,7 +168,7 @@ module _ (app : App) (accepted : IsAccepted app) (b : Board) (are : AreInputs ap
 
   -- each line is read as what it shows
   line_read : (shown : ShownLine) → HasOwnLine app b shown
-      → line_told names app b phase.Items (line_of app shown) ≡ Ok (phase.Items, Some (told_of shown))
+      → line_told names app b phase.Items (shown_line_text app shown) ≡ Ok (phase.Items, Some (told_of shown))
   line_read (Shows item) has =
       ap (λ r. or_input app b phase.Items (item_line names item) (and_make r behind_row))
       (lines_read names item own_names has)
@@ -180,7 +189,7 @@ module _ (app : App) (accepted : IsAccepted app) (b : Board) (are : AreInputs ap
 
   leads_on : (from to : Phase) (shown : List ShownLine) (line : List ℕ) (read : Option TraceLine)
       → line_told names app b from line ≡ Ok (to, read)
-      → step names app b (at from shown) line ≡ Ok (at to (shown ++ option_to_list (option_map shown_of read)))
+      → reader_step names app b (at from shown) line ≡ Ok (at to (shown ++ option_to_list (option_map shown_of read)))
   leads_on from to shown line read is =
       ap (λ r. and_make r (λ read. at read.0 (shown ++ option_to_list (option_map shown_of read.1)))) is
 
@@ -201,13 +210,13 @@ module _ (app : App) (accepted : IsAccepted app) (b : Board) (are : AreInputs ap
       )
 
   rows_read : (so_far shown : List ShownLine) → AllByRecursion (HasOwnLine app b) shown
-      → Leads (at phase.Items so_far) (map (line_of app) shown) (at phase.Items (so_far ++ shown))
+      → Leads (at phase.Items so_far) (map (shown_line_text app) shown) (at phase.Items (so_far ++ shown))
   rows_read so_far [] all = ap (at phase.Items) (sym (append-nil so_far))
   rows_read so_far (line ∷ shown) all = (
     at phase.Items (so_far ++ line ∷ []),
-    leads_on phase.Items phase.Items so_far (line_of app line) (Some (told_of line)) (line_read line all.0)
+    leads_on phase.Items phase.Items so_far (shown_line_text app line) (Some (told_of line)) (line_read line all.0)
         ∙ ap (λ l. Ok (at phase.Items (so_far ++ l ∷ []))) (told_back line),
-    subst (λ told. Leads (at phase.Items (so_far ++ line ∷ [])) (map (line_of app) shown) (at phase.Items told))
+    subst (λ told. Leads (at phase.Items (so_far ++ line ∷ [])) (map (shown_line_text app) shown) (at phase.Items told))
         (append_assoc so_far (line ∷ []) shown) (rows_read (so_far ++ line ∷ []) shown all.1),
   )
 
@@ -223,7 +232,7 @@ module _ (app : App) (accepted : IsAccepted app) (b : Board) (are : AreInputs ap
 
   text_read : (shown : List ShownLine) (total : ℕ) → AllByRecursion (HasOwnLine app b) shown → total < 2 ^ 32
       → (heading : List (List ℕ)) → IsListing heading → (text : List ℕ) → length text ≤ TRACE_BYTES
-      → lines text ≡ heading ++ (map (line_of app) shown ++ total_line total ∷ [])
+      → lines text ≡ heading ++ (map (shown_line_text app) shown ++ total_line total ∷ [])
       → IsInputsText names app b text (record { lines = shown; total = Some total })
   text_read shown total all small heading is text short parts = record {
     reached = at (phase.Closed total) shown;
@@ -231,13 +240,15 @@ module _ (app : App) (accepted : IsAccepted app) (b : Board) (are : AreInputs ap
       short = short;
       lead =
           subst (λ ls. Leads (at phase.Start []) ls (at (phase.Closed total) shown)) (sym parts)
-          (lead_append (inputs_reader names app b) _ _ _ heading (map (line_of app) shown ++ total_line total ∷ [])
+          (lead_append (inputs_reader names app b) _ _ _ heading
+          (map (shown_line_text app) shown ++ total_line total ∷ [])
           (listing_passed heading is)
-          (lead_append (inputs_reader names app b) _ _ _ (map (line_of app) shown) (total_line total ∷ [])
+          (lead_append (inputs_reader names app b) _ _ _ (map (shown_line_text app) shown) (total_line total ∷ [])
           (rows_read [] shown all) (
             at (phase.Closed total) shown,
             leads_on phase.Items (phase.Closed total) shown (total_line total) None
-                (ap (λ r. or_input app b phase.Items (total_line total) (and_make r behind_row)) (total_read total small))
+                (ap (λ r. or_input app b phase.Items (total_line total) (and_make r behind_row))
+                (total_read total small))
                 ∙ ap (λ ls. Ok (at (phase.Closed total) ls)) (append-nil shown),
             refl,
           )));

@@ -17,8 +17,9 @@ use Rattle.rt_board.specs.Board.{Board, AreInputs}
 use Rattle.rt_board.specs.declared.board.Input as board
 use Rattle.rt_inputs.specs.Laws.{InputsAreUnused}
 use Rattle.rt_inputs.specs.Shown.{ShownLine, Input}
-use Rattle.rt_inputs_audit.specs.Audit.{IsWithin, JudgedBeside, IsRightBeside, Begins, IsWrongAt}
-use Rattle.rt_inputs_audit.specs.Following.{Held, Place, start, settled, place_after, place_behind, LineComes, LinesCome}
+use Rattle.rt_inputs_audit.specs.Audit.{ShowsWithinStack, JudgedBeside, IsRightBeside, Begins, IsWrongAt}
+use Rattle.rt_inputs_audit.specs.Following.{Held, Place, start, settled, place_after, place_behind, LineComes}
+use Rattle.rt_inputs_audit.specs.Following.{LinesCome}
 use Rattle.rt_inputs_audit.specs.Following.{EndsAt, RunsByLines, AreRightLines}
 use Rattle.rt_inputs_audit.specs.Judging.{Ends}
 use Rattle.rt_inputs_audit.proofs.Placing.{IsSomeInput, HoldsWell}
@@ -86,9 +87,9 @@ module _ (app : App) (b : Board) where
     more : List ShownLine
     total : ℕ
     runs : RunsByLines app b p more total
-    depths : AllByRecursion (IsWithin app) more
+    depths : AllByRecursion (ShowsWithinStack app) more
 
-  zeros_within : (step : ℕ) (inputs : List board.Input) → AllByRecursion (IsWithin app) (zeros step inputs)
+  zeros_within : (step : ℕ) (inputs : List board.Input) → AllByRecursion (ShowsWithinStack app) (zeros step inputs)
   zeros_within step [] = tt
   zeros_within step (input ∷ inputs) = (tt, zeros_within step inputs)
 
@@ -116,34 +117,38 @@ module _ (app : App) (b : Board) where
   }
   completes s n (Some h) well = held_completes s n h.step h.irq h.depth h.inputs well.some
 
-  depths_more : (xs : List ShownLine) (x : ShownLine) → AllByRecursion (IsWithin app) xs → IsWithin app x
-      → AllByRecursion (IsWithin app) (xs ++ x ∷ [])
-  depths_more xs x all last = all_append (IsWithin app) xs (x ∷ []) all (last, tt)
+  depths_more : (xs : List ShownLine) (x : ShownLine) → AllByRecursion (ShowsWithinStack app) xs
+      → ShowsWithinStack app x
+      → AllByRecursion (ShowsWithinStack app) (xs ++ x ∷ [])
+  depths_more xs x all last = all_append (ShowsWithinStack app) xs (x ∷ []) all (last, tt)
 
-  depths_last : (xs : List ShownLine) (x : ShownLine) → AllByRecursion (IsWithin app) (xs ++ x ∷ []) → IsWithin app x
+  depths_last : (xs : List ShownLine) (x : ShownLine) → AllByRecursion (ShowsWithinStack app) (xs ++ x ∷ [])
+      → ShowsWithinStack app x
   depths_last [] x all = all.0
   depths_last (y ∷ xs) x all = depths_last xs x all.1
 
-  depths_front : (xs ys : List ShownLine) → AllByRecursion (IsWithin app) (xs ++ ys) → AllByRecursion (IsWithin app) xs
+  depths_front : (xs ys : List ShownLine) → AllByRecursion (ShowsWithinStack app) (xs ++ ys)
+      → AllByRecursion (ShowsWithinStack app) xs
   depths_front [] ys all = tt
   depths_front (x ∷ xs) ys all = (all.0, depths_front xs ys all.1)
 
-  depths_take : (k : ℕ) (xs : List ShownLine) → AllByRecursion (IsWithin app) xs
-      → AllByRecursion (IsWithin app) (take k xs)
+  depths_take : (k : ℕ) (xs : List ShownLine) → AllByRecursion (ShowsWithinStack app) xs
+      → AllByRecursion (ShowsWithinStack app) (take k xs)
   depths_take zero [] all = tt
   depths_take zero (x ∷ xs) all = tt
   depths_take (suc k) [] all = tt
   depths_take (suc k) (x ∷ xs) all = (all.0, depths_take k xs all.1)
 
   pub right_more : (xs : List ShownLine) (x : ShownLine) → AreRightLines app b xs
-      → LineComes app (place_behind app b (start app) xs) x → IsWithin app x → AreRightLines app b (xs ++ x ∷ [])
+      → LineComes app (place_behind app b (start app) xs) x → ShowsWithinStack app x
+      → AreRightLines app b (xs ++ x ∷ [])
   right_more xs x right comes within = record {
     come = come_more xs (start app) x right.come comes;
     depths = depths_more xs x right.depths within;
   }
 
   pub right_last : (xs : List ShownLine) (x : ShownLine) → AreRightLines app b (xs ++ x ∷ [])
-      → LineComes app (place_behind app b (start app) xs) x × IsWithin app x
+      → LineComes app (place_behind app b (start app) xs) x × ShowsWithinStack app x
   right_last xs x right = (come_last xs (start app) x right.come, depths_last xs x right.depths)
 
   pub right_take : (k : ℕ) (xs : List ShownLine) → AreRightLines app b xs → AreRightLines app b (take k xs)
@@ -191,7 +196,7 @@ module _ (app : App) (b : Board) where
 
   module _ (unused : InputsAreUnused) (accepted : IsAccepted app) (are : AreInputs app b.inputs) where
     runs_judged : (lines : List ShownLine) (o : Option ℕ) (total : ℕ) → RunsByLines app b (start app) lines total
-        → StatesTotal o total → AllByRecursion (IsWithin app) lines → JudgedBeside app b lines o
+        → StatesTotal o total → AllByRecursion (ShowsWithinStack app) lines → JudgedBeside app b lines o
     runs_judged lines o total runs states depths =
         let r = from_lines unused app accepted b are lines total (first app) 0 None tt runs in
         record {
@@ -211,7 +216,8 @@ module _ (app : App) (b : Board) where
         run_from lines [] (start app) p.done right.come
         (record { free = free; few = le_refl p.done; quiet = none_silent app b p.state p.done }) in
         runs_judged lines None p.done
-        (subst (λ (ls : List ShownLine). RunsByLines app b (start app) ls p.done) (append-nil lines) all) tt right.depths
+        (subst (λ (ls : List ShownLine). RunsByLines app b (start app) ls p.done)
+        (append-nil lines) all) tt right.depths
     judged_lines lines (Some total) right ends =
         let all : RunsByLines app b (start app) (lines ++ []) total =
         run_from lines [] (start app) total right.come ends in
@@ -225,10 +231,11 @@ module _ (app : App) (b : Board) where
         let stands = stands_behind app unused accepted b are (take n lines) right.come in
         let c = completes p.state p.done p.held stands.holds in (
           c.more,
-          runs_judged (take n lines ++ c.more) None c.total (run_from (take n lines) c.more (start app) c.total right.come
+          runs_judged (take n lines ++ c.more) None
+              c.total (run_from (take n lines) c.more (start app) c.total right.come
               c.runs)
               tt
-              (all_append (IsWithin app) (take n lines) c.more right.depths c.depths),
+              (all_append (ShowsWithinStack app) (take n lines) c.more right.depths c.depths),
         )
 
     -- the verdicts

@@ -1,6 +1,7 @@
 -- Devices put the words of a run with inputs as an audit asks, and what the run shows is judged right.
 use Rattle.std.proofs.Common.{◌≡◌, ℕ, ◌==◌, Bool, true, false, cond, if◌then◌else◌, nat_le, List, [], ◌∷◌, ◌++◌}
-use Rattle.std.proofs.Common.{filter, flat_map, map, Option, Some, None, refl, sym, ap, subst, ◌∙◌, append_assoc, append-nil}
+use Rattle.std.proofs.Common.{filter, flat_map, map, Option, Some, None, refl, sym, ap, subst, ◌∙◌, append_assoc}
+use Rattle.std.proofs.Common.{append-nil}
 use Rattle.rt_lines.proofs.Reading.{read_one_way}
 use Rattle.rt_ids.specs.Event.{Event, Arrive, Tick, Step}
 use Rattle.rt_ids.specs.Lists.{is_some_and}
@@ -20,7 +21,8 @@ use Rattle.rt_laws.proofs.Keeping.{runs_beside_keep_laws}
 use Rattle.rt_sim.specs.Beside.{core_after_put, core_beside, labels_beside, shown_beside}
 use Rattle.rt_board.specs.Board.{Board}
 use Rattle.rt_board.specs.declared.board.Input.{Input}
-use Rattle.rt_inputs.specs.Inputs.{Happening, Comes, Gives, Registers, no_words, with_word, taken, irq_of, put_for, puts_for}
+use Rattle.rt_inputs.specs.Inputs.{Happening, Comes, Gives, Registers, no_words, with_word, taken, input_irq, put_for}
+use Rattle.rt_inputs.specs.Inputs.{puts_for}
 use Rattle.rt_inputs.specs.Inputs.{puts_before, moves_from, moves_of}
 use Rattle.rt_inputs.specs.Laws.{TakesLeaveCells}
 use Rattle.rt_inputs.proofs.Takes.{takes_leave_cells}
@@ -50,7 +52,7 @@ module _ (app : App) (img : Image) (board : Board) where
   words registers inputs = map (λ (i : Input). Puts i.local (registers i.local)) inputs
 
   abbrev is_of : ℕ → Input → Bool
-  is_of irq input = is_some_and (λ n. n == irq) (irq_of app input)
+  is_of irq input = is_some_and (λ n. n == irq) (input_irq app input)
 
   one_word : (registers : Registers) (irq : ℕ) (input : Input) (inputs : List Input) (b : Bool)
       → (if b then Puts input.local (registers input.local) ∷ [] else []) ++ words registers (filter (is_of irq) inputs)
@@ -69,7 +71,8 @@ module _ (app : App) (img : Image) (board : Board) where
   step_gives : (takes : TakesLeaveCells) (registers : Registers) (irq depth : ℕ) (inputs : List Input) (c : Core)
       (gone : List ℕ) (rest : List (WithWords Event))
       → (step img c).1 ≡ Some (what.Take irq depth) → gone ++ locals_of inputs ≡ locals_of (inputs_at app board irq)
-      → GivesFrom app board [] (labels_beside app img (core_beside app img c (words registers inputs ++ One Step ∷ [])) rest)
+      → GivesFrom app board [] (labels_beside app img (core_beside app img c (words registers inputs
+      ++ One Step ∷ [])) rest)
       → GivesFrom app board gone (labels_beside app img c (words registers inputs ++ One Step ∷ rest))
   unfolding happen
   step_gives takes registers irq depth [] c gone rest shows same more =
@@ -125,7 +128,8 @@ module _ (app : App) (img : Image) (board : Board) where
   gives_from takes (Gives local word ∷ more) c registers = gives_from takes more c (with_word registers local word)
   gives_from takes (Comes e ∷ more) c registers =
       let next = core_beside app img c (puts_before app board registers img c e ++ One e ∷ []) in
-      event_gives takes registers c e (moves_from app img board next registers more) (gives_from takes more next registers)
+      event_gives takes registers c e (moves_from app img board next registers more)
+      (gives_from takes more next registers)
 
 pub runs_give : RunsGiveInputs
 runs_give app img board happenings = gives_from app img board takes_leave_cells happenings (reset img) no_words

@@ -18,9 +18,9 @@ use Rattle.rt_inputs.specs.Shown.{ShownLine, Shows, Input, lines_of_moves}
 use Rattle.rt_inputs_audit.specs.Given.{GivesInputs}
 
 -- the depth that a take states is within the stack bound
-abbrev pub IsWithin : App → ShownLine → Type 0
-IsWithin app (Shows item) = IsWithinStack app item.what
-IsWithin app (Input step local word) = Unit {0}
+abbrev pub ShowsWithinStack : App → ShownLine → Type 0
+ShowsWithinStack app (Shows item) = IsWithinStack app item.what
+ShowsWithinStack app (Input step local word) = Unit {0}
 
 -- The lines are judged right: they are those of a run of Baker's machine beside devices, of as many core steps as are
 -- stated, in which devices put words as the board says, and depths are within the stack bound.
@@ -30,7 +30,7 @@ pub record JudgedBeside (app : App) (board : Board) (lines : List ShownLine) (to
   pub gives : GivesInputs app board moves
   pub shows : lines_of_moves moves ≡ lines
   pub stated : StatesTotal total (steps_of (things moves))
-  pub depths : AllByRecursion (IsWithin app) lines
+  pub depths : AllByRecursion (ShowsWithinStack app) lines
 
 -- They are judged right, and the run keeps the laws of sections and of messages that every run beside devices keeps.
 pub record IsRightBeside (app : App) (board : Board) (lines : List ShownLine) (total : Option ℕ) : Type 0 where

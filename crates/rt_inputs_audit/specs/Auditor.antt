@@ -25,7 +25,7 @@ abbrev pub standing : InputsReader → List ShownLine → Standing
 standing reader shown = record { phase = reader.inner.phase; lines = shown }
 
 -- no line is wrong, and what the lines show was judged
-pub record Goes (app : App) (b : Board) (names : Names) (ls : List (List ℕ)) (reader : InputsReader)
+pub record IsJudgedSoFar (app : App) (b : Board) (names : Names) (ls : List (List ℕ)) (reader : InputsReader)
     (judge : InputsJudge) : Type 0 where
   pub shown : List ShownLine
   pub few : length shown ≤ length ls
@@ -39,10 +39,10 @@ Refuses app b names ls refusal =
     → IsRefused names app b text refusal
 
 -- no line is wrong, or the first that is is refused so
-abbrev pub Stands :
+abbrev pub AuditStands :
     App → Board → Names → List (List ℕ) → InputsReader → InputsJudge → Option (TextRefused Cause) → Type 0
-Stands app b names ls reader judge None = Goes app b names ls reader judge
-Stands app b names ls reader judge (Some refusal) = Refuses app b names ls refusal
+AuditStands app b names ls reader judge None = IsJudgedSoFar app b names ls reader judge
+AuditStands app b names ls reader judge (Some refusal) = Refuses app b names ls refusal
 
 -- These lines came of a trace with inputs of the chosen application and board.
 pub record HasAudited (chosen : Option App) (on : Option Board) (names : Names) (machine : Machine) (b : Board)
@@ -53,7 +53,7 @@ pub record HasAudited (chosen : Option App) (on : Option Board) (names : Names) 
   pub stood : on ≡ Some b
   pub inputs : AreInputs (app_of machine.code.now.app.now) b.inputs
   pub named : names ≡ names_of (app_of machine.code.now.app.now)
-  pub stands : Stands (app_of machine.code.now.app.now) b names ls reader judge refused
+  pub stands : AuditStands (app_of machine.code.now.app.now) b names ls reader judge refused
 
 -- The text is that of a trace with inputs of so many lines, and this is the verdict on it.
 pub record IsJudgedText (app : App) (b : Board) (text : List ℕ) (verdict : Verdict) (count : ℕ) : Type 0 where

@@ -17,7 +17,7 @@ use Rattle.rt_board.specs.Board.{Board}
 use Rattle.rt_board.specs.declared.board.Input as board
 use Rattle.rt_inputs.specs.Shown.{ShownLine, Shows, Input}
 use Rattle.rt_inputs_audit.specs.Given.{inputs_at}
-use Rattle.rt_inputs_audit.specs.Audit.{IsWithin}
+use Rattle.rt_inputs_audit.specs.Audit.{ShowsWithinStack}
 
 -- a take whose inputs are still to come
 pub record Held : Type 0 where
@@ -125,4 +125,4 @@ module _ (app : App) where
   -- lines come from the start on, with each depth within the stack bound
   pub record AreRightLines (b : Board) (lines : List ShownLine) : Type 0 where
     pub come : LinesCome b (start app) lines
-    pub depths : AllByRecursion (IsWithin app) lines
+    pub depths : AllByRecursion (ShowsWithinStack app) lines

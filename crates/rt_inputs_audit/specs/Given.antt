@@ -10,7 +10,7 @@ use Rattle.rt_app.specs.Tree.{App}
 use Rattle.rt_laws.specs.DeviceWords.{WithWords, One, Puts}
 use Rattle.rt_board.specs.Board.{Board}
 use Rattle.rt_board.specs.declared.board.Input.{Input}
-use Rattle.rt_inputs.specs.Inputs.{irq_of}
+use Rattle.rt_inputs.specs.Inputs.{input_irq}
 
 -- the local resources of inputs
 abbrev pub locals_of : List Input → List ℕ
@@ -19,7 +19,7 @@ locals_of inputs = map (λ input. input.local) inputs
 module _ (app : App) (board : Board) where
   -- the inputs of the task that binds the interrupt of a number, in the order of the board
   abbrev pub inputs_at : ℕ → List Input
-  inputs_at irq = filter (λ input. is_some_and (λ n. n == irq) (irq_of app input)) board.inputs
+  inputs_at irq = filter (λ input. is_some_and (λ n. n == irq) (input_irq app input)) board.inputs
 
   -- the inputs that a device writes where this is shown
   abbrev pub inputs_for : What → List Input

@@ -1,7 +1,8 @@
 -- What a judge of traces with inputs keeps, and what it says of a line, for each place of Baker's machine (Stack-Based
 -- Scheduling of Realtime Processes, 1991) that what it keeps may be: that the line may come, and what is kept of the
 -- place after it; or that it may not.
-use Rattle.std.specs.Prelude.{◌≡◌, ℕ, suc, ◌-◌, ◌^◌, ◌<◌, ◌≤◌, Bool, true, false, List, length, take, Option, Some, None}
+use Rattle.std.specs.Prelude.{◌≡◌, ℕ, suc, ◌-◌, ◌^◌, ◌<◌, ◌≤◌, Bool, true, false, List, length, take, Option, Some}
+use Rattle.std.specs.Prelude.{None}
 use Rattle.rt_app.specs.Stack.{stack_bytes}
 use Rattle.rt_app.specs.Tree.{App}
 use Rattle.rt_trace.specs.declared.item.Item.{Item}
@@ -13,7 +14,7 @@ use Rattle.rt_baker_moves.specs.State.{AuditorState, StateIs}
 use Rattle.rt_baker.specs.Judge.{steps_done}
 use Rattle.rt_board.specs.Board.{Board, AreInputs}
 use Rattle.rt_inputs.specs.Shown.{ShownLine}
-use Rattle.rt_inputs_audit.specs.Audit.{IsWithin}
+use Rattle.rt_inputs_audit.specs.Audit.{ShowsWithinStack}
 use Rattle.rt_inputs_audit.specs.Following.{EndsAt, Place, start, LineComes, place_after, place_behind, AreRightLines}
 use Rattle.rt_inputs_audit.specs.declared.followed.Followed.{Followed}
 use Rattle.rt_inputs_audit.specs.declared.judge.InputsJudge.{InputsJudge}
@@ -53,8 +54,9 @@ pub record Went (app : App) (b : Board) (p : Place) (line : ShownLine) (new : Fo
 -- A line came where it might, within the stack bound, and only there.
 unfoldable pub LineJudged : App → Board → Bool → Followed → Followed → ShownLine → Type 0
 LineJudged app b true old new line =
-    IsWithin app line × ((p : Place) → PlaceIs app old p → Went app b p line new)
-LineJudged app b false old new line = (p : Place) → PlaceIs app old p → IsWithin app line → LineComes app p line → ⊥
+    ShowsWithinStack app line × ((p : Place) → PlaceIs app old p → Went app b p line new)
+LineJudged app b false old new line =
+    (p : Place) → PlaceIs app old p → ShowsWithinStack app line → LineComes app p line → ⊥
 
 -- a trace ends at a place: nothing is held, and silent steps come up to the total, where it states one
 abbrev pub Ends : App → Place → Option ℕ → Type 0

@@ -20,7 +20,7 @@ use Rattle.rt_sim.specs.Good.{AreDeclared}
 use Rattle.rt_board.specs.Board.{Board, AreInputs}
 use Rattle.rt_inputs.specs.Inputs.{Happening, AreWords, events_of, moves_of}
 use Rattle.rt_inputs.specs.Shown.{ShownLine, Shows, Input, input_line, lines_of_moves}
-use Rattle.rt_inputs_audit.specs.Audit.{IsWithin, IsRightBeside}
+use Rattle.rt_inputs_audit.specs.Audit.{ShowsWithinStack, IsRightBeside}
 use Rattle.rt_inputs_audit.specs.Given.{GivesInputs}
 use Rattle.rt_inputs_audit.specs.Reading.{inputs_reader, IsInputsText}
 
@@ -42,7 +42,7 @@ RunsWithInputsAreRight =
     → (happenings : List Happening) → AreWords happenings → AreDeclared app (events_of happenings)
     → CountsFitBeside app img (moves_of app img board happenings)
     → let moves = shown_beside app img (moves_of app img board happenings) in
-    AllByRecursion (IsWithin app) (lines_of_moves moves)
+    AllByRecursion (ShowsWithinStack app) (lines_of_moves moves)
     → IsRightBeside app board (lines_of_moves moves) (Some (steps_of (things moves)))
 
 -- a line that a text may have: the item has one, or an input of the board has a word of 32 bits
@@ -52,9 +52,9 @@ HasOwnLine app board (Input step local word) =
     (step < 2 ^ 31) × Contains (map (λ input. input.local) board.inputs) local × (word < 2 ^ 32)
 
 -- the line, without its line feed
-abbrev pub line_of : App → ShownLine → List ℕ
-line_of app (Shows item) = item_line (names_of app) item
-line_of app (Input step local word) = input_line app step local word
+abbrev pub shown_line_text : App → ShownLine → List ℕ
+shown_line_text app (Shows item) = item_line (names_of app) item
+shown_line_text app (Input step local word) = input_line app step local word
 
 -- A text of a listing, of such lines and of a total is read as what they show.
 abbrev pub WrittenLinesAreRead : Type 0
@@ -63,5 +63,5 @@ WrittenLinesAreRead =
     → AllByRecursion (HasOwnLine app board) shown → total < 2 ^ 32
     → (heading : List (List ℕ)) → IsListing heading
     → (text : List ℕ) → length text ≤ TRACE_BYTES
-    → lines text ≡ heading ++ (map (line_of app) shown ++ (codes "total " ++ decimal total) ∷ [])
+    → lines text ≡ heading ++ (map (shown_line_text app) shown ++ (codes "total " ++ decimal total) ∷ [])
     → IsInputsText (names_of app) app board text (record { lines = shown; total = Some total })

@@ -101,8 +101,8 @@ module _ (names : Names) (app : App) (board : Board) where
   line_told at line = or_input app board at line (traces.line_told names at line)
 
   -- where a reader stands a line further on, or what is wrong with the line
-  abbrev pub step : Standing → List ℕ → Result Standing Cause
-  step s line =
+  abbrev pub reader_step : Standing → List ℕ → Result Standing Cause
+  reader_step s line =
       and_make (line_told s.phase line)
       (λ read. record { phase = read.0; lines = s.lines ++ option_to_list (option_map shown_of read.1) })
 
@@ -112,7 +112,7 @@ module _ (names : Names) (app : App) (board : Board) where
     most = TRACE_BYTES;
     lines = lines;
     start = record { phase = phase.Start; lines = [] };
-    step = step;
+    step = reader_step;
     missing = λ s. option_map cause_of (traces.missing s.phase);
   }
 

@@ -6,12 +6,12 @@ use Rattle.rt_inputs_audit.specs.declared.refusal.Cause.{Cause}
 use Rattle.rt_inputs_audit.specs.declared.refusal.Cause.TheVariants as cause
 
 -- the number and the words of a cause
-abbrev pub words : Cause → List ℕ
-words cause.TooLong = codes "1 too long"
-words cause.BadLine = codes "2 bad line"
-words cause.UnknownName = codes "3 unknown name"
-words cause.UnknownInput = codes "4 unknown input"
+abbrev pub cause_words : Cause → List ℕ
+cause_words cause.TooLong = codes "1 too long"
+cause_words cause.BadLine = codes "2 bad line"
+cause_words cause.UnknownName = codes "3 unknown name"
+cause_words cause.UnknownInput = codes "4 unknown input"
 
 -- the line that is printed
 abbrev pub refusal_text : ℕ → Cause → List ℕ
-refusal_text line c = refusals.refusal_text (codes "trace") line (words c)
+refusal_text line c = refusals.refusal_text (codes "trace") line (cause_words c)

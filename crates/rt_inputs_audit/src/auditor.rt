@@ -10,7 +10,7 @@ ghost use Rattle.rt_app.specs.View.{app_of};
 ghost use Rattle.rt_baker_moves.specs.Machine.{IsMachine};
 ghost use Rattle.rt_board.specs.Board as boards;
 ghost use Rattle.rt_board.specs.Board.{AreInputs};
-ghost use Rattle.rt_inputs_audit.specs.Auditor.{Goes, Stands, HasAudited, IsJudgedText};
+ghost use Rattle.rt_inputs_audit.specs.Auditor.{IsJudgedSoFar, AuditStands, HasAudited, IsJudgedText};
 ghost use Rattle.rt_inputs_audit.specs.Reading.{IsRefused};
 
 use crate::judge::InputsJudge;
@@ -121,11 +121,11 @@ fn audit_line<'a>(
     requires follows { IsMachine machine.now }
     requires inputs { AreInputs (app_of machine.now.code.now.app.now) board.now.inputs }
     requires goes { (ls : List (List ℕ)) × (suc (length ls) ≡ number)
-        × Goes (app_of machine.now.code.now.app.now) board.now names.now ls reader.old judge.old }
+        × IsJudgedSoFar (app_of machine.now.code.now.app.now) board.now names.now ls reader.old judge.old }
     ensures { let app = app_of machine.now.code.now.app.now in
         IfOk result (λ refused. (ls : List (List ℕ)) → suc (length ls) ≡ number
-        → Goes app board.now names.now ls reader.old judge.old
-        → Stands app board.now names.now (ls ++ line.now ∷ []) reader.new judge.new refused) }
+        → IsJudgedSoFar app board.now names.now ls reader.old judge.old
+        → AuditStands app board.now names.now (ls ++ line.now ∷ []) reader.new judge.new refused) }
 {
     match reader.take(names, machine.code.app, board, line) {
         Ok(None) => Ok(None),

@@ -5,7 +5,7 @@ ghost use Rattle.rt_ids.specs.Lists.{is_some_and};
 ghost use Rattle.rt_app.specs.Handlers.{irq_number};
 ghost use Rattle.rt_app.specs.Tree as tree;
 ghost use Rattle.rt_app.specs.View.{app_of};
-ghost use Rattle.rt_inputs.specs.Inputs.{irq_of};
+ghost use Rattle.rt_inputs.specs.Inputs.{input_irq};
 ghost use Rattle.rt_inputs_audit.specs.Following.{IsNext};
 ghost use Rattle.rt_inputs_audit.specs.Given.{inputs_at};
 
@@ -46,7 +46,7 @@ fn number(app: &App, irq: u8) -> Option<u16>
 
 /// The number of the interrupt that the task of an input binds.
 fn irq_of(app: &App, input: &Input) -> Option<u16>
-    ensures { result ≡ irq_of (app_of app.now) input.now }
+    ensures { result ≡ input_irq (app_of app.now) input.now }
 {
     match app.task(input.task) {
         None => None,
@@ -59,7 +59,7 @@ fn irq_of(app: &App, input: &Input) -> Option<u16>
 
 /// Whether the task of an input binds an interrupt.
 fn is_of(app: &App, input: &Input, irq: u16) -> bool
-    ensures { result ≡ is_some_and (λ n. n == irq) (irq_of (app_of app.now) input.now) }
+    ensures { result ≡ is_some_and (λ n. n == irq) (input_irq (app_of app.now) input.now) }
 {
     match irq_of(app, input) {
         None => false,

@@ -3,8 +3,8 @@
 use Rattle.std.proofs.Common.{◌≡◌, ℕ, min, List, [], ◌∷◌, refl, sym, ap, ◌∙◌, arith}
 use Rattle.rt_code.specs.Image.{Image}
 use Rattle.rt_points.specs.ExecutionPriority.{lowered_value, owner_value, execution_priority}
-use Rattle.rt_points.specs.declared.point.Kind.{Kind}
-use Rattle.rt_points.specs.declared.point.Kind.TheVariants.{Mark, Raise, Mask}
+use Rattle.rt_points.specs.declared.point.SectionKind.{SectionKind}
+use Rattle.rt_points.specs.declared.point.SectionKind.TheVariants.{Mark, Raise, Mask}
 use Rattle.rt_points.specs.declared.point.Opened.{Opened}
 use Rattle.rt_points.specs.declared.point.Owner.{Owner}
 
@@ -23,7 +23,7 @@ min_zero v = omega arith
 min_swap : (u v n : ℕ) → min u (min v n) ≡ min v (min u n)
 min_swap u v n = omega arith
 
-swapped : (k j : Kind) (v : ℕ) → lowered_value k (lowered_value j v) ≡ lowered_value j (lowered_value k v)
+swapped : (k j : SectionKind) (v : ℕ) → lowered_value k (lowered_value j v) ≡ lowered_value j (lowered_value k v)
 swapped Mark j v = refl
 swapped (Raise s u) Mark v = refl
 swapped (Raise s u) (Raise t w) v = min_swap u w v
@@ -32,7 +32,7 @@ swapped (Mask s) Mark v = refl
 swapped (Mask s) (Raise t w) v = sym (min_zero w)
 swapped (Mask s) (Mask t) v = refl
 
-pub priority_over_more : (k : Kind) (value : ℕ) (outer : List Opened)
+pub priority_over_more : (k : SectionKind) (value : ℕ) (outer : List Opened)
     → priority_over (lowered_value k value) outer ≡ lowered_value k (priority_over value outer)
 priority_over_more k value [] = refl
 priority_over_more k value (o ∷ outer) =

@@ -20,7 +20,7 @@ use Rattle.rt_judge.specs.Inside.Walks.{more, if_so, next, next_spots, waits, go
 use Rattle.rt_judge.specs.Inside.Walks.{waits_by, behind_by}
 use Rattle.rt_judge.specs.Inside.Walks.{reached_by, waiting_in, behind_in, IsSoundWalk, IsFollowed, IsTakenIn}
 use Rattle.rt_judge.specs.declared.nesting.Nesting.{Nesting}
-use Rattle.rt_judge.specs.declared.table.Table.{Table}
+use Rattle.rt_judge.specs.declared.table.NestingTable.{NestingTable}
 use Rattle.rt_judge.specs.declared.walk.Visit.{Visit}
 use Rattle.rt_judge.specs.declared.walk.Walk.{Walk}
 use Rattle.rt_judge.proofs.Nestings.{stands_on, same_inside, same_spots, all_stand, same_grows, spots_more}
@@ -82,7 +82,7 @@ followed_once old new is visit grows sound stands table waits goes =
           (same_spots was now grows old.behind.items sound.behind);
       sound = record {
         table = λ a n at. stands_on was now grows n
-            (sound.table a n (subst (λ (t : Table). found t a ≡ Some n) table at));
+            (sound.table a n (subst (λ (t : NestingTable). found t a ≡ Some n) table at));
         waiting = subst (AllStand now) (sym waits) (more_stand now (not is) visit old.waiting.items stands
             (all_stand was now grows old.waiting.items sound.waiting));
         behind = subst (AllStand now) (sym goes) (more_stand now is visit old.behind.items stands
@@ -188,7 +188,7 @@ module _ (old : Walk) (line : Instr × Option Note) (owner : Owner) (visit : Vis
           nestings_last)
 
 -- what is reached, in a list that has grown
-same_reached : (old new : List Opened) (grows : Grows old new) (table : Table)
+same_reached : (old new : List Opened) (grows : Grows old new) (table : NestingTable)
     → ((a : ℕ) (n : Nesting) → found table a ≡ Some n → Stands old n) → (address : ℕ)
     → reached_in new table address ≡ reached_in old table address
 same_reached old new grows table stand address = elim (found table address) as
@@ -237,7 +237,7 @@ module _ (img : Image) (owner : Owner) (old mid new : Walk) (visit : Visit) (sou
 
     now_reached : (address : ℕ) → reached_by new address ≡ reached_in was mid.table address
     now_reached address =
-        ap (λ (t : Table). reached_in new.nestings.opened.items t address) followed.table
+        ap (λ (t : NestingTable). reached_in new.nestings.opened.items t address) followed.table
         ∙ same_reached was new.nestings.opened.items grown mid.table mid_table address
 
     pub taken_in : IsTakenIn img owner (reached_by old) old.table.rows.items (waiting_in old) (behind_in old) new
@@ -256,12 +256,13 @@ module _ (img : Image) (owner : Owner) (old mid new : Walk) (visit : Visit) (sou
           (ap (λ (xs : List Opened). spots xs mid.behind.items) opened_same ∙ ap (λ w. spots was w.items) behind_same)
           ∙ ap (λ (s : Spot). behind_in old ++ goes_behind img owner s) same_spot;
       sound = followed.sound;
-      size = ap (λ (t : Table). length t.rows.items) followed.table ∙ put.size;
-      fewer = λ within. put.fewer within ∙ ap (λ (t : Table). suc (empty_rows t.rows.items)) (sym followed.table);
-      outside = λ past. ap (λ (t : Table). empty_rows t.rows.items) followed.table ∙ put.outside past;
+      size = ap (λ (t : NestingTable). length t.rows.items) followed.table ∙ put.size;
+      fewer =
+          λ within. put.fewer within ∙ ap (λ (t : NestingTable). suc (empty_rows t.rows.items)) (sym followed.table);
+      outside = λ past. ap (λ (t : NestingTable). empty_rows t.rows.items) followed.table ∙ put.outside past;
     }
 
 -- nothing is reached by a table without anything
-pub none_reached : (opened : List Opened) (count : ℕ) (table : Table) → IsEmptyTable count table → (address : ℕ)
+pub none_reached : (opened : List Opened) (count : ℕ) (table : NestingTable) → IsEmptyTable count table → (address : ℕ)
     → reached_in opened table address ≡ None
 none_reached opened count table empty address = ap (option_map (inside_of opened)) (empty.none address)

@@ -18,10 +18,10 @@ use Rattle.rt_judge.specs.Inside.Nestings.{Stands, inside_of}
 use Rattle.rt_judge.specs.Inside.Points.{point}
 use Rattle.rt_judge.specs.Inside.Tables.{empty_rows, IsEmptyTable}
 use Rattle.rt_judge.specs.Inside.Visits.{Spot, point_of, spot_in, spots, AllStand}
-use Rattle.rt_judge.specs.Inside.Walks.{Has, ArePoints, IsWalking, IsSound, IsTakenIn, reached_in, waits}
+use Rattle.rt_judge.specs.Inside.Walks.{Has, ArePoints, IsWalking, AllNestingsStand, IsTakenIn, reached_in, waits}
 use Rattle.rt_judge.specs.declared.findings.Findings.{Findings}
 use Rattle.rt_judge.specs.declared.nesting.Nesting.{Nesting}
-use Rattle.rt_judge.specs.declared.table.Table.{Table}
+use Rattle.rt_judge.specs.declared.table.NestingTable.{NestingTable}
 use Rattle.rt_judge.specs.declared.walk.Visit.{Visit}
 use Rattle.rt_judge.specs.declared.walk.Visits.{Visits}
 use Rattle.rt_judge.specs.declared.walk.Walk.{Walk}
@@ -41,7 +41,7 @@ absent_found opened (Some n) absent = absurd (none_some_inside (inside_of opened
     none_some_inside inside e = cc
 
 -- it begins with nothing
-pub looks_first : (img : Image) (owner : Owner) (opened : List Opened) (table : Table) (ws : List Visit)
+pub looks_first : (img : Image) (owner : Owner) (opened : List Opened) (table : NestingTable) (ws : List Visit)
     (found : Findings) → IsEmptyTable (length img.code) table → AllStand opened ws
     → ArePoints img owner (spots opened ws)
     → IsLooking img owner (spots opened ws) opened table ws [] found found
@@ -58,7 +58,7 @@ looks_first img owner opened table ws found empty stand points = record {
   finds = λ ps found_all. subst (λ (qs : List Point). Finds img qs found) (sym (append-nil ps)) found_all;
 }
 
-module _ (img : Image) (owner : Owner) (starts : List Spot) (opened : List Opened) (table : Table)
+module _ (img : Image) (owner : Owner) (starts : List Spot) (opened : List Opened) (table : NestingTable)
     (ws rest bs : List Visit) (visit : Visit) (pop : ws ≡ rest ++ visit ∷ []) (old now : Findings)
     (before : IsLooking img owner starts opened table ws bs old now) where
   abbrev here : Spot
@@ -72,7 +72,7 @@ module _ (img : Image) (owner : Owner) (starts : List Spot) (opened : List Opene
   stand : AllStand opened (rest ++ visit ∷ [])
   stand = subst (AllStand opened) pop before.sound.waiting
 
-  pub popped_sound : IsSound opened table rest bs
+  pub popped_sound : AllNestingsStand opened table rest bs
   popped_sound = record {
     table = before.sound.table;
     waiting = all_front (λ (v : Visit). Stands opened v.nesting) rest visit stand;
@@ -136,7 +136,8 @@ module _ (img : Image) (owner : Owner) (starts : List Spot) (opened : List Opene
         (cases_lt visit.address (length table.rows.items))
 
 -- at its end
-pub looks_last : (img : Image) (owner : Owner) (starts : List Spot) (table : Table) (ws : List Visit) (bs : Visits)
+pub looks_last : (img : Image) (owner : Owner) (starts : List Spot) (table : NestingTable) (ws : List Visit)
+    (bs : Visits)
     (old now : Findings) → length ws ≡ 0
     → IsLooking img owner starts bs.nestings.opened.items table ws bs.list.items old now
     → LooksFrom img owner starts old now bs

@@ -8,7 +8,7 @@ ghost use Rattle.rt_judge.specs.Inside.Values.{outside_value};
 
 use rt_code::{Handler, Image};
 use rt_ids::limits::THREAD_VALUE;
-use rt_points::{Kind, Opened, Owner};
+use rt_points::{Opened, Owner, SectionKind};
 
 /// The handler of the interrupt at an index, where it is enabled.
 pub fn handler_at(image: &Image, index: usize) -> Option<Handler>
@@ -58,13 +58,13 @@ pub fn frame_of(image: &Image, owner: Owner) -> u32
 }
 
 /// The execution priority inside a section of a kind.
-pub fn lowered_value(kind: Kind, value: u32) -> u32
+pub fn lowered_value(kind: SectionKind, value: u32) -> u32
     ensures { result ≡ lowered_value kind value }
 {
     match kind {
-        Kind::Mark => value,
-        Kind::Raise(_, raised) => raised.min(value),
-        Kind::Mask(_) => 0,
+        SectionKind::Mark => value,
+        SectionKind::Raise(_, raised) => raised.min(value),
+        SectionKind::Mask(_) => 0,
     }
 }
 

@@ -9,7 +9,7 @@ ghost use Rattle.rt_judge.specs.Inside.Nestings as spec;
 
 use rt_code::{Instr, Note};
 use rt_ids::{NoMemory, Section};
-use rt_points::{Kind, Opened};
+use rt_points::{Opened, SectionKind};
 use std::alloc::Global;
 
 /// Where the sections that are open at an address stand in a list of nestings.
@@ -84,7 +84,12 @@ impl Nestings {
     }
 
     /// With one more section open.
-    fn enter(&mut self, nesting: Nesting, section: Section, kind: Kind) -> Result<Nesting, NoMemory>
+    fn enter(
+        &mut self,
+        nesting: Nesting,
+        section: Section,
+        kind: SectionKind,
+    ) -> Result<Nesting, NoMemory>
         requires { spec.Stands self.old.opened.items nesting }
         ensures { IfOk result (λ behind. spec.IsSaid self.old.opened.items self.new.opened.items behind
             (record { section = section; kind = kind } ∷ spec.inside_of self.old.opened.items nesting)) }
@@ -116,13 +121,13 @@ impl Nestings {
 }
 
 /// How the instruction on which a section is entered holds others off.
-pub fn kind_of(instr: Instr) -> Kind
+pub fn kind_of(instr: Instr) -> SectionKind
     ensures { result ≡ kind_of instr }
 {
     match instr {
-        Instr::Raise(slot, value) => Kind::Raise(slot, value),
-        Instr::Mask(slot) => Kind::Mask(slot),
-        _ => Kind::Mark,
+        Instr::Raise(slot, value) => SectionKind::Raise(slot, value),
+        Instr::Mask(slot) => SectionKind::Mask(slot),
+        _ => SectionKind::Mark,
     }
 }
 

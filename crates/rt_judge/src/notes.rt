@@ -7,7 +7,7 @@ ghost use Rattle.rt_judge.specs.Inside.Points.{point};
 use crate::execution_priority::execution_priority;
 use rt_code::{Image, Instr, Note};
 use rt_ids::{BodyId, Section};
-use rt_points::{Kind, Opened, Owner};
+use rt_points::{Opened, Owner, SectionKind};
 
 /// Whether a section may be entered on an instruction.
 fn opens(instr: &Instr) -> bool
@@ -17,13 +17,13 @@ fn opens(instr: &Instr) -> bool
 }
 
 /// Whether an instruction undoes how a section was entered.
-fn closes(instr: &Instr, kind: Kind) -> bool
+fn closes(instr: &Instr, kind: SectionKind) -> bool
     ensures { IsTrue result ↔ (instr.now ≡ rules.closing_instr kind) }
 {
     match (kind, *instr) {
-        (Kind::Mark, Instr::Mark) => true,
-        (Kind::Raise(slot, _), Instr::Restore(from)) => slot == from,
-        (Kind::Mask(slot), Instr::Unmask(from)) => slot == from,
+        (SectionKind::Mark, Instr::Mark) => true,
+        (SectionKind::Raise(slot, _), Instr::Restore(from)) => slot == from,
+        (SectionKind::Mask(slot), Instr::Unmask(from)) => slot == from,
         _ => false,
     }
 }
@@ -84,12 +84,12 @@ fn written_slot(instr: &Instr) -> Option<u32>
 }
 
 /// Whether a slot holds what a mask was before a section of the kind.
-fn saves(kind: Kind, slot: u32) -> bool
+fn saves(kind: SectionKind, slot: u32) -> bool
     ensures { IsTrue result ↔ rules.Saves kind slot }
 {
     match kind {
-        Kind::Mark => false,
-        Kind::Raise(saved, _) | Kind::Mask(saved) => slot == saved,
+        SectionKind::Mark => false,
+        SectionKind::Raise(saved, _) | SectionKind::Mask(saved) => slot == saved,
     }
 }
 
@@ -104,10 +104,10 @@ fn is_unsaved(opened: &[Opened], instr: &Instr) -> bool
 }
 
 /// Whether a section of a kind masks by PRIMASK.
-fn is_mask(kind: Kind) -> bool
+fn is_mask(kind: SectionKind) -> bool
     ensures { IsTrue result ↔ rules.IsMask kind }
 {
-    matches!(kind, Kind::Mask(_))
+    matches!(kind, SectionKind::Mask(_))
 }
 
 /// Whether a mask is set where it has an effect and can be put back.

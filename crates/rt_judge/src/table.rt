@@ -10,19 +10,19 @@ use std::collections::BTreeMap;
 
 /// The nesting at each address that an owner comes to.
 #[derive(Drop)]
-pub struct Table {
+pub struct NestingTable {
     /// By the addresses of the code, where one is there.
     pub rows: Vec<Option<Nesting>>,
     /// At the addresses past the code.
     pub outside: BTreeMap<u32, Nesting>,
 }
 
-impl Table {
+impl NestingTable {
     /// For code of this length, with nothing in it.
-    pub fn new(alloc: Global, length: usize) -> Result<Table, NoMemory>
+    pub fn new(alloc: Global, length: usize) -> Result<NestingTable, NoMemory>
         ensures { IfOk result (spec.IsEmptyTable length) }
     {
-        Ok(Table {
+        Ok(NestingTable {
             rows: Vec::from_elem(alloc, None, length)?,
             outside: BTreeMap::new(alloc),
         })

@@ -14,7 +14,7 @@ ghost use Rattle.rt_judge.specs.Inside.Looks.{LooksFrom};
 use crate::exits::{Exits, ends_init, exits_of, line_at};
 use crate::findings::Findings;
 use crate::nesting::{Nesting, Nestings};
-use crate::table::Table;
+use crate::table::NestingTable;
 use rt_code::{Image, Line};
 use rt_ids::NoMemory;
 use rt_points::{MOST_OPEN, Owner};
@@ -40,7 +40,7 @@ pub struct Walk {
     /// The nestings that the table and the visits name.
     pub nestings: Nestings,
     /// The addresses that were come to, each with the sections that are open there.
-    pub table: Table,
+    pub table: NestingTable,
     /// What is yet to be looked at.
     pub waiting: Vec<Visit>,
     /// Where another owner goes on.
@@ -173,7 +173,7 @@ pub fn walk_from(
 {
     let mut walk = Walk {
         nestings: starts.nestings,
-        table: Table::new(alloc, image.code.len())?,
+        table: NestingTable::new(alloc, image.code.len())?,
         waiting: starts.list,
         behind: Vec::new(alloc),
     };

@@ -18,7 +18,7 @@ use Rattle.rt_app.specs.BodyCost.{cost_measure, cost_of}
 use Rattle.rt_laws.specs.Services.{service_at, priority_of, timer_number, handler_cost}
 use Rattle.rt_laws.specs.State.{reached_values, Init, Serving, Job, State, new_job, first_values, first}
 use Rattle.rt_laws.specs.Preemption.{system_ceiling, candidate}
-use Rattle.rt_laws.specs.Giving.{item_given, gives}
+use Rattle.rt_laws.specs.Giving.{item_given, item_to_come}
 use Rattle.rt_laws.specs.Allowed.{MayStep, Turn, May, state_after_start, after}
 use Rattle.rt_laws.specs.Observer.{Seen, Observer, outside, first_sight, sees}
 use Rattle.rt_laws.specs.Waiting.{stepper, is_take, is_return}
@@ -134,7 +134,7 @@ module _ (app : App) (accepted : IsAccepted app) where
     abbrev HappensAt : Label → Type 0
     HappensAt label = Happens app s v label (after app s label) (sees app v label)
 
-    pub given_step : (w : What) → Turn app s → gives s ≡ Some w
+    pub given_step : (w : What) → Turn app s → item_to_come s ≡ Some w
         → Step app s v (Some w) (after app s (Stepped (Some w))) (sees app v (Stepped (Some w)))
     given_step w turn is =
         turn_given s v s.jobs v.jobs w refl refl well.stack well.pending well.queued well.order turn.step turn.quiet is

@@ -6,7 +6,7 @@ use Rattle.rt_trace.specs.declared.item.What.TheVariants as what
 use Rattle.rt_app.specs.Tree.{App}
 use Rattle.rt_laws.specs.State.{State, Job}
 use Rattle.rt_laws.specs.Preemption.{system_ceiling, candidate}
-use Rattle.rt_laws.specs.Giving.{gives}
+use Rattle.rt_laws.specs.Giving.{item_to_come}
 use Rattle.rt_laws.specs.Allowed.{after}
 
 -- what the machine is at: its system ceiling, the interrupt that is to be taken, and the item of the running job's next
@@ -17,7 +17,7 @@ pub record Moment : Type 0 where
   pub gives : Option What
 
 abbrev pub moment : App → State → Moment
-moment app s = record { ceiling = system_ceiling app s.jobs; candidate = candidate app s; gives = gives s }
+moment app s = record { ceiling = system_ceiling app s.jobs; candidate = candidate app s; gives = item_to_come s }
 
 -- a step that gives an item
 abbrev pub shows : What → Label
@@ -37,7 +37,7 @@ first_of None (Some w) next = w ∷ next w
 -- so many items of such a run
 abbrev pub play : ℕ → App → State → List What
 play zero app s = []
-play (suc n) app s = first_of (candidate app s) (gives s) (λ w. play n app (after app s (Stepped (Some w))))
+play (suc n) app s = first_of (candidate app s) (item_to_come s) (λ w. play n app (after app s (Stepped (Some w))))
 
 -- and the state behind them
 abbrev pub labels_of : List What → List Label

@@ -11,7 +11,7 @@ use Rattle.rt_app.specs.Doings.{handler_doing}
 use Rattle.rt_laws.specs.Services.{is_declared, service_at, timer_number, handler_cost}
 use Rattle.rt_laws.specs.State.{Role, Waiting, Serving, Job, State, new_job, reached_values}
 use Rattle.rt_laws.specs.Preemption.{candidate}
-use Rattle.rt_laws.specs.Giving.{is_due, gives}
+use Rattle.rt_laws.specs.Giving.{is_due, item_to_come}
 use Rattle.rt_laws.specs.Acting.{state_after_pend, job_after_step, state_after_doing}
 
 -- a cost has a step left; the thread that waits has no cost
@@ -37,7 +37,7 @@ May app s Ticked = s.owing ≡ false
 May app s Rang = s.owing ≡ true
 May app s (Stepped None) = Turn app s
 May app s (Stepped (Some (what.Take irq depth))) = (s.owing ≡ false) × (candidate app s ≡ Some irq)
-May app s (Stepped (Some w)) = Turn app s × (gives s ≡ Some w)
+May app s (Stepped (Some w)) = Turn app s × (item_to_come s ≡ Some w)
 
 -- the handler of an interrupt starts as a job
 abbrev pub state_after_start : App → State → ℕ → Option Service → State

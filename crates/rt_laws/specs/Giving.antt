@@ -7,7 +7,8 @@ use Rattle.std.specs.Prelude.{ℕ, Bool, nat_le, if◌then◌else◌, List, [], 
 use Rattle.rt_ids.specs.Lists.{is_some_and}
 use Rattle.rt_actions.specs.Location.{Guarded}
 use Rattle.rt_actions.specs.Content.{Values, number, delays, least_instant}
-use Rattle.rt_actions.specs.Action.{Action, Enters, Leaves, Emits, Posts, Clocks, Places, FindsFull, Readies, Starts, Frees}
+use Rattle.rt_actions.specs.Action.{Action, Enters, Leaves, Emits, Posts, Clocks, Places, FindsFull, Readies, Starts}
+use Rattle.rt_actions.specs.Action.{Frees}
 use Rattle.rt_actions.specs.Action.{Arms, Fires, Cancels, Moves, SetsAlarm, Ends, Returns}
 use Rattle.rt_actions.specs.Doing.{Doing, over, does}
 use Rattle.rt_ids.specs.declared.ids.Section.{Section}
@@ -67,5 +68,5 @@ item_given s [] = None
 item_given s (job ∷ others) = next_item s job.role job.rest
 
 -- the item that comes next in a state, where the running job has a next action that shows one
-abbrev pub gives : State → Option What
-gives s = item_given s s.jobs
+abbrev pub item_to_come : State → Option What
+item_to_come s = item_given s s.jobs

@@ -19,7 +19,7 @@ use Rattle.rt_lex.specs.Spelling.{is_long_sign, is_short_sign}
 use Rattle.rt_lex.specs.Token.{Token}
 use Rattle.rt_lex.specs.Front.{Front, skips, makes, comment, front_of, name_front, number_front, sign_front, hex_digits}
 use Rattle.rt_lex.specs.Tokens.{tokens, tokens_at, with_front}
-use Rattle.rt_lex.specs.Gap.{Standing, Outside, Slash, Inside, Lost, after_byte, standing_after, HaveGaps}
+use Rattle.rt_lex.specs.Gap.{GapState, Outside, Slash, Inside, Lost, after_byte, standing_after, HaveGaps}
 use Rattle.rt_lex.proofs.Lexing.{takes, by_test}
 
 -- an automaton that is inside a comment is at the end of its line
@@ -28,7 +28,7 @@ Stops [] = Unit {0}
 Stops (b ∷ text) = b ≡ 10
 
 -- the states that the automaton may have before this text
-abbrev MayStand : Standing → List ℕ → Type 0
+abbrev MayStand : GapState → List ℕ → Type 0
 MayStand Outside text = Unit {0}
 MayStand Slash text = ⊥
 MayStand Inside text = Stops text
@@ -41,7 +41,7 @@ inside_at b text true e h = refl
 inside_at b text false e h =
     let n : 1 + prefix_len (λ c. not (eqb c 10)) text ≡ suc (prefix_len (λ c. not (eqb c 10)) text) = omega arith in
     let step : after_byte Inside b ≡ Inside = rw e refl in
-    rw n (ap (λ (s : Standing). fold after_byte s (take_while (λ c. not (eqb c 10)) text)) step ∙ h)
+    rw n (ap (λ (s : GapState). fold after_byte s (take_while (λ c. not (eqb c 10)) text)) step ∙ h)
 
 -- a comment's bytes stay inside
 stays_inside : (text : List ℕ) → fold after_byte Inside (comment text) ≡ Inside
@@ -62,17 +62,17 @@ comment_stops [] = tt
 comment_stops (b ∷ text) = stops_at b text (eqb b 10) refl (comment_stops text)
 
 -- what a front does to a state that the automaton may have before it
-pub record Skipped (text : List ℕ) (front : Front) (s : Standing) : Type 0 where
+pub record Skipped (text : List ℕ) (front : Front) (s : GapState) : Type 0 where
   pub may : MayStand (fold after_byte s (take front.len text)) (drop front.len text)
 
-pub record Made (text : List ℕ) (s : Standing) : Type 0 where
+pub record Made (text : List ℕ) (s : GapState) : Type 0 where
   pub outside : s ≡ Outside
   pub plain : starts_with eqb text (47 ∷ 47 ∷ []) ≡ false
 
-abbrev Does : List ℕ → Standing → Front → Type 0
+abbrev Does : List ℕ → GapState → Front → Type 0
 Does text s front = ((front.kind ≡ None) × Skipped text front s) ⊎ ((front.kind ≡ None → ⊥) × Made text s)
 
-blank_does : (b : ℕ) (text : List ℕ) (s : Standing) → MayStand s (b ∷ text) → is_blank b ≡ true
+blank_does : (b : ℕ) (text : List ℕ) (s : GapState) → MayStand s (b ∷ text) → is_blank b ≡ true
     → Does (b ∷ text) s (skips 1)
 blank_does b text Outside may e = inl (refl, record { may = rw e tt })
 blank_does b text Slash may e = absurd may
@@ -88,7 +88,7 @@ slashes b x rest h k =
     subst (λ (c : ℕ). fold after_byte Outside (comment (c ∷ x ∷ rest)) ≡ Inside) h
     (subst (λ (c : ℕ). fold after_byte Outside (comment (47 ∷ c ∷ rest)) ≡ Inside) k there)
 
-stands_inside : (s : Standing) (text : List ℕ) → s ≡ Inside → Stops text → MayStand s text
+stands_inside : (s : GapState) (text : List ℕ) → s ≡ Inside → Stops text → MayStand s text
 stands_inside s text e h = rw e h
 
 comment_skips : (b : ℕ) (text : List ℕ) → starts_with eqb (b ∷ text) (47 ∷ 47 ∷ []) ≡ true
@@ -105,7 +105,7 @@ comment_skips b (x ∷ rest) e =
           (comment_stops whole));
     }
 
-comment_does : (b : ℕ) (text : List ℕ) (s : Standing) → MayStand s (b ∷ text) → is_blank b ≡ false
+comment_does : (b : ℕ) (text : List ℕ) (s : GapState) → MayStand s (b ∷ text) → is_blank b ≡ false
     → starts_with eqb (b ∷ text) (47 ∷ 47 ∷ []) ≡ true → Does (b ∷ text) s (skips (length (comment (b ∷ text))))
 comment_does b text Outside may other e = inl (refl, comment_skips b text e)
 comment_does b text Slash may other e = absurd may
@@ -113,7 +113,7 @@ comment_does b text Inside may other e = absurd (true_and_false (is_blank 10) re
     (subst (λ (c : ℕ). is_blank c ≡ false) may other))
 comment_does b text Lost may other e = absurd may
 
-token_does : (b : ℕ) (text : List ℕ) (s : Standing) → MayStand s (b ∷ text) → is_blank b ≡ false
+token_does : (b : ℕ) (text : List ℕ) (s : GapState) → MayStand s (b ∷ text) → is_blank b ≡ false
     → starts_with eqb (b ∷ text) (47 ∷ 47 ∷ []) ≡ false → Made (b ∷ text) s
 token_does b text Outside may other e = record { outside = refl; plain = e }
 token_does b text Slash may other e = absurd may
@@ -121,7 +121,7 @@ token_does b text Inside may other e = absurd (true_and_false (is_blank 10) refl
     (subst (λ (c : ℕ). is_blank c ≡ false) may other))
 token_does b text Lost may other e = absurd may
 
-front_does : (b : ℕ) (text : List ℕ) (s : Standing) → MayStand s (b ∷ text) → Does (b ∷ text) s (front_of b (b ∷ text))
+front_does : (b : ℕ) (text : List ℕ) (s : GapState) → MayStand s (b ∷ text) → Does (b ∷ text) s (front_of b (b ∷ text))
 front_does b text s may =
     let whole = b ∷ text in
     by_test (Does whole s) (is_blank b) (skips 1) _ (λ e. blank_does b text s may e) (λ other.
@@ -137,7 +137,7 @@ front_does b text s may =
     (λ f. inr ((λ n. cc), made))))))
 
 -- a state that the automaton may have at the end of the text
-last_gap : (s : Standing) → MayStand s [] → (s ≡ Lost → ⊥) × (s ≡ Slash → ⊥)
+last_gap : (s : GapState) → MayStand s [] → (s ≡ Lost → ⊥) × (s ≡ Slash → ⊥)
 last_gap Outside may = (λ e. cc, λ e. cc)
 last_gap Slash may = absurd may
 last_gap Inside may = (λ e. cc, λ e. cc)
@@ -164,7 +164,7 @@ longer src from at n text gap r fits may = record {
   whole = r.whole ∙ ap (λ (t : List ℕ). gap ++ t) (sym (take-append-drop n text))
       ∙ sym (append_assoc gap (take n text) (drop n text));
   place = omega (arith, r.place, length-append gap (take n text), length-take-le n text fits);
-  may = subst (λ (s : Standing). MayStand s (drop n text)) (sym (fold-append after_byte Outside gap (take n text))) may;
+  may = subst (λ (s : GapState). MayStand s (drop n text)) (sym (fold-append after_byte Outside gap (take n text))) may;
 }
 
 none_yet : (src : List ℕ) (at : ℕ) (text : List ℕ) → drop at src ≡ text → Reads src at at text []

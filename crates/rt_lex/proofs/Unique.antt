@@ -19,7 +19,7 @@ use Rattle.rt_lex.specs.Token.{Token}
 use Rattle.rt_lex.specs.Tokens.{tokens}
 use Rattle.rt_lex.specs.Split.{is_run, is_hex, is_number, is_sign, is_whole, is_foreign, has_kind, LieIn, IsSlice}
 use Rattle.rt_lex.specs.Split.{IsLongest}
-use Rattle.rt_lex.specs.Gap.{Standing, Outside, Slash, Inside, Lost, after_byte, standing_after, HaveGaps, IsLastGap}
+use Rattle.rt_lex.specs.Gap.{GapState, Outside, Slash, Inside, Lost, after_byte, standing_after, HaveGaps, IsLastGap}
 use Rattle.rt_lex.proofs.Parts.{tokens_lie, tokens_longest}
 use Rattle.rt_lex.proofs.Gaps.{tokens_have_gaps}
 
@@ -253,7 +253,7 @@ same_kind kind.Foreign kind.Sign text h i = absurd (foreign_no_whole text h (who
 same_kind kind.Foreign kind.Foreign text h i = refl
 
 -- A reading of a gap that meets a token is in no gap any more.
-abbrev Stuck : Standing → Type 0
+abbrev Stuck : GapState → Type 0
 Stuck Outside = ⊥
 Stuck Slash = Unit {0}
 Stuck Inside = ⊥
@@ -263,8 +263,8 @@ lost : (text : List ℕ) → fold after_byte Lost text ≡ Lost
 lost [] = refl
 lost (b ∷ text) = lost text
 
-stuck_lost : (s : Standing) (text : List ℕ) → s ≡ Lost → Stuck (fold after_byte s text)
-stuck_lost s text e = subst Stuck (sym (ap (λ (s : Standing). fold after_byte s text) e ∙ lost text)) tt
+stuck_lost : (s : GapState) (text : List ℕ) → s ≡ Lost → Stuck (fold after_byte s text)
+stuck_lost s text e = subst Stuck (sym (ap (λ (s : GapState). fold after_byte s text) e ∙ lost text)) tt
 
 slash_at : (c : ℕ) (text : List ℕ) (test : Bool) → eqb c 47 ≡ test → starts_with eqb (47 ∷ c ∷ text) (47 ∷ 47 ∷ [])
     ≡ false → Stuck (fold after_byte Slash (c ∷ text))
@@ -282,7 +282,7 @@ stuck_at : (b : ℕ) (text : List ℕ) (test : Bool) → eqb b 47 ≡ test → i
 stuck_at b text true e dark plain =
     let step : after_byte Outside b ≡ Slash = rw (dark, e) refl in
     let p = subst (λ (c : ℕ). starts_with eqb (c ∷ text) (47 ∷ 47 ∷ []) ≡ false) (eqb-true b 47 e) plain in
-    subst Stuck (sym (ap (λ (s : Standing). fold after_byte s text) step)) (slash_next text p)
+    subst Stuck (sym (ap (λ (s : GapState). fold after_byte s text) step)) (slash_next text p)
 stuck_at b text false e dark plain = let step : after_byte Outside b ≡ Lost = rw (dark, e) refl in
     stuck_lost (after_byte Outside b) text step
 
@@ -334,7 +334,7 @@ crosses src from t before s gap plain n far =
     (s.first ∷ take (n - suc (t.at - from)) s.rest) =
     ap standing_after whole ∙ fold-append after_byte Outside (take (t.at - from) (drop from src))
     (s.first ∷ take (n - suc (t.at - from)) s.rest)
-    ∙ ap (λ (x : Standing). fold after_byte x (s.first ∷ take (n - suc (t.at - from)) s.rest)) gap in
+    ∙ ap (λ (x : GapState). fold after_byte x (s.first ∷ take (n - suc (t.at - from)) s.rest)) gap in
     let p = no_slashes (n - suc (t.at - from)) s.first s.rest
     (subst (λ (l : List ℕ). starts_with eqb l (47 ∷ 47 ∷ []) ≡ false) s.here plain) in
     subst Stuck (sym read) (stuck_at s.first (take (n - suc (t.at - from)) s.rest) (eqb s.first 47) refl s.dark p)
@@ -345,7 +345,7 @@ crosses src from t before s gap plain n far =
     split_at : (n g : ℕ) → g < n → n ≡ g + suc (n - suc g)
     split_at n g h = omega (arith, h)
 
-stuck_no_gap : (s : Standing) → Stuck s → (s ≡ Lost → ⊥) → (s ≡ Slash → ⊥) → ⊥
+stuck_no_gap : (s : GapState) → Stuck s → (s ≡ Lost → ⊥) → (s ≡ Slash → ⊥) → ⊥
 stuck_no_gap Outside h f g = h
 stuck_no_gap Slash h f g = g refl
 stuck_no_gap Inside h f g = h

@@ -7,21 +7,21 @@ use Rattle.rt_lex.specs.Token.{Token}
 
 -- the state of an automaton that reads blanks and comments: outside of comments, after one slash, inside a comment, or
 -- after a byte that is in neither. A slash is 47, a line feed 10.
-pub data Standing : Type 0 where
-  Outside : Standing
-  Slash : Standing
-  Inside : Standing
-  Lost : Standing
+pub data GapState : Type 0 where
+  Outside : GapState
+  Slash : GapState
+  Inside : GapState
+  Lost : GapState
 
 -- the state after one more byte
-abbrev pub after_byte : Standing → ℕ → Standing
+abbrev pub after_byte : GapState → ℕ → GapState
 after_byte Outside b = if is_blank b then Outside else if b == 47 then Slash else Lost
 after_byte Slash b = if b == 47 then Inside else Lost
 after_byte Inside b = if b == 10 then Outside else Inside
 after_byte Lost b = Lost
 
 -- the state after a text
-abbrev pub standing_after : List ℕ → Standing
+abbrev pub standing_after : List ℕ → GapState
 standing_after text = fold after_byte Outside text
 
 -- no more than blanks and comments, the last of which may lack its line feed

@@ -4,7 +4,7 @@ use Rattle.std.specs.List.{AllByRecursion, list_all}
 use Rattle.std.proofs.lemmas.Bool.{false≢true}
 use Rattle.std.proofs.lemmas.Option.{same_Some}
 use Rattle.rt_ids.specs.Names.{Names}
-use Rattle.rt_lines.specs.Operand.{Kind, Value, word}
+use Rattle.rt_lines.specs.Operand.{OperandKind, OperandValue, word}
 use Rattle.rt_lines.specs.Table.{Shape, Alone, One, Two, Three, OneOrTwo, AndNumbers, Row, Operand, operand_word}
 use Rattle.rt_lines.specs.Table.{IsSaid}
 use Rattle.rt_lines.specs.Table.{EachSaid, Agree, shape_of}
@@ -20,7 +20,8 @@ is_fixed (AndNumbers k most says) = false
 is_fixed shape = true
 
 module _ (names : Names) (P : Operand → Type 0)
-    (tells : (k : Kind) (v w : Value k) → P (k, v) → P (k, w) → word names k v ≡ word names k w → v ≡ w) where
+    (tells : (k : OperandKind) (v w : OperandValue k) → P (k, v) → P (k, w) → word names k v ≡ word names k w
+    → v ≡ w) where
   -- where two of these are not one thing, their words differ
   abbrev AreApart : {T : Type 0} → T → List Operand → T → List Operand → Type 0
   AreApart x os y ps =

@@ -13,7 +13,7 @@ use Rattle.std.specs.Prelude.{is_some}
 use Rattle.rt_lemmas.proofs.Lists.{find_has, mapped_at, found_passes, found}
 use Rattle.rt_lemmas.proofs.Membership.{all_at, all_from_members, contains_at}
 use Rattle.rt_ids.specs.Lists.{AreDifferent}
-use Rattle.rt_ids.specs.Names.{Names, AreNames, irq_of, task_of, resource_of}
+use Rattle.rt_ids.specs.Names.{Names, AreNames, irq_of, task_index, resource_of}
 use Rattle.rt_ids.specs.Naming.{irq_named, irq_name, task_name, resource_name, IsDeclared, IsTask}
 use Rattle.rt_ids.specs.Word.{IsName, is_identifier}
 
@@ -53,7 +53,7 @@ text_found texts i differ within =
     rw (index, lt-ltb i (length texts) within) refl
 
 pub task_found : (names : Names) (task : ℕ) → AreNames names → IsTask names task
-    → task_of names (task_name names task) ≡ Some task
+    → task_index names (task_name names task) ≡ Some task
 task_found names task are within = text_found names.tasks task are.tasks_differ within
 
 pub resource_found : (names : Names) (resource : ℕ) → AreNames names → resource < length names.shared

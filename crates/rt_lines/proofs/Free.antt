@@ -9,8 +9,8 @@ use Rattle.rt_ids.specs.declared.ids.Section.{Section}
 use Rattle.rt_ids.specs.declared.ids.Section.TheVariants as section
 use Rattle.rt_ids.specs.Names.{Names}
 use Rattle.rt_ids.specs.Naming.{irq_named, irq_name, task_name, section_name}
-use Rattle.rt_lines.specs.Operand.{Kind, Number, IrqName, FirstIrqName, TaskName, BodyName, LockName, QueueName}
-use Rattle.rt_lines.specs.Operand.{SectionName, Value, word}
+use Rattle.rt_lines.specs.Operand.{OperandKind, Number, IrqName, FirstIrqName, TaskName, BodyName, LockName, QueueName}
+use Rattle.rt_lines.specs.Operand.{SectionName, OperandValue, word}
 use Rattle.rt_lines.specs.Table.{Operand, operand_word}
 use Rattle.rt_lines.proofs.Words.{is_word_byte, IsFreeOf, word_free, decimal_bytes}
 
@@ -46,7 +46,7 @@ module _ (byte : ℕ) (none : is_word_byte byte ≡ false) (names : Names) (free
       (word_free byte (codes "ready.") none refl) (word_free byte (decimal p) none (decimal_bytes p))
   section_free section.Timer = word_free byte (codes "timer.0") none refl
 
-  pub value_free : (k : Kind) (v : Value k) → IsFreeOf byte (word names k v)
+  pub value_free : (k : OperandKind) (v : OperandValue k) → IsFreeOf byte (word names k v)
   value_free (Number bound) n = word_free byte (decimal n) none (decimal_bytes n)
   value_free IrqName irq = irq_free irq
   value_free FirstIrqName irq = irq_free irq

@@ -16,7 +16,7 @@ use Rattle.rt_lemmas.proofs.Lists.{find_has, mapped_at, found_passes}
 use Rattle.rt_lemmas.proofs.Membership.{all_at}
 use Rattle.rt_lemmas.proofs.Indices.{get_left}
 use Rattle.rt_ids.specs.Lists.{AreDifferent}
-use Rattle.rt_ids.specs.Names.{Names, AreNames, irq_of, task_of, resource_of}
+use Rattle.rt_ids.specs.Names.{Names, AreNames, irq_of, task_index, resource_of}
 use Rattle.rt_ids.specs.Naming.{irq_named, irq_name, task_name, resource_name, section_name, IsDeclared}
 use Rattle.rt_ids.specs.Word.{is_identifier}
 use Rattle.rt_ids.specs.declared.ids.BodyId.TheVariants as body
@@ -24,8 +24,8 @@ use Rattle.rt_ids.specs.declared.ids.Section.{Section}
 use Rattle.rt_ids.specs.declared.ids.Section.TheVariants as section
 use Rattle.rt_lines.specs.Answers.{and_then, and_make}
 use Rattle.rt_lines.specs.Numbers.{number_below}
-use Rattle.rt_lines.specs.Operand.{Kind, Number, IrqName, FirstIrqName, TaskName, BodyName, LockName, QueueName}
-use Rattle.rt_lines.specs.Operand.{SectionName, Value, HasWord, IsQueue, IsSection, word, read_at}
+use Rattle.rt_lines.specs.Operand.{OperandKind, Number, IrqName, FirstIrqName, TaskName, BodyName, LockName, QueueName}
+use Rattle.rt_lines.specs.Operand.{SectionName, OperandValue, HasWord, IsQueue, IsSection, word, read_at}
 use Rattle.rt_lines.specs.Operand.{number_at}
 use Rattle.rt_lines.specs.Operand.{index_or_wrong, section_at}
 use Rattle.rt_lines.specs.Operand.{irq_at, first_irq_at, task_at, lock_at, queue_at}
@@ -107,22 +107,22 @@ numbers_ok (suc most) (w ∷ ws) h =
 
 -- each kind of word, where nothing else is wrong, is read of the word over the other names
 abbrev pub IsKnown : Names → Names → List ℕ → Type 0
-IsKnown names more w = (k : Kind) → IsOkOrName (read_at k names w) → IsOk (read_at k more w)
+IsKnown names more w = (k : OperandKind) → IsOkOrName (read_at k names w) → IsOk (read_at k more w)
 
 module _ (names more : Names) where
-  one_known : (k : Kind) (ws : List (List ℕ)) → AllByRecursion (IsKnown names more) ws
+  one_known : (k : OperandKind) (ws : List (List ℕ)) → AllByRecursion (IsKnown names more) ws
       → IsOkOrName (one_at (read_at k) names ws) → IsOk (one_at (read_at k) more ws)
   one_known k [] all h = absurd h
   one_known k (a ∷ []) all h = all.0 k h
   one_known k (a ∷ b ∷ ws) all h = absurd h
 
-  then_known : {B : Type 0} (k : Kind) (a : List ℕ) (r s : Result B Wrong) → IsKnown names more a
+  then_known : {B : Type 0} (k : OperandKind) (a : List ℕ) (r s : Result B Wrong) → IsKnown names more a
       → (IsOkOrName r → IsOk s) → IsOkOrName (both (read_at k names a) r) → IsOk (both (read_at k more a) s)
   then_known k a r s known rest h =
       let parts = from_both (read_at k names a) r h in
       both_ok (read_at k more a) s (known k parts.0) (rest parts.1)
 
-  two_known : (k l : Kind) (ws : List (List ℕ)) → AllByRecursion (IsKnown names more) ws
+  two_known : (k l : OperandKind) (ws : List (List ℕ)) → AllByRecursion (IsKnown names more) ws
       → IsOkOrName (two_at (read_at k) (read_at l) names ws) → IsOk (two_at (read_at k) (read_at l) more ws)
   two_known k l [] all h = absurd h
   two_known k l (a ∷ ws) all h =
@@ -177,8 +177,8 @@ module _ (names more : Names) where
 pub record HasNames (names more : Names) (w : List ℕ) : Type 0 where
   pub irq : is_identifier w ≡ true → IsOk (irq_at more w)
   pub first_irq : IsOkOrName (first_irq_at names w) → IsOk (first_irq_at more w)
-  pub task : is_identifier w ≡ true → IsSome (task_of more w)
-  pub free : is_identifier (drop 5 w) ≡ true → IsSome (task_of more (drop 5 w))
+  pub task : is_identifier w ≡ true → IsSome (task_index more w)
+  pub free : is_identifier (drop 5 w) ≡ true → IsSome (task_index more (drop 5 w))
   pub shared : is_identifier w ≡ true → IsSome (resource_of more w)
 
 module _ (names more : Names) (w : List ℕ) (has : HasNames names more w) where
@@ -202,7 +202,7 @@ module _ (names more : Names) (w : List ℕ) (has : HasNames names more w) where
       by false e h = absurd h
 
   task_known : IsOkOrName (task_at names w) → IsOk (task_at more w)
-  task_known = index_known w (task_of names w) (task_of more w) has.task
+  task_known = index_known w (task_index names w) (task_index more w) has.task
 
   lock_known : IsOkOrName (lock_at names w) → IsOk (lock_at more w)
   lock_known = make_known names more (index_or_wrong w (resource_of names w)) (index_or_wrong w (resource_of more w))
@@ -219,7 +219,7 @@ module _ (names more : Names) (w : List ℕ) (has : HasNames names more w) where
       choose_known (bytes_eq w (codes "timer.0")) _ _ _ _ (λ h. tt)
       (choose_known (starts_with nat_eq w (codes "free.")) _ _ _ _
       (make_known names more (task_at names (drop 5 w)) (task_at more (drop 5 w)) section.Free
-      (index_known (drop 5 w) (task_of names (drop 5 w)) (task_of more (drop 5 w)) has.free))
+      (index_known (drop 5 w) (task_index names (drop 5 w)) (task_index more (drop 5 w)) has.free))
       (choose_known (starts_with nat_eq w (codes "ready.")) _ _ _ _
       (make_known names more (number_at (2 ^ 8) (drop 6 w)) (number_at (2 ^ 8) (drop 6 w)) section.Ready
       (number_ok (2 ^ 8) (drop 6 w))) (λ h. absurd h)))
@@ -335,7 +335,7 @@ module _ (names more : Names) (new : List (List ℕ × ℕ)) (are : AreNames nam
               unknown_read w named unknown = rw (named, unknown) refl
 
   task_over : (t : ℕ) → t < length more.tasks → IsOkOrName (task_at names (task_name more t))
-  task_over t has = index_name (task_name more t) (task_of names (task_name more t))
+  task_over t has = index_name (task_name more t) (task_index names (task_name more t))
       (name_identifier more.tasks t known.tasks has)
 
   choose_name : {A : Type 0} (b : Bool) (r s : Result A Wrong) → IsOkOrName r → IsOkOrName s
@@ -368,7 +368,7 @@ module _ (names more : Names) (new : List (List ℕ × ℕ)) (are : AreNames nam
   section_over queue has = queue_over queue has
 
   -- the word of a value that the further tables have is read, or names something unknown
-  pub value_over : (own : Bool) (k : Kind) (v : Value k) → is_plain own k ≡ true → HasWord more k v
+  pub value_over : (own : Bool) (k : OperandKind) (v : OperandValue k) → is_plain own k ≡ true → HasWord more k v
       → IsOkOrName (read_at k names (word more k v))
   value_over own (Number bound) n plain has =
       subst IsOkOrName (sym (number_read bound n has (leb-true bound (2 ^ 32) plain))) tt

@@ -13,15 +13,15 @@ use Rattle.rt_ids.specs.declared.ids.Section.TheVariants as section
 use Rattle.rt_ids.specs.Names.{Names, AreNames}
 use Rattle.rt_ids.specs.Naming.{irq_named, irq_name, task_name, resource_name, section_name}
 use Rattle.rt_ids.specs.Word.{IsName}
-use Rattle.rt_lines.specs.Operand.{Kind, Number, IrqName, FirstIrqName, TaskName, BodyName, LockName, QueueName}
-use Rattle.rt_lines.specs.Operand.{SectionName, Value}
+use Rattle.rt_lines.specs.Operand.{OperandKind, Number, IrqName, FirstIrqName, TaskName, BodyName, LockName, QueueName}
+use Rattle.rt_lines.specs.Operand.{SectionName, OperandValue}
 use Rattle.rt_lines.specs.Operand.{HasWord, IsSection, word}
 use Rattle.rt_lines.specs.Table.{Operand, IsWritten, Number32, operand_word, spaced_text, is_plain}
 use Rattle.rt_lines.proofs.Told.{IsPlain}
 
 -- the most bytes of words of a kind: a number has ten digits at most, a name 32 bytes, and `free.` stands before a
 -- queue's task
-abbrev pub width : Kind → ℕ
+abbrev pub width : OperandKind → ℕ
 width (Number bound) = 10
 width QueueName = 37
 width SectionName = 37
@@ -61,7 +61,8 @@ section_short names (section.Ready p) are h =
     omega (arith, length-decimal-le 3 p (omega arith) (omega (arith, h)) (omega (arith, h)))
 section_short names section.Timer are h = omega arith
 
-word_short : (names : Names) (own : Bool) (k : Kind) (v : Value k) → is_plain own k ≡ true → AreNames names
+word_short : (names : Names) (own : Bool) (k : OperandKind) (v : OperandValue k) → is_plain own k ≡ true
+    → AreNames names
     → HasWord names k v
     → length (word names k v) ≤ width k
 word_short names own (Number bound) n plain are h =

@@ -22,8 +22,8 @@ use Rattle.rt_ids.specs.Names.{Names, AreNames, irq_of}
 use Rattle.rt_ids.specs.Naming.{irq_named, irq_name, task_name, section_name, body_name, IsDeclared, IsTask, IsBody}
 use Rattle.rt_ids.specs.Word.{IsName, is_word, is_identifier}
 use Rattle.rt_lines.specs.Numbers.{number_below}
-use Rattle.rt_lines.specs.Operand.{Kind, Number, IrqName, FirstIrqName, TaskName, BodyName, LockName, QueueName}
-use Rattle.rt_lines.specs.Operand.{SectionName, Value}
+use Rattle.rt_lines.specs.Operand.{OperandKind, Number, IrqName, FirstIrqName, TaskName, BodyName, LockName, QueueName}
+use Rattle.rt_lines.specs.Operand.{SectionName, OperandValue}
 use Rattle.rt_lines.specs.Operand.{HasWord, IsLock, IsQueue, IsSection, word, read_at}
 use Rattle.rt_lines.specs.Operand.{number_at}
 use Rattle.rt_lines.specs.Operand.{index_or_wrong, irq_at, if_first, first_irq_at, task_at, body_at, lock_at, queue_at}
@@ -62,7 +62,7 @@ module _ (w : List ℕ) where
 
 module _ (names : Names) (w : List ℕ) where
   -- the value has this word
-  abbrev pub HasThis : (k : Kind) → Value k → Type 0
+  abbrev pub HasThis : (k : OperandKind) → OperandValue k → Type 0
   HasThis k v = HasWord names k v × (w ≡ word names k v)
 
   irq_spelled : AreDifferent (map (λ irq. irq.1) names.irqs) → IfOk (irq_at names w) (HasThis IrqName)
@@ -122,7 +122,7 @@ module _ (names : Names) (w : List ℕ) where
       (IfOk-weaker (queue_at names w) (HasThis QueueName) (HasThis SectionName) (λ x h.
       (queue_section x h.0, h.1)) queue_spelled)
 
-  pub spelled : (own : Bool) (k : Kind) → is_plain own k ≡ true
+  pub spelled : (own : Bool) (k : OperandKind) → is_plain own k ≡ true
       → (own ≡ true → AreDifferent (map (λ irq. irq.1) names.irqs)) → IfOk (read_at k names w) (HasThis k)
   spelled own (Number bound) plain differ = number_spelled w bound (leb-true bound (2 ^ 32) plain)
   spelled own IrqName plain differ = irq_spelled (differ plain)
@@ -179,7 +179,8 @@ module _ (names : Names) (are : AreNames names) where
       rw (named.identifier, resource_found names r are h) refl
   section_read queue h = queue_read queue h
 
-pub word_is_read : (names : Names) (own : Bool) (k : Kind) (v : Value k) → is_plain own k ≡ true → AreNames names
+pub word_is_read : (names : Names) (own : Bool) (k : OperandKind) (v : OperandValue k) → is_plain own k ≡ true
+    → AreNames names
     → HasWord names k v
     → read_at k names (word names k v) ≡ Ok v
 word_is_read names own (Number bound) n plain are has = number_read bound n has (leb-true bound (2 ^ 32) plain)

@@ -11,7 +11,7 @@ use Rattle.rt_lemmas.proofs.Bools.{and_left, and_right}
 use Rattle.rt_ids.specs.Lists.{AreDifferent}
 use Rattle.rt_ids.specs.Names.{Names, AreNames}
 use Rattle.rt_lines.specs.Answers.{and_make}
-use Rattle.rt_lines.specs.Operand.{Kind, Value, HasWord, word, read_at, number_at}
+use Rattle.rt_lines.specs.Operand.{OperandKind, OperandValue, HasWord, word, read_at, number_at}
 use Rattle.rt_lines.specs.Table.{Shape, Alone, One, Two, Three, OneOrTwo, AndNumbers, Row, Number32, both, one_at}
 use Rattle.rt_lines.specs.Table.{two_at, numbers_at}
 use Rattle.rt_lines.specs.Table.{shape_at, said_at, shape_of, Operand, IsWritten, operand_word, is_plain}
@@ -46,7 +46,7 @@ said_plain own (AndNumbers k most says) x os plain said =
     subst (AllByRecursion (IsPlain own)) (sym said.4) (plain, numbers_plain own said.1)
 
 module _ (names : Names) (are : AreNames names) (own : Bool) where
-  operand_read : (k : Kind) (v : Value k) → is_plain own k ≡ true → HasWord names k v
+  operand_read : (k : OperandKind) (v : OperandValue k) → is_plain own k ≡ true → HasWord names k v
       → read_at k names (word names k v) ≡ Ok v
   operand_read k v plain has = word_is_read names own k v plain are has
 
@@ -113,18 +113,19 @@ module _ (names : Names) (own : Bool) (differ : own ≡ true → AreDifferent (m
   abbrev AreWords : List (List ℕ) → List Operand → Type 0
   AreWords words os = (words ≡ map (operand_word names) os) × AllByRecursion (IsWritten names) os
 
-  more : (k : Kind) (v : Value k) (a : List ℕ) (words : List (List ℕ)) (os : List Operand) → HasThis names a k v
+  more : (k : OperandKind) (v : OperandValue k) (a : List ℕ) (words : List (List ℕ)) (os : List Operand)
+      → HasThis names a k v
       → AreWords words os → AreWords (a ∷ words) ((k, v) ∷ os)
   more k v a words os this are = (ap (λ b. b ∷ words) this.1 ∙ ap (λ ws. word names k v ∷ ws) are.0, (this.0, are.1))
 
-  one_spells : (k : Kind) → is_plain own k ≡ true → (words : List (List ℕ))
+  one_spells : (k : OperandKind) → is_plain own k ≡ true → (words : List (List ℕ))
       → IfOk (one_at (read_at k) names words) (λ v. AreWords words ((k, v) ∷ []))
   one_spells k plain [] = tt
   one_spells k plain (a ∷ []) = IfOk-weaker (read_at k names a) _ _ (λ v h. more k v a [] [] h (refl, tt))
       (spelled names a own k plain differ)
   one_spells k plain (a ∷ b ∷ words) = tt
 
-  then_spells : {B : Type 0} (k : Kind) → is_plain own k ≡ true
+  then_spells : {B : Type 0} (k : OperandKind) → is_plain own k ≡ true
       → (a : List ℕ) (words : List (List ℕ)) (s : Result B Wrong)
       (os : B → List Operand) → IfOk s (λ y. AreWords words (os y))
       → IfOk (both (read_at k names a) s) (λ p. AreWords (a ∷ words) ((k, p.0) ∷ os p.1))
@@ -133,7 +134,7 @@ module _ (names : Names) (own : Bool) (differ : own ≡ true → AreDifferent (m
       (if_ok_both (HasThis names a k) (λ y. AreWords words (os y)) (read_at k names a) s
       (spelled names a own k plain differ) h)
 
-  two_spells : (k l : Kind) → is_plain own k ≡ true → is_plain own l ≡ true → (words : List (List ℕ))
+  two_spells : (k l : OperandKind) → is_plain own k ≡ true → is_plain own l ≡ true → (words : List (List ℕ))
       → IfOk (two_at (read_at k) (read_at l) names words) (λ p. AreWords words ((k, p.0) ∷ (l, p.1) ∷ []))
   two_spells k l first second [] = tt
   two_spells k l first second (a ∷ words) = then_spells k first a words (one_at (read_at l) names words) (λ v.

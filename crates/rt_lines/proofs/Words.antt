@@ -16,8 +16,8 @@ use Rattle.rt_ids.specs.Byte.{is_letter, is_name_byte}
 use Rattle.rt_ids.specs.Names.{Names, AreNames}
 use Rattle.rt_ids.specs.Naming.{section_name, IsTask}
 use Rattle.rt_ids.specs.Word.{is_identifier}
-use Rattle.rt_lines.specs.Operand.{Kind, Number, IrqName, FirstIrqName, TaskName, BodyName, LockName, QueueName}
-use Rattle.rt_lines.specs.Operand.{SectionName, Value}
+use Rattle.rt_lines.specs.Operand.{OperandKind, Number, IrqName, FirstIrqName, TaskName, BodyName, LockName, QueueName}
+use Rattle.rt_lines.specs.Operand.{SectionName, OperandValue}
 use Rattle.rt_lines.specs.Operand.{HasWord, IsSection, word}
 use Rattle.rt_lines.specs.Parts.{parts, words}
 use Rattle.rt_lines.specs.Table.{Operand, IsWritten, operand_word, spaced_text}
@@ -88,7 +88,7 @@ module _ (names : Names) (are : AreNames names) where
   section_bytes (section.Ready p) h = decimal_bytes p
   section_bytes section.Timer h = refl
 
-  word_bytes : (k : Kind) (v : Value k) → HasWord names k v → AreWordBytes (word names k v)
+  word_bytes : (k : OperandKind) (v : OperandValue k) → HasWord names k v → AreWordBytes (word names k v)
   word_bytes (Number bound) n h = decimal_bytes n
   word_bytes IrqName irq h = let known = irq_known names irq are h in name_bytes (word names IrqName irq) known.0
   word_bytes FirstIrqName irq h = let known = irq_known names irq are h in name_bytes (word names IrqName irq) known.0

@@ -5,7 +5,7 @@ use Rattle.std.specs.Prelude.{ℕ, ◌<◌, ◌^◌, nat_eq, if◌then◌else◌
 use Rattle.std.specs.Prelude.{Result, Ok, Err}
 use Rattle.std.specs.List.{starts_with}
 use Rattle.std.specs.Option.{ok_or}
-use Rattle.rt_ids.specs.Names.{Names, irq_of, task_of, resource_of}
+use Rattle.rt_ids.specs.Names.{Names, irq_of, task_index, resource_of}
 use Rattle.rt_ids.specs.Naming.{irq_name, task_name, section_name, body_name, IsDeclared, IsTask, IsBody}
 use Rattle.rt_ids.specs.Word.{is_identifier}
 use Rattle.rt_ids.specs.declared.ids.BodyId.{BodyId}
@@ -18,31 +18,31 @@ use Rattle.rt_lines.specs.declared.operand.Wrong.{Wrong}
 use Rattle.rt_lines.specs.declared.operand.Wrong.TheVariants as wrong
 
 -- a kind of words
-pub data Kind : Type 0 where
+pub data OperandKind : Type 0 where
   -- a number below this bound, in decimal without a leading zero
-  Number : (bound : ℕ) → Kind
+  Number : (bound : ℕ) → OperandKind
   -- the names of declared interrupts; and of those, the names by which their numbers are written: two declared
   -- interrupts may have one number, which is written by the first name
-  IrqName : Kind
-  FirstIrqName : Kind
+  IrqName : OperandKind
+  FirstIrqName : OperandKind
   -- the names of tasks, and of bodies
-  TaskName : Kind
-  BodyName : Kind
+  TaskName : OperandKind
+  BodyName : OperandKind
   -- the names of sections: of those of resources, of those of queues, and of all
-  LockName : Kind
-  QueueName : Kind
-  SectionName : Kind
+  LockName : OperandKind
+  QueueName : OperandKind
+  SectionName : OperandKind
 
 -- what words of a kind say; an interrupt is its number, a task the index of its declaration
-abbrev pub Value : Kind → Type 0
-Value (Number bound) = ℕ
-Value IrqName = ℕ
-Value FirstIrqName = ℕ
-Value TaskName = ℕ
-Value BodyName = BodyId
-Value LockName = Section
-Value QueueName = Section
-Value SectionName = Section
+abbrev pub OperandValue : OperandKind → Type 0
+OperandValue (Number bound) = ℕ
+OperandValue IrqName = ℕ
+OperandValue FirstIrqName = ℕ
+OperandValue TaskName = ℕ
+OperandValue BodyName = BodyId
+OperandValue LockName = Section
+OperandValue QueueName = Section
+OperandValue SectionName = Section
 
 -- it is the section of a resource that there is
 abbrev pub IsLock : Names → Section → Type 0
@@ -62,7 +62,7 @@ IsSection names (section.Res r) = IsLock names (section.Res r)
 IsSection names queue = IsQueue names queue
 
 -- a value has a word of its kind
-abbrev pub HasWord : Names → (k : Kind) → Value k → Type 0
+abbrev pub HasWord : Names → (k : OperandKind) → OperandValue k → Type 0
 HasWord names (Number bound) n = n < bound
 HasWord names IrqName irq = IsDeclared names irq
 HasWord names FirstIrqName irq = IsDeclared names irq
@@ -73,7 +73,7 @@ HasWord names QueueName x = IsQueue names x
 HasWord names SectionName x = IsSection names x
 
 -- the word of a value
-abbrev pub word : Names → (k : Kind) → Value k → List ℕ
+abbrev pub word : Names → (k : OperandKind) → OperandValue k → List ℕ
 word names (Number bound) n = decimal n
 word names IrqName irq = irq_name names irq
 word names FirstIrqName irq = irq_name names irq
@@ -105,7 +105,7 @@ first_irq_at names word = and_then (irq_at names word) (if_first names word)
 
 -- the task of this name
 abbrev pub task_at : Names → List ℕ → Result ℕ Wrong
-task_at names word = index_or_wrong word (task_of names word)
+task_at names word = index_or_wrong word (task_index names word)
 
 -- the body of this name
 abbrev pub body_at : Names → List ℕ → Result BodyId Wrong
@@ -118,8 +118,8 @@ abbrev pub lock_at : Names → List ℕ → Result Section Wrong
 lock_at names word = and_make (index_or_wrong word (resource_of names word)) section.Res
 
 -- the ready queue of this name
-abbrev pub ready_at : List ℕ → Result Section Wrong
-ready_at word = if starts_with nat_eq word (codes "ready.")
+abbrev pub ready_named : List ℕ → Result Section Wrong
+ready_named word = if starts_with nat_eq word (codes "ready.")
     then and_make (number_at (2 ^ 8) (drop 6 word)) section.Ready else Err wrong.Form
 
 -- the queue of this name
@@ -127,14 +127,14 @@ abbrev pub queue_at : Names → List ℕ → Result Section Wrong
 queue_at names word =
     if bytes_eq word (codes "timer.0") then Ok section.Timer
     else if starts_with nat_eq word (codes "free.") then and_make (task_at names (drop 5 word)) section.Free
-    else ready_at word
+    else ready_named word
 
 -- the section of this name: a name that could be declared is a resource's
 abbrev pub section_at : Names → List ℕ → Result Section Wrong
 section_at names word = if is_identifier word then lock_at names word else queue_at names word
 
 -- what a word of a kind is read as
-abbrev pub read_at : (k : Kind) → Names → List ℕ → Result (Value k) Wrong
+abbrev pub read_at : (k : OperandKind) → Names → List ℕ → Result (OperandValue k) Wrong
 read_at (Number bound) names word = number_at bound word
 read_at IrqName names word = irq_at names word
 read_at FirstIrqName names word = first_irq_at names word

@@ -5,7 +5,7 @@ use Rattle.std.specs.Prelude.{List, [], ◌∷◌, length, map, flat_map, Option
 use Rattle.std.specs.List.{AllByRecursion, list_all}
 use Rattle.rt_ids.specs.Names.{Names}
 use Rattle.rt_lines.specs.Answers.{and_then, and_make}
-use Rattle.rt_lines.specs.Operand.{Kind, Number, IrqName, Value}
+use Rattle.rt_lines.specs.Operand.{OperandKind, Number, IrqName, OperandValue}
 use Rattle.rt_lines.specs.Operand.{HasWord, word, read_at, number_at}
 use Rattle.rt_lines.specs.declared.operand.Wrong.{Wrong}
 use Rattle.rt_lines.specs.declared.operand.Wrong.TheVariants as wrong
@@ -13,13 +13,14 @@ use Rattle.rt_lines.specs.declared.operand.Wrong.TheVariants as wrong
 -- the kinds of the words behind a first word, and what they say
 pub data Shape (T : Type 0) : Type 0 where
   Alone : (said : T) → Shape T
-  One : (k : Kind) → (says : Value k → T) → Shape T
-  Two : (k l : Kind) → (says : Value k → Value l → T) → Shape T
-  Three : (k l m : Kind) → (says : Value k → Value l → Value m → T) → Shape T
+  One : (k : OperandKind) → (says : OperandValue k → T) → Shape T
+  Two : (k l : OperandKind) → (says : OperandValue k → OperandValue l → T) → Shape T
+  Three : (k l m : OperandKind) → (says : OperandValue k → OperandValue l → OperandValue m → T) → Shape T
   -- one word, or two
-  OneOrTwo : (k : Kind) → (one : Value k → T) → (l m : Kind) → (two : Value l → Value m → T) → Shape T
+  OneOrTwo : (k : OperandKind) → (one : OperandValue k → T) → (l m : OperandKind)
+      → (two : OperandValue l → OperandValue m → T) → Shape T
   -- one word, and at most so many numbers of 32 bits
-  AndNumbers : (k : Kind) → (most : ℕ) → (says : Value k → List ℕ → T) → Shape T
+  AndNumbers : (k : OperandKind) → (most : ℕ) → (says : OperandValue k → List ℕ → T) → Shape T
 
 -- a row of a table
 pub record Row (T : Type 0) : Type 0 where
@@ -31,11 +32,11 @@ abbrev pub row : {T : Type 0} → List ℕ → Shape T → Row T
 row first shape = record { first = first; shape = shape }
 
 -- a number of 32 bits
-abbrev pub Number32 : Kind
+abbrev pub Number32 : OperandKind
 Number32 = Number (2 ^ 32)
 
 -- a number of 8 bits
-abbrev pub Number8 : Kind
+abbrev pub Number8 : OperandKind
 Number8 = Number (2 ^ 8)
 
 -- What two words say. Where one of them is of no form, both are; only where neither is, a name is unknown.
@@ -100,7 +101,7 @@ said_at (row ∷ rows) names first words =
 
 -- a value with its kind
 abbrev pub Operand : Type 0
-Operand = (k : Kind) × Value k
+Operand = (k : OperandKind) × OperandValue k
 
 -- an operand has a word
 abbrev pub IsWritten : Names → Operand → Type 0
@@ -116,7 +117,7 @@ spaced_text words = flat_map (λ word. 32 ∷ word) words
 
 -- What is written in words of a kind is told by its word: a number has ten digits at most, as is looked for; and a name
 -- is that of a declared interrupt only where each of those has a number of its own.
-abbrev pub is_plain : Bool → Kind → Bool
+abbrev pub is_plain : Bool → OperandKind → Bool
 is_plain own (Number bound) = nat_le bound (2 ^ 32)
 is_plain own IrqName = own
 is_plain own k = true
@@ -131,12 +132,14 @@ is_plain_shape own (OneOrTwo k one l m two) = is_plain own k && is_plain own l &
 is_plain_shape own (AndNumbers k most says) = is_plain own k
 
 -- an operand of a kind says this
-abbrev pub IsOne : {T : Type 0} → (k : Kind) → (Value k → T) → T → List Operand → Type 0
-IsOne k says x operands = (v : Value k) × (x ≡ says v) × (operands ≡ (k, v) ∷ [])
+abbrev pub IsOne : {T : Type 0} → (k : OperandKind) → (OperandValue k → T) → T → List Operand → Type 0
+IsOne k says x operands = (v : OperandValue k) × (x ≡ says v) × (operands ≡ (k, v) ∷ [])
 
 -- two operands do
-abbrev pub IsTwo : {T : Type 0} → (k l : Kind) → (Value k → Value l → T) → T → List Operand → Type 0
-IsTwo k l says x operands = (v : Value k) × (w : Value l) × (x ≡ says v w) × (operands ≡ (k, v) ∷ (l, w) ∷ [])
+abbrev pub IsTwo : {T : Type 0} → (k l : OperandKind) → (OperandValue k → OperandValue l → T) → T → List Operand
+    → Type 0
+IsTwo k l says x operands =
+    (v : OperandValue k) × (w : OperandValue l) × (x ≡ says v w) × (operands ≡ (k, v) ∷ (l, w) ∷ [])
 
 -- a shape says this of these operands
 abbrev pub IsSaid : {T : Type 0} → Shape T → T → List Operand → Type 0
@@ -144,24 +147,25 @@ IsSaid (Alone y) x operands = (x ≡ y) × (operands ≡ [])
 IsSaid (One k says) x operands = IsOne k says x operands
 IsSaid (Two k l says) x operands = IsTwo k l says x operands
 IsSaid (Three k l m says) x operands =
-    (v : Value k) × (w : Value l) × (u : Value m) × (x ≡ says v w u) × (operands ≡ (k, v) ∷ (l, w) ∷ (m, u) ∷ [])
+    (v : OperandValue k) × (w : OperandValue l) × (u : OperandValue m) × (x ≡ says v w u)
+    × (operands ≡ (k, v) ∷ (l, w) ∷ (m, u) ∷ [])
 IsSaid (OneOrTwo k one l m two) x operands = IsOne k one x operands ⊎ IsTwo l m two x operands
 IsSaid (AndNumbers k most says) x operands =
-    (v : Value k) × (ns : List ℕ) × (length ns ≤ most) × (x ≡ says v ns)
+    (v : OperandValue k) × (ns : List ℕ) × (length ns ≤ most) × (x ≡ says v ns)
     × (operands ≡ (k, v) ∷ map (λ n. (Number32, n)) ns)
 
 -- this holds of each thing that a shape says, and of the operands of which it says it
 abbrev pub EachSaid : {T : Type 0} → (T → List Operand → Type 0) → Shape T → Type 0
 EachSaid P (Alone x) = P x []
-EachSaid P (One k says) = (v : Value k) → P (says v) ((k, v) ∷ [])
-EachSaid P (Two k l says) = (v : Value k) (w : Value l) → P (says v w) ((k, v) ∷ (l, w) ∷ [])
+EachSaid P (One k says) = (v : OperandValue k) → P (says v) ((k, v) ∷ [])
+EachSaid P (Two k l says) = (v : OperandValue k) (w : OperandValue l) → P (says v w) ((k, v) ∷ (l, w) ∷ [])
 EachSaid P (Three k l m says) =
-    (v : Value k) (w : Value l) (u : Value m) → P (says v w u) ((k, v) ∷ (l, w) ∷ (m, u) ∷ [])
+    (v : OperandValue k) (w : OperandValue l) (u : OperandValue m) → P (says v w u) ((k, v) ∷ (l, w) ∷ (m, u) ∷ [])
 EachSaid P (OneOrTwo k one l m two) =
-    ((v : Value k) → P (one v) ((k, v) ∷ []))
-    × ((v : Value l) (w : Value m) → P (two v w) ((l, v) ∷ (m, w) ∷ []))
+    ((v : OperandValue k) → P (one v) ((k, v) ∷ []))
+    × ((v : OperandValue l) (w : OperandValue m) → P (two v w) ((l, v) ∷ (m, w) ∷ []))
 EachSaid P (AndNumbers k most says) =
-    (v : Value k) (ns : List ℕ) → length ns ≤ most → P (says v ns) ((k, v) ∷ map (λ n. (Number32, n)) ns)
+    (v : OperandValue k) (ns : List ℕ) → length ns ≤ most → P (says v ns) ((k, v) ∷ map (λ n. (Number32, n)) ns)
 
 -- the shape of a first word
 abbrev pub shape_of : {T : Type 0} → List (Row T) → List ℕ → Option (Shape T)

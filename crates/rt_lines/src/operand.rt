@@ -155,7 +155,7 @@ pub fn read_lock(names: &Names, word: &[u8]) -> Result<Section, Wrong>
 
 /// The section of the ready queue of a name.
 fn read_ready(word: &[u8]) -> Result<Section, Wrong>
-    ensures { result ≡ spec.ready_at word.now }
+    ensures { result ≡ spec.ready_named word.now }
 {
     if word.starts_with(b"ready.") {
         let level = read_byte(&word[6..])?;

@@ -24,8 +24,8 @@ use Rattle.rt_code.specs.declared.instr.Instr.{Instr}
 use Rattle.rt_code.specs.declared.instr.Instr.TheVariants as instr
 use Rattle.rt_code.specs.declared.instr.Note.{Note}
 use Rattle.rt_code.specs.declared.instr.Note.TheVariants as note
-use Rattle.rt_lines.specs.Operand.{Kind, Number, IrqName, FirstIrqName, TaskName, BodyName, LockName, QueueName}
-use Rattle.rt_lines.specs.Operand.{SectionName, Value, word}
+use Rattle.rt_lines.specs.Operand.{OperandKind, Number, IrqName, FirstIrqName, TaskName, BodyName, LockName, QueueName}
+use Rattle.rt_lines.specs.Operand.{SectionName, OperandValue, word}
 use Rattle.rt_lines.specs.Table.{Operand}
 use Rattle.rt_listing.specs.Numbers.{IsShort, AreShort, section_numbers, instr_numbers, note_numbers}
 use Rattle.rt_listing.specs.Words.{instr_operands, note_operands}
@@ -123,7 +123,7 @@ module _ (names : Names) (good : AreWritable names) where
       ) (ap body.Task (task_back t here))
 
   -- a value of a kind that listings have has its name, and numbers of 64 bits
-  abbrev HasName : (k : Kind) → Value k → Type 0
+  abbrev HasName : (k : OperandKind) → OperandValue k → Type 0
   HasName (Number bound) n = IsShort n
   HasName FirstIrqName irq = IsDeclared names irq
   HasName TaskName t = IsTask names t
@@ -134,7 +134,8 @@ module _ (names : Names) (good : AreWritable names) where
   abbrev pub IsNamed : Operand → Type 0
   IsNamed operand = HasName operand.0 operand.1
 
-  pub same_value : (k : Kind) (v w : Value k) → IsNamed (k, v) → IsNamed (k, w) → word names k v ≡ word names k w
+  pub same_value : (k : OperandKind) (v w : OperandValue k) → IsNamed (k, v) → IsNamed (k, w)
+      → word names k v ≡ word names k w
       → v ≡ w
   same_value (Number bound) v w p q e = same_number v w p q e
   same_value IrqName v w p q e = absurd p

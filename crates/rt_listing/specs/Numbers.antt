@@ -9,7 +9,7 @@ use Rattle.rt_code.specs.declared.image.Handler.{Handler}
 use Rattle.rt_code.specs.declared.instr.Instr.{Instr}
 use Rattle.rt_code.specs.declared.instr.Note.{Note}
 use Rattle.rt_code.specs.declared.instr.Note.TheVariants as note
-use Rattle.rt_lines.specs.Operand.{Kind, Number, SectionName, Value, HasLevel}
+use Rattle.rt_lines.specs.Operand.{OperandKind, Number, SectionName, OperandValue, HasLevel}
 use Rattle.rt_lines.specs.Table.{Operand}
 use Rattle.rt_lines.specs.Numbers.{Is32Bits}
 use Rattle.rt_listing.specs.Words.{instr_operands, note_operands}
@@ -37,7 +37,7 @@ section_numbers (section.Ready p) = p ∷ []
 section_numbers s = []
 
 -- the numbers in the word of an operand
-abbrev pub numbers_in : (k : Kind) → Value k → List ℕ
+abbrev pub numbers_in : (k : OperandKind) → OperandValue k → List ℕ
 numbers_in (Number bound) n = n ∷ []
 numbers_in SectionName s = section_numbers s
 numbers_in k v = []

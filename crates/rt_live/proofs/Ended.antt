@@ -1,6 +1,7 @@
 -- The end of a run: the total behind the last turns, the whole text, and the turns behind the gathering of the lines.
 use Rattle.rt_live.proofs.Vocabulary.{AllByRecursion, Arrive, Asked, Bool, Call, Caller as Line, Core, Device, Done}
-use Rattle.rt_live.proofs.Vocabulary.{Ended, Ends, Err, Event, Goes, IsFresh, IsWholeLook, Leads, List, Machine, Ok}
+use Rattle.rt_live.proofs.Vocabulary.{Ended, EndsByLine, Err, Event, Goes, IsFresh, IsWholeLook, Leads, List, Machine}
+use Rattle.rt_live.proofs.Vocabulary.{Ok}
 use Rattle.rt_live.proofs.Vocabulary.{OnErr, OnOk, Option, Part, Pends, Result, Row, Some, Step, Steps, Tick, Ticks}
 use Rattle.rt_live.proofs.Vocabulary.{Took, TookPrefix, Turn, [], ap, append-nil, arith, arrivals_from, core_events}
 use Rattle.rt_live.proofs.Vocabulary.{core_line_events, false, flat_map, flat_map-append, inl, inr, interleaving, is_ok}
@@ -30,7 +31,8 @@ module _ {route : ℕ → Option ℕ} {here there : ℕ} {ts : List Turn} {calls
 
 module _ {route : ℕ → Option ℕ} {ts : List Turn} {k : Line} {a : Machine} {x : List ℕ} where
   pub ends_on : {all : Bool} {us : List Turn} {l m : Line} {b c : Machine} {y z : List ℕ}
-      → Goes route ts true k l a b x y → Ends route us all l m b c y z → Ends route (ts ++ us) all k m a c x z
+      → Goes route ts true k l a b x y → EndsByLine route us all l m b c y z
+      → EndsByLine route (ts ++ us) all k m a c x z
   ends_on {all} {us} {l} {m} {b} {c} {y} {z} first last = record {
     calls = first.calls ++ last.calls;
     same = line_on k l m first.calls last.calls first.same last.same;
@@ -40,13 +42,13 @@ module _ {route : ℕ → Option ℕ} {ts : List Turn} {k : Line} {a : Machine} 
   }
 
   pub ends_cut : {l : Line} {b : Machine} {y : List ℕ} → Goes route ts false k l a b x y
-      → Ends route ts false k l a b x y
+      → EndsByLine route ts false k l a b x y
   ends_cut stopped = record { calls = stopped.calls; same = stopped.same; ended = inl stopped.done }
 
   -- the line of the total behind them
   pub total_ends : {T E : Type 0} {l : Line} {b : Machine} {y z bytes : List ℕ} (r : Result T E)
       → bytes ≡ total_text b.steps → Goes route ts true k l a b x y → OnOk r (Took y z bytes)
-      → OnErr r (TookPrefix y z bytes) → Ends route ts (is_ok r) k l a b x z
+      → OnErr r (TookPrefix y z bytes) → EndsByLine route ts (is_ok r) k l a b x z
   total_ends {y = y} {z = z} (Ok value) told run took part = record {
     calls = run.calls;
     same = run.same;
@@ -168,7 +170,7 @@ module _ (script : List Asked) {row : Row} {made : List ℕ} {k l m : Line} {par
     -- or all of them, and then the end
     pub own_ends : {all : Bool} {n : Line} {c : Machine} {z : List ℕ} {added : ℕ} → IsFresh a
         → Goes no_route (own script) true k l a b x y → added ≡ b.steps
-        → Ends no_route (last_turns added) all m n b c y z → Ended no_route 0 0 (turns script) all n.calls a c x z
+        → EndsByLine no_route (last_turns added) all m n b c y z → Ended no_route 0 0 (turns script) all n.calls a c x z
     own_ends {all} {n} {c} {z} {added} fresh run same last =
         let before = done_here script first run in
         let us : List Turn = last_turns added in

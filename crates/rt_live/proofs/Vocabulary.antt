@@ -20,7 +20,8 @@ pub use Rattle.rt_live.specs.Shares.{HasOwnName, HasOwnNames, event_of, own_even
 pub use Rattle.rt_live.specs.{Able.BitsMayArrive, Able.CanGo, Able.IsAble, Able.MayRoute, Devices.device_script}
 pub use Rattle.rt_live.specs.{Devices.entries_of, Devices.is_device, Doing.HasLived, Doing.HasWrittenPart}
 pub use Rattle.rt_live.specs.{History.IsEmptyLook, History.IsHistory, History.device_pends, History.line_asks}
-pub use Rattle.rt_live.specs.{Inside.Working.CanWork, Output.IsBalanced, Output.IsLiveText, Written.Ended, Written.Ends}
+pub use Rattle.rt_live.specs.{Inside.Working.CanWork, Output.IsBalanced, Output.IsLiveText, Written.Ended}
+pub use Rattle.rt_live.specs.{Written.EndsByLine}
 pub use Rattle.rt_run.proofs.Weighing.{Arrives, Named, steps_weigh, weight, weight_append}
 pub use Rattle.rt_run.proofs.{Advancing.steps-append, Known.steps_below, Known.still_writable, Sent.breaks_before}
 pub use Rattle.rt_run.proofs.{Sent.breaks_behind, Sent.sends_none, Sent.sends_on, Taking.cause_on, Taking.part_more}
@@ -32,7 +33,7 @@ pub use Rattle.rt_script.specs.declared.line.Line.TheVariants.{Device, Device as
 pub use Rattle.rt_words.proofs.{Bits.zeros as zeros_at, Accounting.accounts, Accounting.count_first, Counting.one_if}
 pub use Rattle.rt_words.proofs.{Found.as_many, Found.none_pending, Found.part_all, Parting.by_parts, Parting.part_first}
 pub use Rattle.rt_words.specs.Account.{IsTally, latched_count, latches, merged_count, merges, raised_count, raises}
-pub use Rattle.rt_words.specs.Lines.{Line as Caller, Row, count as row_count, numbers}
+pub use Rattle.rt_words.specs.Lines.{Line as Caller, Row, word_count as row_count, numbers}
 pub use Rattle.rt_words.specs.{Ending.AllGathered, Ending.OneHistory, Ending.calls_in, History.CallsLast}
 pub use Rattle.rt_words.specs.{History.IsLegal, History.LeavesWords, History.part, Object.IsAnswered, Object.IsPending}
 pub use Rattle.rt_words.specs.{Object.after, Object.pending_bit, Row.bit_in_row, Row.word_in_row}

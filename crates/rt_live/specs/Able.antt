@@ -5,7 +5,7 @@ use Rattle.rt_core.specs.Machine.{Machine}
 use Rattle.rt_ids.specs.{Names.Names, declared.limits.TheConstants.IRQ_NUMBERS}
 use Rattle.rt_ids.specs.Naming.{IsDeclared}
 use Rattle.rt_run.specs.Writable.{IsWritable}
-use Rattle.rt_words.specs.Lines.{Line, Row, count}
+use Rattle.rt_words.specs.Lines.{Line, Row, word_count}
 use Rattle.rt_words.specs.{Object.IsPending, Row.bit_in_row, Row.word_in_row, declared.row.TheConstants.CORE_WORDS}
 
 -- an interrupt may arrive: it is declared, and there is such a number
@@ -25,7 +25,7 @@ MayRoute route there row = (posted irq : ℕ) → route posted ≡ Some irq → 
 pub record IsAble (m : Machine) (line : Line) (row : Row) : Type 0 where
   pub writable : IsWritable m
   pub words : line.words ≡ row
-  pub many : word_in_row line.here CORE_WORDS ≤ count row
+  pub many : word_in_row line.here CORE_WORDS ≤ word_count row
   pub may : (irq : ℕ) → irq < 32 * CORE_WORDS → IsPending row.may (bit_in_row line.here irq)
       → MayArrive m.image.names irq
 

@@ -6,7 +6,7 @@ use Rattle.rt_devices.specs.{Work.interrupt_asked, declared.device.Device.Device
 use Rattle.rt_ids.specs.Event.{steps}
 use Rattle.rt_ids.specs.{Names.Names, declared.limits.TheConstants.DEVICES, declared.limits.TheConstants.IRQ_NUMBERS}
 use Rattle.rt_script.specs.{Script.HasNames, Script.IsScript, Script.core_events, Script.pends, declared.line.Line.Line}
-use Rattle.rt_words.specs.Lines.{Line as Caller, Row, count, new_line, numbers}
+use Rattle.rt_words.specs.Lines.{Line as Caller, Row, word_count, new_line, numbers}
 use Rattle.rt_words.specs.Object.{IsPending}
 use Rattle.rt_words.specs.{Row.bit_in_row, declared.row.TheConstants.CORE_WORDS, declared.view.Part.Part}
 use Rattle.rt_live.specs.{Account.declared_irqs, Account.counted_row, Account.empty_row, Devices.devices}
@@ -42,7 +42,7 @@ pub record AreReady (names : Names) (script : List Line) (row : Row) (line : Cal
     (rows : List AccountRow) : Type 0 where
   pub scripted : IsScript script
   pub named : HasNames names script
-  pub many : count row ≡ CORE_WORDS
+  pub many : word_count row ≡ CORE_WORDS
   pub may : HasBits 0 row.may (declared_irqs names)
   pub in_range : AllByRecursion (λ irq. irq < IRQ_NUMBERS) (declared_irqs names)
   pub first : line ≡ maker_line row line.made

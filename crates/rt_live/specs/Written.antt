@@ -34,7 +34,7 @@ Ended route here there ts false calls old new before after =
     ⊎ Totals TookPrefix route here there ts calls old new before after
 
 -- this came of the turns by calls of this line, and the line did nothing else
-pub record Ends (route : ℕ → Option ℕ) (ts : List Turn) (all : Bool) (line line' : Caller) (old new : Machine)
+pub record EndsByLine (route : ℕ → Option ℕ) (ts : List Turn) (all : Bool) (line line' : Caller) (old new : Machine)
     (before after : List ℕ) : Type 0 where
   pub calls : List Call
   pub same : line' ≡ record line { calls = line.calls ++ calls }

@@ -11,7 +11,7 @@ ghost use Rattle.rt_live.specs.{Inside.Working.CanWork, declared.share.Share.The
 use crate::account::AccountRow;
 use crate::ending::end;
 use crate::gathering::gather_all;
-use crate::routes::{NoRoutes, Role};
+use crate::routes::{CoreRole, NoRoutes};
 use crate::share::Share;
 use crate::turns::{Between, own_lines};
 use rt_core::Core;
@@ -24,7 +24,7 @@ use std::marker::Sync;
 use std::thread::{Threads, for_each_mut, join_mut};
 
 /// The part of a core that runs alone, beside devices.
-const ALONE: Role<NoRoutes> = Role {
+const ALONE: CoreRole<NoRoutes> = CoreRole {
     share: Share::BesideDevices,
     routes: NoRoutes,
 };

@@ -3,9 +3,9 @@ ghost use Rattle.std.specs.Prelude.{OnOk, is_ok, ◌++◌, ◌+◌, ◌≡◌};
 ghost use Rattle.rt_outside.specs.Faults.{HasCause};
 ghost use Rattle.rt_script.specs.Script.{count};
 ghost use Rattle.rt_live.specs.Able.{CanGo};
-ghost use Rattle.rt_live.specs.{Interleaving.last_turns, Shares.HasOwnNames, Shares.own_turns, Written.Ends};
+ghost use Rattle.rt_live.specs.{Interleaving.last_turns, Shares.HasOwnNames, Shares.own_turns, Written.EndsByLine};
 
-use crate::routes::{Role, Routes};
+use crate::routes::{CoreRole, Routes};
 use crate::turns::{Between, look, own_lines, repeat};
 use rt_core::Core;
 use rt_devices::Gate;
@@ -19,14 +19,14 @@ pub(crate) fn end<K: Sink, G: Gate, T: Routes>(
     core: &mut Core,
     line: &mut Line,
     words: &Words,
-    role: &Role<T>,
+    role: &CoreRole<T>,
     steps: u64,
     out: &mut K,
     between: &mut Between,
     gate: &G,
 ) -> Result<(), Failed>
     requires can { CanGo (steps + 1) (T.leads role.now.routes) core.old line.old words.now }
-    ensures ends { Ends (T.leads role.now.routes) (last_turns steps) (is_ok result)
+    ensures ends { EndsByLine (T.leads role.now.routes) (last_turns steps) (is_ok result)
         line.old line.new core.old core.new (K.taken out.old) (K.taken out.new) }
     ensures cause { HasCause (K.faults out.old) (K.faults out.new) result }
     ensures quiet { OnOk result (K.faults out.new ≡ K.faults out.old) }
@@ -44,15 +44,15 @@ pub fn run_turns<K: Sink, G: Gate, T: Routes>(
     core: &mut Core,
     line: &mut Line,
     words: &Words,
-    role: &Role<T>,
+    role: &CoreRole<T>,
     script: &[Asked],
     out: &mut K,
     gate: &G,
 ) -> Result<(), Failed>
     requires can { CanGo (count script.now + 1) (T.leads role.now.routes) core.old line.old words.now }
     requires declared { HasOwnNames role.now.share core.old.image.names script.now }
-    ensures ends { Ends (T.leads role.now.routes) (own_turns role.now.share script.now ++ last_turns 0) (is_ok result)
-        line.old line.new core.old core.new (K.taken out.old) (K.taken out.new) }
+    ensures ends { EndsByLine (T.leads role.now.routes) (own_turns role.now.share script.now ++ last_turns 0)
+        (is_ok result) line.old line.new core.old core.new (K.taken out.old) (K.taken out.new) }
     ensures cause { HasCause (K.faults out.old) (K.faults out.new) result }
     ensures quiet { OnOk result (K.faults out.new ≡ K.faults out.old) }
 {

@@ -23,6 +23,6 @@ pub use account::{Account, AccountRow};
 pub use ending::run_turns;
 pub use laws::constants_are_as_documented;
 pub use ready::Ready;
-pub use routes::{NoRoutes, Role, Routes};
+pub use routes::{CoreRole, NoRoutes, Routes};
 pub use running::{LiveFail, live, run_beside};
 pub use share::Share;

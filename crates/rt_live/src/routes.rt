@@ -31,7 +31,7 @@ impl Routes for NoRoutes {
 
 /// The part of a core in a row: which events of the script come to it, and where its posts lead.
 #[derive(Drop)]
-pub struct Role<T> {
+pub struct CoreRole<T> {
     /// Which events of the script come to it.
     pub share: Share,
     /// Where its posts lead.

@@ -9,7 +9,7 @@ ghost use Rattle.rt_live.specs.{Going.Comes, Going.Goes, Going.Posts, Interleavi
 ghost use Rattle.rt_live.specs.{Interleaving.with_looks, Shares.HasOwnNames, Shares.event_of, Shares.own_turns};
 ghost use Rattle.rt_live.specs.Requests as spec;
 
-use crate::routes::{Role, Routes};
+use crate::routes::{CoreRole, Routes};
 use crate::share::Share;
 use crate::showing::show_step;
 use rt_core::Core;
@@ -115,7 +115,7 @@ fn routed<T: Routes>(routes: &T, shown: &Option<What>) -> Option<Irq>
 fn forward<G: Gate, T: Routes>(
     line: &mut Line,
     words: &Words,
-    role: &Role<T>,
+    role: &CoreRole<T>,
     shown: &Option<What>,
     forwarded: &mut u64,
     gate: &G,
@@ -147,7 +147,7 @@ fn step<K: Sink, G: Gate, T: Routes>(
     core: &mut Core,
     line: &mut Line,
     words: &Words,
-    role: &Role<T>,
+    role: &CoreRole<T>,
     out: &mut K,
     between: &mut Between,
     gate: &G,
@@ -170,7 +170,7 @@ fn turn<K: Sink, G: Gate, T: Routes>(
     core: &mut Core,
     line: &mut Line,
     words: &Words,
-    role: &Role<T>,
+    role: &CoreRole<T>,
     asked: &Asked,
     out: &mut K,
     between: &mut Between,
@@ -201,7 +201,7 @@ pub(crate) fn repeat<K: Sink, G: Gate, T: Routes>(
     core: &mut Core,
     line: &mut Line,
     words: &Words,
-    role: &Role<T>,
+    role: &CoreRole<T>,
     asked: &Asked,
     times: u64,
     out: &mut K,
@@ -226,7 +226,7 @@ pub(crate) fn own_lines<K: Sink, G: Gate, T: Routes>(
     core: &mut Core,
     line: &mut Line,
     words: &Words,
-    role: &Role<T>,
+    role: &CoreRole<T>,
     script: &[Asked],
     out: &mut K,
     between: &mut Between,

@@ -16,12 +16,12 @@ use Rattle.rt_given.specs.Given.{asked}
 use Rattle.rt_given.specs.declared.line.GivenLine.{GivenLine}
 use Rattle.rt_given.specs.declared.line.GivenLine.TheVariants as given
 use Rattle.rt_inputs.specs.Inputs.{Comes, Gives, Happening, events_of}
-use Rattle.rt_inputs.proofs.Joined.{declared_append}
+use Rattle.rt_sim.proofs.Reached.{declared_append}
 use Rattle.rt_inputs.proofs.Moved.{happened_more}
 use Rattle.rt_inputs.proofs.Proved.{arrivals_declared}
 use Rattle.rt_live_inputs.specs.declared.boxes.BoxKind.{BoxKind as Box}
 use Rattle.rt_live_inputs.specs.Boxes.{box_of, boxes, is_same, with_box}
-use Rattle.rt_live_inputs.specs.Looking.{Found, Happens, Looks, Turn, box_happenings, happenings_of, line_turns}
+use Rattle.rt_live_inputs.specs.Looking.{Found, Happens, Looks, InputTurn, box_happenings, happenings_of, line_turns}
 use Rattle.rt_live_inputs.specs.Looking.{look_happenings, own_steps, step_turns, turns}
 use Rattle.rt_live_inputs.specs.Inside.Turning.{IsLook}
 
@@ -30,7 +30,7 @@ abbrev pub BoxDeclared : Names → Box → Type 0
 BoxDeclared names box = IsDeclared names box.irq
 
 -- and that of a turn
-abbrev pub TurnDeclared : Names → Turn → Type 0
+abbrev pub TurnDeclared : Names → InputTurn → Type 0
 TurnDeclared names (Happens (Comes (Arrive irq))) = IsDeclared names irq
 TurnDeclared names (Happens (Comes Step)) = Unit {0}
 TurnDeclared names (Happens (Comes Tick)) = Unit {0}
@@ -131,7 +131,7 @@ module _ (app : App) where
         behind_declared (map Comes (look_arrivals one.row)) (flat_map box_happenings (zip all one.waited))
         (come_declared (arrivals_from 0 one.row) declared) (waited_declared all one.waited are)
 
-    pub all_declared : (ts : List Turn) (found : List Found) → AllByRecursion (TurnDeclared (names_of app)) ts
+    pub all_declared : (ts : List InputTurn) (found : List Found) → AllByRecursion (TurnDeclared (names_of app)) ts
         → AllByRecursion (IsLook (names_of app) n) found → AreDeclared app (events_of (happenings_of all ts found))
     all_declared [] found turns looks = tt
     all_declared (Happens (Comes Step) ∷ ts) found turns looks = all_declared ts found turns.1 looks

@@ -11,18 +11,18 @@ use Rattle.rt_values.specs.declared.call.Call.{Call}
 use Rattle.rt_values.specs.declared.call.Call.TheVariants.{Give}
 use Rattle.rt_values.specs.Sides.{GiverSide}
 use Rattle.rt_given.specs.Given.{count_of}
-use Rattle.rt_given.specs.Words.{given_words, source_of, words_by, words_of}
+use Rattle.rt_given.specs.Words.{given_words, source_of, words_by, words_asked}
 use Rattle.rt_given.specs.declared.line.GivenLine.{GivenLine}
 use Rattle.rt_given.specs.declared.source.Source.{Source}
 use Rattle.rt_live_inputs.specs.Giving.{Gave, word_given, words_in}
 use Rattle.rt_live_inputs.specs.declared.device.GivingDevice.{GivingDevice}
 
 -- the words of a line, by its source
-pub words_none : (line : GivenLine) → source_of line ≡ None → words_of line ≡ []
+pub words_none : (line : GivenLine) → source_of line ≡ None → words_asked line ≡ []
 words_none line is = ap (words_by (count_of line)) is
 
 pub words_some : (line : GivenLine) (s : Source) → source_of line ≡ Some s
-    → words_of line ≡ given_words (count_of line) s
+    → words_asked line ≡ given_words (count_of line) s
 words_some line s is = ap (words_by (count_of line)) is
 
 -- no word
@@ -78,7 +78,7 @@ words_few lines i =
     omega (
       arith,
       ap (λ (s : List GivenLine). length (words_in s)) (take-append-drop i lines),
-      ap length (flat_map-append words_of (take i lines) (drop i lines)),
+      ap length (flat_map-append words_asked (take i lines) (drop i lines)),
       length-append (words_in (take i lines)) (words_in (drop i lines)),
     )
 
@@ -88,25 +88,25 @@ module _ (a b : GivingDevice) (i : ℕ) (line : GivenLine) (below : i < length a
   abbrev lines : List GivenLine
   lines = a.lines.items
 
-  words_more : words_in (take (i + 1) lines) ≡ words_in (take i lines) ++ words_of line
+  words_more : words_in (take (i + 1) lines) ≡ words_in (take i lines) ++ words_asked line
   words_more =
-      flat_map_next words_of lines i line below
+      flat_map_next words_asked lines i line below
       (found ∙ ap (λ (d : GivingDevice). get_or d.lines.items i line) gave.same)
 
-  pub words_grow : length (words_in (take (i + 1) lines)) ≡ length (words_in (take i lines)) + length (words_of line)
+  pub words_grow : length (words_in (take (i + 1) lines)) ≡ length (words_in (take i lines)) + length (words_asked line)
   words_grow =
-      omega (arith, ap length words_more, length-append (words_in (take i lines)) (words_of line))
+      omega (arith, ap length words_more, length-append (words_in (take i lines)) (words_asked line))
 
   -- the words so far, with the line's, are no more than all
-  pub words_within : length (words_in (take i lines)) + length (words_of line) ≤ length (words_in lines)
+  pub words_within : length (words_in (take i lines)) + length (words_asked line) ≤ length (words_in lines)
   words_within = omega (arith, words_grow, words_few lines (i + 1))
 
   -- the giver has room for the line
   pub room_left : (most : ℕ) → length a.giver.calls + length (words_in lines) < most
-      → length b.giver.calls + length (words_of line) < most
+      → length b.giver.calls + length (words_asked line) < most
   room_left most room = omega (arith, words_within, calls_length (words_in (take i lines)) a b gave, room)
 
-  pub line_done : (c : GivingDevice) → Gave (words_of line) b c → Gave (words_in (take (i + 1) lines)) a c
+  pub line_done : (c : GivingDevice) → Gave (words_asked line) b c → Gave (words_in (take (i + 1) lines)) a c
   line_done c then =
       subst (λ (words : List ℕ). Gave words a c) (sym words_more)
-      (gave_on (words_in (take i lines)) (words_of line) a b c gave then)
+      (gave_on (words_in (take i lines)) (words_asked line) a b c gave then)

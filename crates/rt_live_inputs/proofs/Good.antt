@@ -12,7 +12,7 @@ use Rattle.rt_inputs.specs.Inputs.{AreWords, Happening, Comes, Gives}
 use Rattle.rt_inputs.proofs.Free.{runs_with_inputs_are_good}
 use Rattle.rt_live_inputs.specs.Boxes.{boxes}
 use Rattle.rt_live_inputs.specs.declared.boxes.BoxKind.{BoxKind as Box}
-use Rattle.rt_live_inputs.specs.Looking.{Found, Happens, Looks, Turn, box_happenings, happenings_of, line_turns}
+use Rattle.rt_live_inputs.specs.Looking.{Found, Happens, Looks, InputTurn, box_happenings, happenings_of, line_turns}
 use Rattle.rt_live_inputs.specs.Looking.{look_happenings, own_steps, step_turns, turns}
 use Rattle.rt_live_inputs.specs.Histories.{IsWhole}
 use Rattle.rt_live_inputs.specs.Laws.{LiveRunsAreGood}
@@ -46,12 +46,12 @@ look_words all one small =
     (no_words_of (look_arrivals one.row)) (box_words all one.waited small)
 
 -- a turn gives a word of 32 bits, if it gives one
-abbrev GivesSmall : Turn → Type 0
+abbrev GivesSmall : InputTurn → Type 0
 GivesSmall Looks = Unit {0}
 GivesSmall (Happens happening) = AreWords (happening ∷ [])
 
 module _ (script : List GivenLine) where
-  turn_words : (all : List Box) (ts : List Turn) (found : List Found) → AllByRecursion GivesSmall ts
+  turn_words : (all : List Box) (ts : List InputTurn) (found : List Found) → AllByRecursion GivesSmall ts
       → AllByRecursion (IsWhole script) found → AreWords (happenings_of all ts found)
   turn_words all [] found small whole = tt
   turn_words all (Happens (Comes event) ∷ ts) found small whole = turn_words all ts found small.1 whole

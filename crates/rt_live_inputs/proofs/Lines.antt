@@ -11,7 +11,7 @@ use Rattle.rt_run.proofs.Known.{ticks}
 use Rattle.rt_inputs.specs.Inputs.{Comes, Gives, Happening, events_of}
 use Rattle.rt_inputs.proofs.Moved.{happened_more}
 use Rattle.rt_inputs.proofs.Scripted.{line_count}
-use Rattle.rt_live_inputs.specs.Looking.{Happens, Turn, line_turns, looks, step_turns}
+use Rattle.rt_live_inputs.specs.Looking.{Happens, InputTurn, line_turns, looks, step_turns}
 use Rattle.rt_live_inputs.specs.Inside.Going.{IsOne}
 use Rattle.rt_live_inputs.proofs.Going.{ticks-append}
 use Rattle.rt_live_inputs.proofs.Turning.{happens, happens_append, looks_append}
@@ -32,7 +32,7 @@ repeat_one (suc n) x = ap (λ ys. x ∷ ys) (repeat_one n x)
 
 pub turns_replicate : (n : ℕ) (h : Happening) → map Happens (replicate n h) ≡ replicate n (Happens h)
 turns_replicate zero h = refl
-turns_replicate (suc n) h = ap (λ (ts : List Turn). Happens h ∷ ts) (turns_replicate n h)
+turns_replicate (suc n) h = ap (λ (ts : List InputTurn). Happens h ∷ ts) (turns_replicate n h)
 
 pub steps_look : (n : ℕ) → looks (repeated n step_turns) ≡ n
 steps_look zero = refl

@@ -18,7 +18,7 @@ use Rattle.rt_given.specs.Given.{asked_line}
 use Rattle.std.proofs.lemmas.List.Sums.{sum_by-append, sum_by-cons}
 use Rattle.rt_values.specs.Sides.{GiverSide, TakerSide, new_giver, new_taker}
 use Rattle.rt_given.specs.Given.{asked, count_of}
-use Rattle.rt_given.specs.Words.{words_of}
+use Rattle.rt_given.specs.Words.{words_asked}
 use Rattle.rt_given.specs.declared.line.GivenLine.{GivenLine}
 use Rattle.rt_given.specs.declared.line.GivenLine.TheVariants as given
 use Rattle.rt_given.specs.declared.source.Source.TheVariants.{Counting, Drawing}
@@ -68,7 +68,7 @@ givers_boxes script (k ∷ kinds) (n ∷ ms) (e ∷ ds) are =
     let here = are.0.0 in λ i. (here i).mailbox ∷ rest i
 
 -- a line's words are no more than its events
-words_few : (line : GivenLine) → length (words_of line) ≤ count_of line
+words_few : (line : GivenLine) → length (words_asked line) ≤ count_of line
 words_few (given.Steps n) = omega arith
 words_few (given.Ticks n) = omega arith
 words_few (given.Pends irq n) = omega arith
@@ -80,7 +80,7 @@ words_few (given.Gives local word) = omega arith
 line_few : (box : Box) (line : GivenLine) → length (line_words box line) ≤ count_of line
 line_few box line = by (list_any (is_same box) (box_of line))
   where
-    by : (own : Bool) → length (if own then words_of line else []) ≤ count_of line
+    by : (own : Bool) → length (if own then words_asked line else []) ≤ count_of line
     by true = words_few line
     by false = omega arith
 
@@ -157,7 +157,7 @@ module _ (script : List GivenLine) (i : ℕ) (line : GivenLine) (below : i < len
       → words_through (take (i + 1) script) kind ≡ words_through (take i script) kind
   words_same kind other =
       words_next kind
-      ∙ ap (λ b. words_through (take i script) kind ++ (if b then words_of line else [])) other
+      ∙ ap (λ b. words_through (take i script) kind ++ (if b then words_asked line else [])) other
       ∙ append-nil (words_through (take i script) kind)
 
   -- or do
@@ -165,10 +165,10 @@ module _ (script : List GivenLine) (i : ℕ) (line : GivenLine) (below : i < len
       → words_in lines ≡ words_through (take i script) kind
       → words_in (lines ++ line ∷ []) ≡ words_through (take (i + 1) script) kind
   words_more kind own lines so_far =
-      flat_map-append words_of lines (line ∷ [])
-      ∙ ap (λ (t : List ℕ). words_in lines ++ t) (append-nil (words_of line))
-      ∙ ap (λ (t : List ℕ). t ++ words_of line) so_far
-      ∙ sym (words_next kind ∙ ap (λ b. words_through (take i script) kind ++ (if b then words_of line else [])) own)
+      flat_map-append words_asked lines (line ∷ [])
+      ∙ ap (λ (t : List ℕ). words_in lines ++ t) (append-nil (words_asked line))
+      ∙ ap (λ (t : List ℕ). t ++ words_asked line) so_far
+      ∙ sym (words_next kind ∙ ap (λ b. words_through (take i script) kind ++ (if b then words_asked line else [])) own)
 
 -- what is so of all lines that ask for something is so of one that asks for no words
 plain_all : (P : Line → Type 0) (line : GivenLine) → AllByRecursion P (asked_line line)

@@ -26,7 +26,7 @@ use Rattle.rt_inputs.proofs.Moved.{happened_more}
 use Rattle.rt_values.specs.Sides.{TakerSide}
 use Rattle.rt_values.specs.declared.call.Call.TheVariants.{Take}
 use Rattle.rt_live_inputs.specs.declared.boxes.BoxKind.{BoxKind as Box}
-use Rattle.rt_live_inputs.specs.Looking.{Found, Happens, Looks, Turn, box_happenings, happenings_of, look_happenings}
+use Rattle.rt_live_inputs.specs.Looking.{Found, Happens, Looks, InputTurn, box_happenings, happenings_of, look_happenings}
 use Rattle.rt_live_inputs.specs.Looking.{looks}
 use Rattle.rt_live_inputs.specs.Inside.Able.{CanLatch, CanTake, CanTurn}
 use Rattle.rt_live_inputs.specs.Inside.Going.{Goes}
@@ -35,18 +35,18 @@ use Rattle.rt_live_inputs.proofs.Going.{can_then, goes_none, goes_on, goes_same,
 use Rattle.rt_live_inputs.proofs.Looked.{box_steps, box_ticks, come, no_steps, no_ticks}
 
 -- how many events there are among turns, but those of looks
-abbrev pub happens : List Turn → ℕ
+abbrev pub happens : List InputTurn → ℕ
 happens [] = zero
 happens (Looks ∷ ts) = happens ts
 happens (Happens (Comes event) ∷ ts) = suc (happens ts)
 happens (Happens (Gives local word) ∷ ts) = happens ts
 
-pub looks_append : (ts us : List Turn) → looks (ts ++ us) ≡ looks ts + looks us
+pub looks_append : (ts us : List InputTurn) → looks (ts ++ us) ≡ looks ts + looks us
 looks_append [] us = omega arith
 looks_append (Looks ∷ ts) us = omega (arith, looks_append ts us)
 looks_append (Happens happening ∷ ts) us = looks_append ts us
 
-pub happens_append : (ts us : List Turn) → happens (ts ++ us) ≡ happens ts + happens us
+pub happens_append : (ts us : List InputTurn) → happens (ts ++ us) ≡ happens ts + happens us
 happens_append [] us = omega arith
 happens_append (Looks ∷ ts) us = happens_append ts us
 happens_append (Happens (Comes event) ∷ ts) us = omega (arith, happens_append ts us)
@@ -63,7 +63,7 @@ took_all_on ts [] g = refl
 took_all_on ts (one ∷ f) g = took_all_on (took ts one.waited) f g
 
 -- what happens by some turns and by those behind them
-pub happenings_on : (boxes : List Box) (ts us : List Turn) (f g : List Found) → length f ≡ looks ts
+pub happenings_on : (boxes : List Box) (ts us : List InputTurn) (f g : List Found) → length f ≡ looks ts
     → happenings_of boxes (ts ++ us) (f ++ g) ≡ happenings_of boxes ts f ++ happenings_of boxes us g
 happenings_on boxes [] us [] g many = refl
 happenings_on boxes [] us (one ∷ f) g many = absurd (omega (arith, many))
@@ -108,18 +108,18 @@ module _ {app : App} {board : Board} {boxes : List Box} where
     goes = goes_same app board hs (happenings_of boxes (map Happens hs) []) u w a b x y f g (sym (happenings_alone boxes hs)) goes;
   }
 
-  pub turns_same : {us vs : List Turn} {u w : Bool} {l m : Line} {ts ts' : List TakerSide} {a b : Moment}
+  pub turns_same : {us vs : List InputTurn} {u w : Bool} {l m : Line} {ts ts' : List TakerSide} {a b : Moment}
       {x y : List ℕ} {f g : ℕ} → us ≡ vs → Turns app board boxes us u w l m ts ts' a b x y f g
       → Turns app board boxes vs u w l m ts ts' a b x y f g
   turns_same {us} {vs} {u} {w} {l} {m} {ts} {ts'} {a} {b} {x} {y} {f} {g} is run =
-      subst (λ (t : List Turn). Turns app board boxes t u w l m ts ts' a b x y f g) is run
+      subst (λ (t : List InputTurn). Turns app board boxes t u w l m ts ts' a b x y f g) is run
 
-  module _ {us : List Turn} {u v : Bool} {l m : Line} {ts ts' : List TakerSide} {a b : Moment} {x y : List ℕ}
+  module _ {us : List InputTurn} {u v : Bool} {l m : Line} {ts ts' : List TakerSide} {a b : Moment} {x y : List ℕ}
       {f g : ℕ} (run : Turns app board boxes us u v l m ts ts' a b x y f g) where
     pub turned_image : b.machine.image ≡ a.machine.image
     turned_image = same_image app board (happenings_of boxes us run.found) u v a b x y f g run.goes
 
-    pub turns_on : {vs : List Turn} {w : Bool} {n : Line} {ts'' : List TakerSide} {c : Moment} {z : List ℕ} {h : ℕ}
+    pub turns_on : {vs : List InputTurn} {w : Bool} {n : Line} {ts'' : List TakerSide} {c : Moment} {z : List ℕ} {h : ℕ}
         → Turns app board boxes vs v w m n ts' ts'' b c y z g h
         → Turns app board boxes (us ++ vs) u w l n ts ts'' a c x z f h
     turns_on {vs} {w} {n} {ts''} {c} {z} {h} more =
@@ -190,7 +190,7 @@ look_ticks boxes one hs =
       box_ticks boxes one.waited,
     )
 
-pub turn_steps : (boxes : List Box) (ts : List Turn) (found : List Found)
+pub turn_steps : (boxes : List Box) (ts : List InputTurn) (found : List Found)
     → steps (events_of (happenings_of boxes ts found)) ≤ happens ts
 turn_steps boxes [] found = omega arith
 turn_steps boxes (Happens (Comes e) ∷ ts) found =
@@ -200,7 +200,7 @@ turn_steps boxes (Looks ∷ ts) [] = omega arith
 turn_steps boxes (Looks ∷ ts) (one ∷ found) =
     omega (arith, look_steps boxes one (happenings_of boxes ts found), turn_steps boxes ts found)
 
-pub turn_ticks : (boxes : List Box) (ts : List Turn) (found : List Found)
+pub turn_ticks : (boxes : List Box) (ts : List InputTurn) (found : List Found)
     → ticks (events_of (happenings_of boxes ts found)) ≤ happens ts
 turn_ticks boxes [] found = omega arith
 turn_ticks boxes (Happens (Comes e) ∷ ts) found =
@@ -267,7 +267,7 @@ rows_long [] = refl
 rows_long (one ∷ found) = ap suc (rows_long found)
 
 -- what can be done still
-module _ {app : App} {board : Board} {boxes : List Box} {us : List Turn} {u w : Bool} {l m : Line}
+module _ {app : App} {board : Board} {boxes : List Box} {us : List InputTurn} {u w : Bool} {l m : Line}
     {ts ts' : List TakerSide} {a b : Moment} {x y : List ℕ} {f g : ℕ}
     (run : Turns app board boxes us u w l m ts ts' a b x y f g) (n : ℕ) {most : ℕ} {words : Row}
     {mailboxes : List TableId} (can : CanTurn most app board boxes a.machine l words mailboxes ts)

@@ -5,7 +5,7 @@ use Rattle.std.specs.Prelude.{ℕ, ◌==◌, ◌&&◌, Bool, if◌then◌else◌
 use Rattle.std.specs.List.{list_any}
 use Rattle.rt_script.specs.declared.line.Line.{Line}
 use Rattle.rt_given.specs.Given.{asked_line}
-use Rattle.rt_given.specs.Words.{words_of}
+use Rattle.rt_given.specs.Words.{words_asked}
 use Rattle.rt_given.specs.declared.line.GivenLine.{GivenLine}
 use Rattle.rt_given.specs.declared.line.GivenLine.TheVariants.{Counts, Draws}
 use Rattle.rt_live_inputs.specs.declared.boxes.BoxKind.{BoxKind as Box}
@@ -30,7 +30,7 @@ boxes script = fold with_box [] (flat_map box_of script)
 
 -- the words that a line has its device give through this mailbox
 abbrev pub line_words : Box → GivenLine → List ℕ
-line_words box line = if list_any (is_same box) (box_of line) then words_of line else []
+line_words box line = if list_any (is_same box) (box_of line) then words_asked line else []
 
 -- the words that a script has given through this mailbox, in order
 abbrev pub words_through : List GivenLine → Box → List ℕ

@@ -16,11 +16,11 @@ use Rattle.rt_live_inputs.specs.Boxes.{plain}
 use Rattle.rt_live_inputs.specs.declared.boxes.BoxKind.{BoxKind as Box}
 
 -- one thing that is done on the core's side
-pub data Turn : Type 0 where
+pub data InputTurn : Type 0 where
   -- something that happens to the core by its own line of the script
-  Happens : (happening : Happening) → Turn
+  Happens : (happening : Happening) → InputTurn
   -- a look
-  Looks : Turn
+  Looks : InputTurn
 
 -- what a look found: the words of the row, and what waited in each mailbox, in order
 pub record Found : Type 0 where
@@ -28,11 +28,11 @@ pub record Found : Type 0 where
   pub waited : List (Option ℕ)
 
 -- a core step behind a look
-abbrev pub step_turns : List Turn
+abbrev pub step_turns : List InputTurn
 step_turns = Looks ∷ Happens (Comes Step) ∷ []
 
 -- what is done of a line of the script by the core's side: of devices' lines nothing
-abbrev pub line_turns : GivenLine → List Turn
+abbrev pub line_turns : GivenLine → List InputTurn
 line_turns (given.Steps n) = flat_map (λ t. t) (replicate n step_turns)
 line_turns (given.Ticks n) = replicate n (Happens (Comes Tick))
 line_turns (given.Pends irq n) = replicate n (Happens (Comes (Arrive irq)))
@@ -50,11 +50,11 @@ own_steps script = steps (core_events (plain script))
 
 -- what is done under a script: the core's own lines; then, when the devices have ended, a look alone, and as many core
 -- steps again, each behind a look
-abbrev pub turns : List GivenLine → List Turn
+abbrev pub turns : List GivenLine → List InputTurn
 turns script = flat_map line_turns script ++ Looks ∷ flat_map (λ t. t) (replicate (own_steps script) step_turns)
 
 -- how many looks are among them
-abbrev pub looks : List Turn → ℕ
+abbrev pub looks : List InputTurn → ℕ
 looks [] = zero
 looks (Looks ∷ ts) = suc (looks ts)
 looks (Happens happening ∷ ts) = looks ts
@@ -70,7 +70,7 @@ look_happenings boxes found =
     map Comes (look_arrivals found.row) ++ flat_map box_happenings (zip boxes found.waited)
 
 -- what happens to the core by these turns, whose looks found this; a look that is not there ends them
-abbrev pub happenings_of : List Box → List Turn → List Found → List Happening
+abbrev pub happenings_of : List Box → List InputTurn → List Found → List Happening
 happenings_of boxes [] found = []
 happenings_of boxes (Happens happening ∷ ts) found = happening ∷ happenings_of boxes ts found
 happenings_of boxes (Looks ∷ ts) [] = []

@@ -1,6 +1,6 @@
 // Devices that give words, in threads of their own.
 ghost use Rattle.std.specs.Prelude.{◌≡◌, ◌+◌, ◌-◌, ◌^◌, ◌<◌, length};
-ghost use Rattle.rt_given.specs.Words.{given_words, words_of};
+ghost use Rattle.rt_given.specs.Words.{given_words, words_asked};
 ghost use Rattle.rt_live_inputs.specs.Giving.{Gave, words_in};
 
 use rt_devices::Gate;
@@ -50,10 +50,10 @@ impl GivingDevice {
         first: u64,
     ) -> u64
         requires mailbox { self.old.giver.mailbox ≡ mailbox.now }
-        requires room { length self.old.giver.calls + length (words_of line.now) < 2 ^ 32 - 1 }
+        requires room { length self.old.giver.calls + length (words_asked line.now) < 2 ^ 32 - 1 }
         requires first { first < 2 ^ 32 }
-        ensures gave { Gave (words_of line.now) self.old self.new }
-        ensures many { result ≡ length (words_of line.now) }
+        ensures gave { Gave (words_asked line.now) self.old self.new }
+        ensures many { result ≡ length (words_asked line.now) }
     {
         let Some(mut source) = Source::of(line) else {
             return 0;

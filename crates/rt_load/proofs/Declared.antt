@@ -5,7 +5,7 @@ use Rattle.std.specs.Bool.{Decides}
 use Rattle.std.proofs.lemmas.Bool.{leb-true, le-leb, ltb-true}
 use Rattle.rt_lemmas.proofs.Bools.{and_parts, and_both, not_true}
 use Rattle.rt_ids.specs.Lists.{is_empty}
-use Rattle.rt_ids.specs.Names.{Names, irq_of, task_of, resource_of}
+use Rattle.rt_ids.specs.Names.{Names, irq_of, task_index, resource_of}
 use Rattle.rt_ids.specs.Word.{IsName, is_identifier, is_word}
 use Rattle.rt_ids.specs.declared.limits.TheConstants.{NAME_BYTES, IRQS, TASKS, SHARED}
 use Rattle.rt_load.specs.Loadable.{has_dot}
@@ -74,7 +74,7 @@ resource_new names name text same no_dot may =
 
 -- where a body of a task of this name may be added
 pub task_new : (front : Front) (name : List ℕ) → may_add_body front name ≡ true
-    → IsNew name (task_of front.image.names name) (length front.image.names.tasks) TASKS
+    → IsNew name (task_index front.image.names name) (length front.image.names.tasks) TASKS
 task_new front name may =
     let both = and_parts (has_cells front && is_empty front.image.code) (is_new_task front.image.names name) may in
-    new_from name (task_of front.image.names name) (length front.image.names.tasks) TASKS both.1
+    new_from name (task_index front.image.names name) (length front.image.names.tasks) TASKS both.1

@@ -11,7 +11,7 @@ use Rattle.rt_lines.proofs.Apart.{same_cons}
 use Rattle.rt_lines.proofs.Splitting.{split_some}
 use Rattle.rt_lines.proofs.Words.{first_part}
 use Rattle.rt_load.specs.Reading.{IsOneLine, Form}
-use Rattle.rt_load.specs.Inside.Reader.{fed_lines, ended, take, told, step, listing_reader}
+use Rattle.rt_load.specs.Inside.Reader.{fed_lines, ended, take, told, reader_step, listing_reader}
 use Rattle.rt_load.specs.declared.front.Front.{Front}
 
 pub fed_first : (line rest : List ℕ) → IsOneLine line
@@ -96,8 +96,8 @@ last_is text line e = by (cut_of text)
 pub step_fed : (s : Option Front) (line : List ℕ) → IsOneLine line
     → listing_reader.step s (line_with_feed line) ≡ told (take s line)
 step_fed s line own =
-    ap (λ t. step s (ended (parts 10 t))) (sym (append-nil (line_with_feed line)))
-    ∙ ap (λ ps. step s (ended ps)) (first_of line [] own)
+    ap (λ t. reader_step s (ended (parts 10 t))) (sym (append-nil (line_with_feed line)))
+    ∙ ap (λ ps. reader_step s (ended ps)) (first_of line [] own)
 
 pub step_last : (s : Option Front) (text : List ℕ) → IsOneLine text → listing_reader.step s text ≡ Err Form
-step_last s text own = ap (λ ps. step s (ended ps)) (only_part text own)
+step_last s text own = ap (λ ps. reader_step s (ended ps)) (only_part text own)

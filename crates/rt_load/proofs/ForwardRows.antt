@@ -7,7 +7,7 @@ use Rattle.std.proofs.lemmas.Option.{slice_get-get_or}
 use Rattle.std.proofs.lemmas.List.{map_push, get_or_push}
 use Rattle.rt_lemmas.proofs.Bools.{and_both}
 use Rattle.rt_lemmas.proofs.Lists.{all_behind}
-use Rattle.rt_ids.specs.Names.{Names, irq_of, task_of, with_task}
+use Rattle.rt_ids.specs.Names.{Names, irq_of, task_index, with_task}
 use Rattle.rt_ids.specs.Naming.{task_name}
 use Rattle.rt_ids.specs.Word.{IsName}
 use Rattle.rt_ids.specs.declared.limits.TheConstants.{IRQ_NUMBERS, IRQS, TASKS}
@@ -182,7 +182,7 @@ module _ (img : Image) (l : IsLoadable img) where
       let split = tasks_split done left row is in
       and_both (has_cells (bodies_front done) && true) (is_new_task (bodies_names done) name)
       (and_both (has_cells (bodies_front done)) true (same_itself (length img.cells)) refl)
-      (new_from_parts name (task_of (bodies_names done) name) (length (tasks_of done)) TASKS
+      (new_from_parts name (task_index (bodies_names done) name) (length (tasks_of done)) TASKS
       (named_here img.names.tasks (tasks_of done) (tasks_of left) name split l.fits.names.tasks)
       (next_task (bodies_names done) (length (tasks_of done)) name img.names.tasks
       (sym (ap (take (length (tasks_of done))) split ∙ front_taken (tasks_of done) name (tasks_of left)))

@@ -24,8 +24,8 @@ use Rattle.rt_code.specs.declared.instr.Instr.{Instr}
 use Rattle.rt_code.specs.declared.instr.Instr.TheVariants as instr
 use Rattle.rt_code.specs.declared.instr.Note.{Note}
 use Rattle.rt_code.specs.declared.instr.Note.TheVariants as note
-use Rattle.rt_lines.specs.Operand.{Kind, Number, IrqName, FirstIrqName, TaskName, BodyName, LockName, QueueName}
-use Rattle.rt_lines.specs.Operand.{SectionName, Value, word}
+use Rattle.rt_lines.specs.Operand.{OperandKind, Number, IrqName, FirstIrqName, TaskName, BodyName, LockName, QueueName}
+use Rattle.rt_lines.specs.Operand.{SectionName, OperandValue, word}
 use Rattle.rt_lines.specs.Table.{Operand, operand_word, spaced_text}
 use Rattle.rt_lines.proofs.Unbroken.{fed}
 use Rattle.rt_lines.proofs.Short.{irq_name_short, task_name_short, resource_name_short}
@@ -65,7 +65,7 @@ row_few : (row : Row) (ns : List ℕ) → length row.0 ≤ 5 → AreFew row.1 ns
 row_few row ns first few fits = row_short row first (omega (arith, fits, spaced_few row.1 ns few))
 
 -- the most bytes of a word of a kind
-abbrev width : Kind → ℕ
+abbrev width : OperandKind → ℕ
 width (Number bound) = 64
 width LockName = 70
 width QueueName = 70
@@ -97,7 +97,7 @@ module _ (names : Names) (are : AreNames names) where
   section_few (section.Ready p) = omega (arith, decimal_few p, length-append (codes "ready.") (decimal p))
   section_few section.Timer = omega arith
 
-  value_few : (k : Kind) (v : Value k) → length (word names k v) ≤ width k
+  value_few : (k : OperandKind) (v : OperandValue k) → length (word names k v) ≤ width k
   value_few (Number bound) n = decimal_few n
   value_few IrqName irq = irq_name_short names irq are
   value_few FirstIrqName irq = irq_name_short names irq are

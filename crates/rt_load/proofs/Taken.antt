@@ -11,7 +11,7 @@ use Rattle.rt_lemmas.proofs.Bools.{and_parts}
 use Rattle.rt_lemmas.proofs.Membership.{all_weaker}
 use Rattle.rt_lemmas.proofs.Lists.{map_alike}
 use Rattle.rt_ids.specs.Lists.{is_empty}
-use Rattle.rt_ids.specs.Names.{Names, AreNames, irq_of, task_of, with_irq, with_task}
+use Rattle.rt_ids.specs.Names.{Names, AreNames, irq_of, task_index, with_irq, with_task}
 use Rattle.rt_ids.specs.Naming.{task_name, IsTask}
 use Rattle.rt_ids.specs.declared.cell.CellRow.{CellRow}
 use Rattle.rt_ids.specs.declared.limits.TheConstants.{IRQS, TASKS}
@@ -279,7 +279,7 @@ older_lines names name (row ∷ rows) all = rw (older_name names name row.task a
 -- a body more
 with_body : (img : Image) (name : List ℕ) (row : BodyRow) → IsLoadable img → img.code ≡ [] → IsBodyWithin row → row.task
     ≡ length img.names.tasks
-    → IsNew name (task_of img.names name) (length img.names.tasks) TASKS
+    → IsNew name (task_index img.names name) (length img.names.tasks) TASKS
     → IsLoadable (record img { bodies = img.bodies ++ row ∷ []; names = with_task img.names name })
 with_body img name row l no_code within task new =
     let are : AreNames (with_task img.names name) = task_added img.names name l.fits.names new.named new.unknown
@@ -331,7 +331,7 @@ body_goes front name row stands may within task =
     let both = and_parts (has_cells front && is_empty front.image.code) (is_new_task front.image.names name) may in
     let codes_none = and_parts (has_cells front) (is_empty front.image.code) both.0 in
     let no_code = empty_from front.image.code codes_none.1 in
-    let new = new_from name (task_of front.image.names name) (length front.image.names.tasks) TASKS both.1 in
+    let new = new_from name (task_index front.image.names name) (length front.image.names.tasks) TASKS both.1 in
     let names = with_task front.image.names name in
     let front_irqs = (first_line front.image front.code front.cells ++ lines_with_numbers cell_line 0 front.image.cells)
     ++ flat_map irq_line front.image.irqs in

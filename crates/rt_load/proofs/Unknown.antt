@@ -36,7 +36,7 @@ use Rattle.rt_load.specs.Inside.Taking.{if_line, has_cells, may_add_line, may_ad
 use Rattle.rt_load.specs.Inside.Taking.{may_name_cell, is_in_cells, is_new_irq, is_new_task, and_cell, and_irq}
 use Rattle.rt_load.specs.Inside.Taking.{and_body, and_line, next_line, next_cell, next_irq, next_body, take_cell}
 use Rattle.rt_load.specs.Inside.Taking.{take_irq, take_body, take_code, take_words, take_line}
-use Rattle.rt_load.specs.Inside.Reader.{fed_lines, ended, told, step, listing_reader}
+use Rattle.rt_load.specs.Inside.Reader.{fed_lines, ended, told, reader_step, listing_reader}
 use Rattle.rt_load.specs.declared.front.Front.{Front}
 use Rattle.rt_load.specs.declared.operand.Wrong.{Wrong}
 use Rattle.rt_load.specs.declared.operand.Wrong.TheVariants as wrong
@@ -168,7 +168,7 @@ lines_keep names (Some front) line has = by (ended (parts 10 line))
     taken text (Ok next) e = let keeps = line_keeps front next text has.1 e in (keeps.names ∙ has.0, keeps.code)
     taken text (Err w) e = tt
 
-    by : (found : Option (List ℕ)) → IfOk (step (Some front) found) (HasKept names)
+    by : (found : Option (List ℕ)) → IfOk (reader_step (Some front) found) (HasKept names)
     by None = tt
     by (Some text) = taken text (take_line front text) refl
 

@@ -4,8 +4,8 @@ use Rattle.std.proofs.Common.{[], ◌∷◌, ◌++◌, Option, Some, None, unwra
 use Rattle.std.proofs.lemmas.Bool.Decides.{nat_tests}
 use Rattle.rt_ids.specs.Choice.{best, better_of}
 use Rattle.rt_ids.specs.declared.limits.TheConstants.{THREAD_VALUE}
-use Rattle.rt_nvic.specs.Nvic.{Nvic, value_of, is_below, is_pending, priority_of, is_ready, beats, IsReady}
-use Rattle.rt_nvic.specs.Inside.First.{limit_of}
+use Rattle.rt_nvic.specs.Nvic.{Nvic, priority_value, is_below, is_pending, priority_of, is_ready, beats, IsReady}
+use Rattle.rt_nvic.specs.Inside.First.{value_bound}
 
 abbrev pub chosen : Nvic → ℕ → List ℕ → Option ℕ
 chosen n exec irqs = best (is_ready n exec) (beats n) irqs
@@ -40,7 +40,7 @@ tells_by true (Some value) = inr (λ limit. refl)
 
 -- an interrupt is never ready, or wherever its value is below
 ready_tells : (n : Nvic) (irq : ℕ) → ((limit : ℕ) → is_ready n limit irq ≡ false)
-    ⊎ ((limit : ℕ) → is_ready n limit irq ≡ nat_lt (value_of n irq) limit)
+    ⊎ ((limit : ℕ) → is_ready n limit irq ≡ nat_lt (priority_value n irq) limit)
 ready_tells n irq = tells_by (is_pending n irq) (priority_of n irq)
 
 -- a number behind y and behind those of which nothing was chosen
@@ -61,29 +61,30 @@ next_some v y x z = grind (arith, nat_tests)
 some_higher : (v : ℕ → ℕ) (y z : ℕ) → (if nat_le (v y) (v z) then Some y else Some z) ≡ Some (higher v y z)
 some_higher v y z = grind (arith, nat_tests)
 
-next_by : (n : Nvic) (exec y x : ℕ) (b : Option ℕ) → value_of n y < exec → ((limit : ℕ) → is_ready n limit x ≡ false)
-    ⊎ ((limit : ℕ) → is_ready n limit x ≡ nat_lt (value_of n x) limit)
-    → better_of (beats n) y (if is_ready n (limit_of n exec b) x then Some x else b)
-    ≡ (if is_ready n (limit_of n exec (better_of (beats n) y b)) x then Some x else better_of (beats n) y b)
-next_by n exec y x b h (inl never) = rw (never (limit_of n exec b))
-    (rw (never (limit_of n exec (better_of (beats n) y b))) refl)
+next_by : (n : Nvic) (exec y x : ℕ) (b : Option ℕ) → priority_value n y < exec
+    → ((limit : ℕ) → is_ready n limit x ≡ false)
+    ⊎ ((limit : ℕ) → is_ready n limit x ≡ nat_lt (priority_value n x) limit)
+    → better_of (beats n) y (if is_ready n (value_bound n exec b) x then Some x else b)
+    ≡ (if is_ready n (value_bound n exec (better_of (beats n) y b)) x then Some x else better_of (beats n) y b)
+next_by n exec y x b h (inl never) = rw (never (value_bound n exec b))
+    (rw (never (value_bound n exec (better_of (beats n) y b))) refl)
 next_by n exec y x None h (inr wherever) = rw (wherever exec)
-    (rw (wherever (value_of n y)) (next_none (value_of n) exec y x h))
+    (rw (wherever (priority_value n y)) (next_none (priority_value n) exec y x h))
 next_by n exec y x (Some z) h (inr wherever) =
-    rw (wherever (value_of n z)) (rw (some_higher (value_of n) y z)
-    (rw (wherever (value_of n (higher (value_of n) y z))) (next_some (value_of n) y x z)))
+    rw (wherever (priority_value n z)) (rw (some_higher (priority_value n) y z)
+    (rw (wherever (priority_value n (higher (priority_value n) y z))) (next_some (priority_value n) y x z)))
 
 next_after : (n : Nvic) (exec y x : ℕ) (b : Option ℕ) (passes : Bool) → is_ready n exec y ≡ passes
-    → (if passes then better_of (beats n) y (if is_ready n (limit_of n exec b) x then Some x else b) else
-    (if is_ready n (limit_of n exec b) x then Some x else b))
-    ≡ (if is_ready n (limit_of n exec (if passes then better_of (beats n) y b else b)) x then Some x else
+    → (if passes then better_of (beats n) y (if is_ready n (value_bound n exec b) x then Some x else b) else
+    (if is_ready n (value_bound n exec b) x then Some x else b))
+    ≡ (if is_ready n (value_bound n exec (if passes then better_of (beats n) y b else b)) x then Some x else
     (if passes then better_of (beats n) y b else b))
 next_after n exec y x b true h = next_by n exec y x b (ready_from_test n exec y h).higher (ready_tells n x)
 next_after n exec y x b false h = refl
 
 -- one number more, at the end
 pub chosen_more : (n : Nvic) (exec x : ℕ) (irqs : List ℕ) → chosen n exec (irqs ++ x ∷ [])
-    ≡ (if is_ready n (limit_of n exec (chosen n exec irqs)) x then Some x else chosen n exec irqs)
+    ≡ (if is_ready n (value_bound n exec (chosen n exec irqs)) x then Some x else chosen n exec irqs)
 chosen_more n exec x [] = refl
 chosen_more n exec x (y ∷ irqs) =
     ap (λ (o : Option ℕ). if is_ready n exec y then better_of (beats n) y o else o) (chosen_more n exec x irqs)

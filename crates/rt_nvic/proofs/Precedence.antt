@@ -4,9 +4,9 @@ use Rattle.std.proofs.Common.{None, refl, sym, subst, ⊎_elim, ◌∙◌, IfSom
 use Rattle.std.proofs.lemmas.Bool.{cases_lt, false≢true}
 use Rattle.rt_lemmas.proofs.Numbers.{below_suc}
 use Rattle.rt_ids.specs.declared.limits.TheConstants.{IRQ_NUMBERS}
-use Rattle.rt_nvic.specs.Nvic.{Nvic, IsSized, value_of, is_ready, picked_irq, IsReady, Precedes}
+use Rattle.rt_nvic.specs.Nvic.{Nvic, IsSized, priority_value, is_ready, picked_irq, IsReady, Precedes}
 use Rattle.rt_ids.specs.Lists.{numbers_below}
-use Rattle.rt_nvic.specs.Inside.First.{limit_of}
+use Rattle.rt_nvic.specs.Inside.First.{value_bound}
 use Rattle.rt_nvic.proofs.Choosing.{chosen, chosen_more, ready_from_test, test_from_ready}
 use Rattle.rt_nvic.proofs.Fitting.{number_of_ready}
 
@@ -16,25 +16,26 @@ IsChoice n exec count None = (irq : ℕ) → irq < count → ¬ IsReady n exec i
 IsChoice n exec count (Some irq) = (irq < count) × IsReady n exec irq
     × ((other : ℕ) → other < count → IsReady n exec other → Precedes n irq other)
 
-precedes_from_order : (n : Nvic) (irq other : ℕ) → value_of n irq ≤ value_of n other → irq ≤ other
+precedes_from_order : (n : Nvic) (irq other : ℕ) → priority_value n irq ≤ priority_value n other → irq ≤ other
     → Precedes n irq other
 precedes_from_order n irq other v l = ⊎_elim (λ less. inl less) (λ more. inr (omega arith, l))
-    (cases_lt (value_of n irq) (value_of n other))
+    (cases_lt (priority_value n irq) (priority_value n other))
 
 -- ready at a lower execution priority
-ready_below : (n : Nvic) (exec limit irq : ℕ) → IsReady n exec irq → value_of n irq < limit → IsReady n limit irq
+ready_below : (n : Nvic) (exec limit irq : ℕ) → IsReady n exec irq → priority_value n irq < limit → IsReady n limit irq
 ready_below n exec limit irq is l = record { pending = is.pending; enabled = is.enabled; higher = l }
 
 not_ready : (n : Nvic) (exec irq : ℕ) → is_ready n exec irq ≡ false → ¬ IsReady n exec irq
 not_ready n exec irq h is = false≢true (sym h ∙ test_from_ready n exec irq is)
 
 not_higher : (n : Nvic) (exec limit irq : ℕ) → is_ready n limit irq ≡ false → IsReady n exec irq
-    → limit ≤ value_of n irq
+    → limit ≤ priority_value n irq
 not_higher n exec limit irq h is =
     ⊎_elim (λ less. absurd (not_ready n limit irq h (ready_below n exec limit irq is less))) (λ ge. ge)
-    (cases_lt (value_of n irq) limit)
+    (cases_lt (priority_value n irq) limit)
 
-pub choice_more_by : (n : Nvic) (exec count : ℕ) (o : Option ℕ) (passes : Bool) → is_ready n (limit_of n exec o) count
+pub choice_more_by : (n : Nvic) (exec count : ℕ) (o : Option ℕ) (passes : Bool)
+    → is_ready n (value_bound n exec o) count
     ≡ passes → IsChoice n exec count o → IsChoice n exec (suc count) (if passes then Some count else o)
 choice_more_by n exec count None true h is = (
   omega arith,
@@ -44,10 +45,10 @@ choice_more_by n exec count None true h is = (
 )
 choice_more_by n exec count None false h is = below_suc (λ k. ¬ IsReady n exec k) count is (not_ready n exec count h)
 choice_more_by n exec count (Some irq) true h is =
-    let ready = ready_from_test n (value_of n irq) count h in
-    let l : value_of n count < exec = let a = ready.higher in let b = is.1.higher in omega arith in (
+    let ready = ready_from_test n (priority_value n irq) count h in
+    let l : priority_value n count < exec = let a = ready.higher in let b = is.1.higher in omega arith in (
       omega arith,
-      ready_below n (value_of n irq) exec count ready l,
+      ready_below n (priority_value n irq) exec count ready l,
       below_suc (λ k. IsReady n exec k → Precedes n count k) count
           (λ k l r. inl (⊎_elim (λ less. omega arith) (λ same. omega arith) (is.2 k l r)))
           (λ r. inr (refl, omega arith)),
@@ -56,7 +57,7 @@ choice_more_by n exec count (Some irq) false h is = (
   omega arith,
   is.1,
   below_suc (λ k. IsReady n exec k → Precedes n irq k) count is.2
-      (λ r. precedes_from_order n irq count (not_higher n exec (value_of n irq) count h r) (omega arith)),
+      (λ r. precedes_from_order n irq count (not_higher n exec (priority_value n irq) count h r) (omega arith)),
 )
 
 pub choice : (n : Nvic) (exec count : ℕ) → IsChoice n exec count (chosen n exec (numbers_below count))

@@ -9,7 +9,7 @@ use native.Mathlib.Decide.{ℕ_discrete}
 use Rattle.rt_ids.specs.Lists.{numbers_below}
 use Rattle.rt_ids.specs.declared.limits.TheConstants.{IRQ_NUMBERS, THREAD_VALUE}
 use Rattle.rt_nvic.specs.declared.sizes.TheConstants.{ACTIVE, LEAVES, NO_KEY, NODES, WORDS}
-use Rattle.rt_nvic.specs.Nvic.{Nvic, IsSized, value_of, priority_of, is_pending, picked_irq, IsReady}
+use Rattle.rt_nvic.specs.Nvic.{Nvic, IsSized, priority_value, priority_of, is_pending, picked_irq, IsReady}
 use Rattle.rt_nvic.specs.Inside.Bits.{flags}
 use Rattle.rt_nvic.specs.Inside.Fields.{IsKept}
 use Rattle.rt_nvic.specs.Inside.Keys.{key, leaf, IsTournament, HasKeys}
@@ -31,7 +31,7 @@ same_choice n exec count None None x y = refl
 same_choice n exec count None (Some j) x y = absurd (x j y.0 y.1)
 same_choice n exec count (Some i) None x y = absurd (y i x.0 x.1)
 same_choice n exec count (Some i) (Some j) x y =
-    ap Some (one_of_two (value_of n i) (value_of n j) i j (x.2 j y.0 y.1) (y.2 i x.0 x.1))
+    ap Some (one_of_two (priority_value n i) (priority_value n j) i j (x.2 j y.0 y.1) (y.2 i x.0 x.1))
 
 chosen_from : (n : Nvic) (exec : ℕ) (o : Option ℕ) → IsChoice n exec IRQ_NUMBERS o → o ≡ picked_irq n exec
 chosen_from n exec o is = same_choice n exec IRQ_NUMBERS o (chosen n exec (numbers_below IRQ_NUMBERS)) is
@@ -60,7 +60,7 @@ by_keys a b i j l x y = ⊎_elim (λ less. inl less) (λ more. inr (omega arith,
 
 module _ (n : Nvic) (exec : ℕ) (nodes : List ℕ) (sizes : IsSized n) (small : exec < 2 ^ 16) (is : IsTournament nodes)
     (keys : HasKeys n.priorities n.pending nodes) where
-  key_of : (irq : ℕ) → irq < LEAVES → IsReady n exec irq → leaf nodes irq ≡ value_of n irq * LEAVES + irq
+  key_of : (irq : ℕ) → irq < LEAVES → IsReady n exec irq → leaf nodes irq ≡ priority_value n irq * LEAVES + irq
   key_of irq l r = keys.each irq l ∙ key_ready irq (priority_of n irq) (is_pending n irq) r.pending r.enabled
 
   ready_of : (irq : ℕ) → irq < LEAVES → leaf nodes irq < exec * LEAVES → IsReady n exec irq
@@ -69,7 +69,7 @@ module _ (n : Nvic) (exec : ℕ) (nodes : List ℕ) (sizes : IsSized n) (small :
       let h : key irq (priority_of n irq) (is_pending n irq) < NO_KEY = omega arith in
       let p = low_pending irq (priority_of n irq) (is_pending n irq) h in
       let s = low_enabled irq (priority_of n irq) (is_pending n irq) h in
-      let v : leaf nodes irq ≡ value_of n irq * LEAVES + irq =
+      let v : leaf nodes irq ≡ priority_value n irq * LEAVES + irq =
       keys.each irq l ∙ key_ready irq (priority_of n irq) (is_pending n irq) p s in
       record { pending = p; enabled = s; higher = omega arith }
 
@@ -83,7 +83,7 @@ module _ (n : Nvic) (exec : ℕ) (nodes : List ℕ) (sizes : IsSized n) (small :
         let here = key_of irq l r in
         let there = key_of other within s in
         let before = least nodes other within is in
-        by_keys (value_of n irq) (value_of n other) irq other (omega arith) l within,
+        by_keys (priority_value n irq) (priority_value n other) irq other (omega arith) l within,
   )
 
   pub none_of : exec * LEAVES ≤ get_or nodes 1 0 → None ≡ picked_irq n exec

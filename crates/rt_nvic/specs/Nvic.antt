@@ -34,13 +34,13 @@ abbrev pub priority_of : Nvic → ℕ → Option ℕ
 priority_of n irq = slice_index_or n.priorities irq None
 
 -- the priority value of an interrupt, and that of the thread for one that is not enabled
-abbrev pub value_of : Nvic → ℕ → ℕ
-value_of n irq = unwrap_or (priority_of n irq) THREAD_VALUE
+abbrev pub priority_value : Nvic → ℕ → ℕ
+priority_value n irq = unwrap_or (priority_of n irq) THREAD_VALUE
 
 -- the priority value of the first of these, and that of the thread where there is none
 abbrev pub value_of_first : Nvic → List ℕ → ℕ
 value_of_first n [] = THREAD_VALUE
-value_of_first n (irq ∷ irqs) = value_of n irq
+value_of_first n (irq ∷ irqs) = priority_value n irq
 
 -- the priority value of the handler that runs
 abbrev pub value_of_running : Nvic → ℕ
@@ -50,12 +50,13 @@ value_of_running n = value_of_first n n.active
 pub record IsReady (n : Nvic) (exec irq : ℕ) : Type 0 where
   pub pending : IsTrue (is_pending n irq)
   pub enabled : IsSome (priority_of n irq)
-  pub higher : value_of n irq < exec
+  pub higher : priority_value n irq < exec
 
 -- Of two interrupts that are ready this one is taken first: it has the higher priority, or one that is the same and no
 -- greater number.
 abbrev pub Precedes : Nvic → ℕ → ℕ → Type 0
-Precedes n irq other = (value_of n irq < value_of n other) ⊎ ((value_of n irq ≡ value_of n other) × (irq ≤ other))
+Precedes n irq other =
+    (priority_value n irq < priority_value n other) ⊎ ((priority_value n irq ≡ priority_value n other) × (irq ≤ other))
 
 -- The same choice as one function: of those that pass the test, the one that no later one beats.
 
@@ -70,7 +71,7 @@ is_ready n exec irq = is_pending n irq && is_below (priority_of n irq) exec
 
 -- whether an interrupt is taken before a later one, which has a greater number
 abbrev pub beats : Nvic → ℕ → ℕ → Bool
-beats n irq later = nat_le (value_of n irq) (value_of n later)
+beats n irq later = nat_le (priority_value n irq) (priority_value n later)
 
 -- the interrupt that is taken at this execution priority
 abbrev pub picked_irq : Nvic → ℕ → Option ℕ

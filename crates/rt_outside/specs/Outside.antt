@@ -2,8 +2,8 @@
 -- failed. Nobody knows what a file has left.
 use Rattle.std.specs.Prelude.{ℕ, List, Option, None}
 use Rattle.rt_outside.specs.Bytes.{Past}
-use Rattle.rt_outside.specs.declared.file_source.State.{State}
-use Rattle.rt_outside.specs.declared.file_source.State.TheVariants as state
+use Rattle.rt_outside.specs.declared.file_source.FileState.{FileState}
+use Rattle.rt_outside.specs.declared.file_source.FileState.TheVariants as state
 
 -- whether a file opened: that was not tried yet, it did, or it did not
 pub data Opening : Type 0 where
@@ -24,7 +24,7 @@ pub record StandardOutput : Type 0 where
   pub faults : ℕ
 
 -- whether the file in this state opened
-abbrev pub opening_of : {F : Type 0} → State F → Opening
+abbrev pub opening_of : {F : Type 0} → FileState F → Opening
 opening_of state.Closed = Untried
 opening_of (state.Open file) = Opened
 opening_of state.Missing = Missing

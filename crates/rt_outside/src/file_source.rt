@@ -6,7 +6,7 @@ ghost use Rattle.rt_outside.specs.Faults.{HasCause};
 ghost use Rattle.rt_outside.specs.Bytes.{after_read, no_past, Moves};
 ghost use Rattle.rt_outside.specs.Memory.{next_fault};
 ghost use Rattle.rt_outside.specs.Outside.{opening_of, no_bytes_told, Untried, Opened, Missing};
-ghost use Rattle.rt_outside.specs.declared.file_source.State.TheVariants as state;
+ghost use Rattle.rt_outside.specs.declared.file_source.FileState.TheVariants as state;
 
 use crate::passed::Passed;
 use crate::source::is_end;
@@ -23,7 +23,7 @@ use std::rt::Files;
 pub struct FileSource<'a, R: Files> {
     rt: &'a R,
     path: &'a str,
-    state: State<R::File>,
+    state: FileState<R::File>,
     given: Passed,
     at_end: bool,
     failed: u64,
@@ -31,7 +31,7 @@ pub struct FileSource<'a, R: Files> {
 
 /// How far the file has come.
 #[derive(Drop)]
-enum State<F> {
+enum FileState<F> {
     Closed,
     Open(F),
     Missing,
@@ -59,7 +59,7 @@ impl<'a, R: Files> FileSource<'a, R> {
         FileSource {
             rt,
             path,
-            state: State::Closed,
+            state: FileState::Closed,
             given: Passed::Nothing,
             at_end: false,
             failed: 0,
@@ -75,22 +75,22 @@ fn names_file(path: &str) -> bool
 }
 
 /// The file that an opening gave, or that it gave none.
-fn state_after_opening<F: Drop, E: Drop>(answer: Result<F, E>) -> State<F>
+fn state_after_opening<F: Drop, E: Drop>(answer: Result<F, E>) -> FileState<F>
     ensures ok { IfOk answer (λ file. result ≡ state.Open file) }
     ensures err { OnErr answer (result ≡ state.Missing) }
 {
     match answer {
-        Ok(file) => State::Open(file),
-        Err(_) => State::Missing,
+        Ok(file) => FileState::Open(file),
+        Err(_) => FileState::Missing,
     }
 }
 
 /// Opens the file where that was not tried yet.
-fn open_once<R: Files>(rt: &R, path: &str, state: &mut State<R::File>)
+fn open_once<R: Files>(rt: &R, path: &str, state: &mut FileState<R::File>)
     ensures tried { opening_of state.new ≢ Untried }
     ensures once { opening_of state.old ≢ Untried → state.new ≡ state.old }
 {
-    if let State::Closed = state {
+    if let FileState::Closed = state {
         *state = state_after_opening(fs::open(rt, path));
     }
 }
@@ -107,13 +107,13 @@ fn given_count<E: Drop>(answer: Result<usize, E>) -> Option<usize>
 }
 
 /// Reads some of the file. None where it did not open or read.
-fn read_some<F: Read>(state: &mut State<F>, buffer: &mut [u8]) -> Option<usize>
+fn read_some<F: Read>(state: &mut FileState<F>, buffer: &mut [u8]) -> Option<usize>
     ensures within { IfSome result (λ n. n ≤ length buffer.old) }
     ensures opened { opening_of state.old ≢ Opened → result ≡ None }
     ensures same { opening_of state.new ≡ opening_of state.old }
 {
     match state {
-        State::Open(file) => given_count(file.read(buffer)),
+        FileState::Open(file) => given_count(file.read(buffer)),
         _ => None,
     }
 }

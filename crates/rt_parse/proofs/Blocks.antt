@@ -11,7 +11,7 @@ use Rattle.rt_parse.specs.Inside.ReadingNested.{further_at}
 use Rattle.rt_parse.specs.Inside.ReadingStatement.{block_at, inside_at, below_at}
 
 -- the block of statements is the same in the code and in the grammar
-pub block : (statements : List Stmt) → grammar.block_of (map statement_of statements) ≡ code.block_of statements
+pub block : (statements : List Stmt) → grammar.joined_block (map statement_of statements) ≡ code.block_of statements
 block [] = refl
 block (s ∷ statements) = ap (Then (statement_of s)) (block statements)
 

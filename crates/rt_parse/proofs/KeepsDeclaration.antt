@@ -17,7 +17,7 @@ use Rattle.rt_grammar.specs.Resources.{interrupt, interrupts, monotonic, first_v
 use Rattle.rt_grammar.specs.Resources.{shared_resources, local, locals}
 use Rattle.rt_grammar.specs.Options.{Options, no_options, Owner, OfTask, is_init, binds_option, priority_option}
 use Rattle.rt_grammar.specs.Options.{capacity_option, listed_resource, shared_option, local_option, option, options}
-use Rattle.rt_grammar.specs.Bodies.{or_empty, body_of, thread_body, parameters, task}
+use Rattle.rt_grammar.specs.Bodies.{or_empty, body_with, thread_body, parameters, task}
 use Rattle.rt_parse.proofs.Keeps.{Keeps, AreFew, none_are_few, one_more_is_few, keeps_gives, keeps_then, keeps_or}
 use Rattle.rt_parse.proofs.Keeps.{keeps_or_else, keeps_only_if, keeps_as, keeps_repeat, keeps_all, keeps_few}
 use Rattle.rt_parse.proofs.KeepsTokens.{still_below, between, keeps_word, keeps_sign, keeps_this_name, keeps_name}
@@ -231,7 +231,7 @@ pub record IsBodyKept (owner : Owner) (b : Body) : Type 0 where
   pub none : is_init owner ≡ true → b.shared ≡ []
 
 body_kept : (owner : Owner) (o : Options) (block : Block) (after at : ℕ) → AreOptionsKept owner o
-    → IsBlockKept 1 0 (block, after) → IsBodyKept owner (body_of o block at)
+    → IsBlockKept 1 0 (block, after) → IsBodyKept owner (body_with o block at)
 body_kept owner o block after at k h = record {
   printable = record {
     shared = all_or_empty IsPrintableListed o.shared k.shared;

@@ -9,9 +9,10 @@ use Rattle.rt_ast.specs.PrintableBody.{IsPrintableExpression, IsPrintableSpawn, 
 use Rattle.rt_ast.specs.PrintableBody.{ArePrintable, inner_blocks, blocks_of, statements_in, statements_of}
 use Rattle.rt_grammar.specs.Tokens.{free}
 use Rattle.rt_grammar.specs.Limits.{statement_limit, nesting_limit}
-use Rattle.rt_grammar.specs.Spawn.{arguments, handle, soon, after, cancel, move, spawn, value}
+use Rattle.rt_grammar.specs.Spawn.{arguments, handle, soon, delayed_spawn, cancel, move, spawn, value}
 use Rattle.rt_grammar.specs.Simple.{Counted, bind, assign, emit, pend, call}
-use Rattle.rt_grammar.specs.Statement.{Blocks, branch, loop, further, lock, statement, block_of, braced_block, block}
+use Rattle.rt_grammar.specs.Statement.{Blocks, branch, loop, further, lock, statement, joined_block, braced_block}
+use Rattle.rt_grammar.specs.Statement.{block}
 use Rattle.rt_grammar.specs.Statement.{inside}
 use Rattle.rt_parse.proofs.Keeps.{Keeps, keeps_gives, keeps_then, keeps_or, keeps_or_else, keeps_never, keeps_repeat}
 use Rattle.rt_parse.proofs.Keeps.{keeps_all}
@@ -41,7 +42,7 @@ keeps_soon most what =
     keeps_then keeps_word (λ at under. keeps_then keeps_name (λ task h. keeps_then (keeps_arguments most) (λ args all.
     keeps_gives (record { printable = (h.name, all); free = under }))))
 
-keeps_after : (most : ℕ) (what : Option Limit) → Keeps (after most what) (IsSpawnTaken what)
+keeps_after : (most : ℕ) (what : Option Limit) → Keeps (delayed_spawn most what) (IsSpawnTaken what)
 keeps_after most what =
     keeps_then keeps_word (λ at under. keeps_then keeps_sign
     (λ opened k. keeps_then (keeps_expression most) (λ delay d. keeps_then keeps_sign (λ closed k.
@@ -189,26 +190,28 @@ module _ (nesting before : ℕ) (deep : nesting ≤ NESTING) where
 
 -- Blocks.
 
-printable_with : (xs : List Statement) (s : Statement) → ArePrintable (block_of xs) → IsPrintableStatement s
-    → ArePrintable (block_of (xs ++ s ∷ []))
+printable_with : (xs : List Statement) (s : Statement) → ArePrintable (joined_block xs) → IsPrintableStatement s
+    → ArePrintable (joined_block (xs ++ s ∷ []))
 printable_with [] s all h = (h, tt)
 printable_with (x ∷ xs) s (first, all) h = (first, printable_with xs s all h)
 
-blocks_with : (xs : List Statement) (s : Statement) (nesting most : ℕ) → blocks_of (block_of xs) + nesting ≤ most → 1
-    + inner_blocks s + nesting ≤ most → blocks_of (block_of (xs ++ s ∷ [])) + nesting ≤ most
+blocks_with : (xs : List Statement) (s : Statement) (nesting most : ℕ) → blocks_of (joined_block xs) + nesting ≤ most
+    → 1
+    + inner_blocks s + nesting ≤ most → blocks_of (joined_block (xs ++ s ∷ [])) + nesting ≤ most
 blocks_with [] s nesting most h k = omega arith
 blocks_with (x ∷ xs) s nesting most h k =
-    let rest : blocks_of (block_of (xs ++ s ∷ [])) + nesting ≤ most = blocks_with xs s nesting most (omega arith) k in
+    let rest : blocks_of (joined_block (xs ++ s ∷ [])) + nesting ≤ most =
+    blocks_with xs s nesting most (omega arith) k in
     omega arith
 
-statements_with : (xs : List Statement) (s : Statement) → statements_of (block_of (xs ++ s ∷ []))
-    ≡ statements_of (block_of xs) + statements_in s
+statements_with : (xs : List Statement) (s : Statement) → statements_of (joined_block (xs ++ s ∷ []))
+    ≡ statements_of (joined_block xs) + statements_in s
 statements_with [] s = omega arith
 statements_with (x ∷ xs) s = omega (arith, statements_with xs s)
 
 -- the statements of a block so far
 abbrev AreKept : ℕ → ℕ → Counted (List Statement) → Type 0
-AreKept nesting before all = IsBlockKept nesting before (block_of all.0, all.1)
+AreKept nesting before all = IsBlockKept nesting before (joined_block all.0, all.1)
 
 one_more_kept : (nesting before : ℕ) (all : Counted (List Statement)) (s : Counted Statement)
     → AreKept nesting before all → IsStatementKept nesting all.1 s → AreKept nesting before (all.0 ++ s.0 ∷ [], s.1)

@@ -3,7 +3,7 @@ use Rattle.std.proofs.Common.{ℕ, zero, suc, codes, [], Option}
 use Rattle.rt_ids.specs.declared.limit.Limit.{Limit}
 use Rattle.rt_grammar.specs.Tokens.{free}
 use Rattle.rt_grammar.specs.Limits.{turn_limit}
-use Rattle.rt_grammar.specs.Spawn.{arguments, handle, soon, after, cancel, move, spawn, value}
+use Rattle.rt_grammar.specs.Spawn.{arguments, handle, soon, delayed_spawn, cancel, move, spawn, value}
 use Rattle.rt_grammar.specs.Simple.{bind, assign, emit, pend, call}
 use Rattle.rt_grammar.specs.Statement.{Blocks, branch, loop, further, lock, statement, braced_block, block, inside}
 use Rattle.rt_parse.proofs.Known.{Known, known_gives, known_then, known_or, known_or_else, known_never, known_repeat}
@@ -18,7 +18,7 @@ known_soon : (most : ℕ) (what : Option Limit) → Known (soon most what)
 known_soon most what = known_then known_word (λ at. known_then (known_name _)
     (λ task. known_then (known_arguments most) (λ args. known_gives _)))
 
-known_after : (most : ℕ) (what : Option Limit) → Known (after most what)
+known_after : (most : ℕ) (what : Option Limit) → Known (delayed_spawn most what)
 known_after most what = known_then known_word (λ at. known_then known_sign
     (λ paren. known_then (known_expression most) (λ delay. known_then known_sign
     (λ end. known_then (known_name _) (λ task. known_then (known_arguments most) (λ args. known_gives _))))))

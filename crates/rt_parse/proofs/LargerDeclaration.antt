@@ -10,7 +10,7 @@ use Rattle.rt_grammar.specs.Tokens.{word, limited_word, name}
 use Rattle.rt_grammar.specs.Limits.{at_most}
 use Rattle.rt_grammar.specs.Resources.{interrupts, monotonic, shared_resources, locals}
 use Rattle.rt_grammar.specs.Options.{Owner, OfInit, OfIdle, OfTask, options}
-use Rattle.rt_grammar.specs.Bodies.{parameters, body_of, thread_body, task}
+use Rattle.rt_grammar.specs.Bodies.{parameters, body_with, thread_body, task}
 use Rattle.rt_grammar.specs.Declaration.{head, application}
 use Rattle.rt_parse.proofs.Larger.{Grows, grows_behind, grows_before, grows_then, grows_or_else, grows_repeat}
 use Rattle.rt_parse.proofs.Larger.{grows_adds}
@@ -21,7 +21,7 @@ pub larger_thread_body : (m n : ℕ) → m ≤ n → (owner : Owner) (text : Lis
 larger_thread_body m n most owner text =
     grows_or_else None (grows_behind (word text) (λ at.
     grows_behind (options owner) (λ o.
-    grows_before (λ b. gives (Some (body_of o b.0 at))) (larger_block m n most m n most 1 0))))
+    grows_before (λ b. gives (Some (body_with o b.0 at))) (larger_block m n most m n most 1 0))))
 
 pub larger_task : (m n : ℕ) → m ≤ n → (before : ℕ) → Grows (task m before) (task n before)
 larger_task m n most before =
@@ -36,7 +36,7 @@ larger_task m n most before =
       capacity = o.capacity;
       args =
           args;
-      body = body_of o b.0 x.at;
+      body = body_with o b.0 x.at;
     })) (larger_block m n most m n most 1 0)))))
 
 pub larger_application : (m n : ℕ) → m ≤ n → Grows (application m) (application n)

@@ -7,9 +7,10 @@ use Rattle.rt_grammar.specs.Language.{gives, ◌>>=◌, ◌>>◌}
 use Rattle.rt_grammar.specs.Tokens.{free, first_of, word, limited_word, sign, limited_sign, name, limited_name, number}
 use Rattle.rt_grammar.specs.Tokens.{limited_number}
 use Rattle.rt_grammar.specs.Limits.{statement_limit, nesting_limit, turn_limit}
-use Rattle.rt_grammar.specs.Spawn.{arguments, handle, soon, after, cancel, move, spawn, value}
+use Rattle.rt_grammar.specs.Spawn.{arguments, handle, soon, delayed_spawn, cancel, move, spawn, value}
 use Rattle.rt_grammar.specs.Simple.{Counted, bind, assign, emit, pend, call}
-use Rattle.rt_grammar.specs.Statement.{Blocks, branch, loop, further, lock, statement, one_more, block_of, braced_block}
+use Rattle.rt_grammar.specs.Statement.{Blocks, branch, loop, further, lock, statement, one_more, joined_block}
+use Rattle.rt_grammar.specs.Statement.{braced_block}
 use Rattle.rt_grammar.specs.Statement.{block, inside}
 use Rattle.rt_parse.proofs.Larger.{Grows, grows_same, grows_never, grows_then, grows_behind, grows_before, grows_or}
 use Rattle.rt_parse.proofs.Larger.{grows_or_else, grows_repeat, grows_list, grows_adds}
@@ -24,7 +25,7 @@ larger_soon m n most what =
     grows_behind (limited_word (codes "spawn") what) (λ at.
     grows_behind name (λ task. grows_before (λ args. gives (Soon task args)) (larger_arguments m n most)))
 
-pub larger_after : (m n : ℕ) → m ≤ n → (what : Option Limit) → Grows (after m what) (after n what)
+pub larger_after : (m n : ℕ) → m ≤ n → (what : Option Limit) → Grows (delayed_spawn m what) (delayed_spawn n what)
 larger_after m n most what =
     grows_behind (limited_word (codes "spawn_after") what) (λ at.
     grows_behind (sign (codes "(")) (λ opened.
@@ -144,7 +145,7 @@ pub larger_braced : (m n : ℕ) → m ≤ n → {blocks blocks' insides insides'
     → BlocksGrow (braced_block m blocks insides) (braced_block n blocks' insides')
 larger_braced m n most blocks insides nesting before =
     grows_behind (limited_sign (codes "{") (nesting_limit nesting)) (λ at.
-    grows_before (λ all. sign (codes "}") >> gives (block_of all.0, all.1))
+    grows_before (λ all. sign (codes "}") >> gives (joined_block all.0, all.1))
     (grows_repeat (larger_one_more m n most blocks insides nesting) ([], before)))
 
 -- what is in braces and what follows a lock's name grow together

@@ -16,7 +16,7 @@ use Rattle.rt_grammar.specs.Language.{gives, ◌>>=◌, ◌or◌, repeat}
 use Rattle.rt_grammar.specs.Tokens.{free, limit_if, first_of, sign, limited_sign, limited_name, name_limit}
 use Rattle.rt_grammar.specs.Limits.{statement_limit, nesting_limit}
 use Rattle.rt_grammar.specs.Simple.{Counted}
-use Rattle.rt_grammar.specs.Statement.{Blocks, block_of, one_more, block, inside}
+use Rattle.rt_grammar.specs.Statement.{Blocks, joined_block, one_more, block, inside}
 use Rattle.rt_parse.specs.Inside.Reading.{Reader, begins_with, fault_found_at}
 use Rattle.rt_parse.specs.Inside.ReadingExpression.{is_name, is_name_kind}
 use Rattle.rt_parse.specs.Inside.ReadingSimple.{counted_limit}
@@ -68,7 +68,7 @@ closes t e = or_neither (is_inside t) (is_else t) (ap not e) (sign_no_word (code
 abbrev pub braced_with : Option Limit → ℕ → Blocks → Blocks → Blocks
 braced_with what most blocks insides nesting n =
     limited_sign (codes "{") what >>= λ at. repeat (one_more most blocks insides nesting) ([], n) >>= λ all. sign
-    (codes "}") >>= λ end. gives (block_of all.0, all.1)
+    (codes "}") >>= λ end. gives (joined_block all.0, all.1)
 
 -- a further name, which may pass a limit
 abbrev further_with : Option Limit → Blocks → Blocks
@@ -81,11 +81,11 @@ module _ (most : ℕ) (blocks insides : Blocks) (nesting : ℕ) where
   one_starts s = starts_then (λ x. gives (s.0 ++ x.0 ∷ [], x.1)) (statement_starts most blocks insides nesting s.1)
 
   closing_some : (all : Counted (List Statement)) → IsInhabited {B = Counted Block} (sign (codes "}") >>= λ end. gives
-      (block_of all.0, all.1))
-  closing_some all = some_then (some_sign (codes "}") free) (λ end. some_gives (block_of all.0, all.1))
+      (joined_block all.0, all.1))
+  closing_some all = some_then (some_sign (codes "}") free) (λ end. some_gives (joined_block all.0, all.1))
 
   all_some : (n : ℕ) → IsInhabited {B = Counted Block} (repeat (one_more most blocks insides nesting) ([], n) >>= λ all.
-      sign (codes "}") >>= λ end. gives (block_of all.0, all.1))
+      sign (codes "}") >>= λ end. gives (joined_block all.0, all.1))
   all_some n = some_then (some_repeat (one_more most blocks insides nesting) ([], n)) closing_some
 
   pub braced_some : (what : Option Limit) (n : ℕ) → IsInhabited (braced_with what most blocks insides nesting n)
@@ -147,7 +147,7 @@ module _ (most : ℕ) (blocks insides : Blocks) (nesting : ℕ) where
         (reads_repeat_goes is_inside (one_more_at reader reader')
         (λ s. starts_wider begins_statement is_inside opens (one_starts s))
         (λ s. avoids_starts begins_statement is_else no_else (one_starts s)) one_reads ([], n))
-        (λ all. reads_map (λ end. (block_of all.0, all.1)) (λ end. spent (block_of all.0, all.1)) reads_sign
+        (λ all. reads_map (λ end. (joined_block all.0, all.1)) (λ end. spent (joined_block all.0, all.1)) reads_sign
         (λ end. refl))
         closing_some
         (λ all K avoids. avoids_apart (is_this_sign (codes "}")) (λ t. is_inside t || is_else t) closes

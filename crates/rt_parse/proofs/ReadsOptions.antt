@@ -17,7 +17,7 @@ use Rattle.rt_grammar.specs.Options.{capacity_option, shared_option, local_optio
 use Rattle.rt_parse.specs.Inside.Reading as reading
 use Rattle.rt_parse.specs.Inside.Reading.{Reader, begins_with, fault_found_at, token_at}
 use Rattle.rt_parse.specs.Inside.ReadingExpression.{is_name}
-use Rattle.rt_parse.specs.Inside.ReadingOptions.{takes, binds_at, priority_at, capacity_at, ref_resource_at}
+use Rattle.rt_parse.specs.Inside.ReadingOptions.{option_comes, binds_at, priority_at, capacity_at, ref_resource_at}
 use Rattle.rt_parse.specs.Inside.ReadingOptions.{named_resource_at, listed_resource_at, shared_list_at, local_list_at}
 use Rattle.rt_parse.specs.Inside.ReadingOptions.{option_at, some_options_at, options_at}
 use Rattle.rt_parse.specs.declared.stop.Found.{Found}
@@ -58,7 +58,7 @@ reads_tested {A} {B} {C} {L = L} {reader = reader} {reader' = reader'} test star
         (outcome_blocked (L >>= K) tokens (blocked_starts test tokens (starts_then K starts) e) (some_then some any))
 
 no_take : {C : Type 0} (text : List ℕ) (reader reader' : Reader C) (tokens : List Token) → reader' tokens
-    ≡ (if begins_with (takes false text) tokens then reader tokens else reader' tokens)
+    ≡ (if begins_with (option_comes false text) tokens then reader tokens else reader' tokens)
 no_take text reader reader' [] = refl
 no_take text reader reader' (t ∷ tokens) = refl
 
@@ -68,7 +68,7 @@ choice_or_none : {A B : Type 0} {L M : Language A} {reader reader' : Reader A} (
     → Starts (is_this_word text) L → Starts (of_words texts) M → Form B (λ t. false) nothing nothing suc (λ x. x) L
     reader → ReadsOrNone B nothing (λ x. x) M reader'
     → ReadsOrNone B nothing (λ x. x) (only_if allowed L or M)
-    (λ tokens. if begins_with (takes allowed text) tokens then reader tokens else reader' tokens)
+    (λ tokens. if begins_with (option_comes allowed text) tokens then reader tokens else reader' tokens)
 choice_or_none {L = L} {M = M} true text texts other l m first (IsForm second) = IsForm
     (reads_words text texts other (starts_only_if l) m (reads_only_if refl first.reads) second)
 choice_or_none {L = L} {M = M} true text texts other l m first (IsNone none wrong) = IsForm
@@ -91,7 +91,7 @@ choice_or_none {L = L} {M = M} {reader = reader} {reader' = reader'} false text 
 last_or_none : {A B : Type 0} {L : Language A} {reader : Reader A} (allowed : Bool) (text : List ℕ)
     → Starts (is_this_word text) L → Form B (λ t. false) nothing nothing suc (λ x. x) L reader
     → ReadsOrNone B nothing (λ x. x) (only_if allowed L)
-    (λ tokens. if begins_with (takes allowed text) tokens then reader tokens else Err (fault_found_at tokens))
+    (λ tokens. if begins_with (option_comes allowed text) tokens then reader tokens else Err (fault_found_at tokens))
 last_or_none {L = L} {reader = reader} true text l first =
     IsForm (reads_tested (is_this_word text) (starts_only_if l) (first.some.0, first.some.1, (refl, first.some.2))
     (λ tokens. refl) (reads_only_if refl first.reads))

@@ -12,7 +12,7 @@ use Rattle.rt_grammar.specs.Language.{Language, gives, ◌>>=◌, ◌or◌}
 use Rattle.rt_grammar.specs.Tokens.{free, limit_if, limited_word, sign, name, limited_name, adds}
 use Rattle.rt_grammar.specs.Expression.{expression}
 use Rattle.rt_grammar.specs.Limits.{statement_limit}
-use Rattle.rt_grammar.specs.Spawn.{arguments, handle, soon, after, cancel, move, spawn}
+use Rattle.rt_grammar.specs.Spawn.{arguments, handle, soon, delayed_spawn, cancel, move, spawn}
 use Rattle.rt_grammar.specs.Simple.{Counted}
 use Rattle.rt_parse.specs.Inside.Reading.{fault_found_at, token_at, limited_word_at, limited_name_at}
 use Rattle.rt_parse.specs.Inside.ReadingExpression.{expression_at, comparison_at, chains_at, chain_at, atom_or_at}
@@ -87,7 +87,7 @@ module _ (most : ℕ) (what : Option Limit) where
   soon_starts : Starts (is_this_word (codes "spawn")) (soon most what)
   soon_starts = starts_then _ (starts_word (codes "spawn") what)
 
-  after_starts : Starts (is_this_word (codes "spawn_after")) (after most what)
+  after_starts : Starts (is_this_word (codes "spawn_after")) (delayed_spawn most what)
   after_starts = starts_then _ (starts_word (codes "spawn_after") what)
 
   cancel_starts : Starts (is_this_word (codes "cancel")) (cancel most what)
@@ -99,7 +99,7 @@ module _ (most : ℕ) (what : Option Limit) where
   cancels_start : Starts (of_words of_cancel) (cancel most what or move most what)
   cancels_start = starts_words (codes "cancel") of_move cancel_starts move_starts
 
-  afters_start : Starts (of_words of_after) (after most what or cancel most what or move most what)
+  afters_start : Starts (of_words of_after) (delayed_spawn most what or cancel most what or move most what)
   afters_start = starts_words (codes "spawn_after") of_cancel after_starts cancels_start
 
   pub spawn_starts : Starts (of_words spawn_words) (spawn most what)
@@ -205,7 +205,7 @@ module _ (most : ℕ) (enough : suc PARENTHESES ≤ most) where
         (form_then _ form_word (λ at. form_then _ (form_name free)
         (λ task. form_map (Soon task) (Soon task) arguments_form (λ args. refl))))
 
-    after_form : Form B before nothing nothing suc (λ x. x) (after most what) (after_at what)
+    after_form : Form B before nothing nothing suc (λ x. x) (delayed_spawn most what) (after_at what)
     unfolding after_at
     after_form = form_fewer (λ n. omega arith)
         (form_then _ form_word (λ at. form_same

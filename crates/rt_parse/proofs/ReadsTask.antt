@@ -14,7 +14,7 @@ use Rattle.rt_grammar.specs.Limits.{nesting_limit, at_most}
 use Rattle.rt_grammar.specs.Simple.{Counted}
 use Rattle.rt_grammar.specs.Statement.{block, inside}
 use Rattle.rt_grammar.specs.Options.{Options, Owner, OfTask, options}
-use Rattle.rt_grammar.specs.Bodies.{body_of, thread_body, parameter, parameters, task}
+use Rattle.rt_grammar.specs.Bodies.{body_with, thread_body, parameter, parameters, task}
 use Rattle.rt_parse.specs.Inside.ReadingBodies.{thread_at, thread_body_at, argument_at, parameters_at}
 use Rattle.rt_parse.specs.Inside.ReadingBodies.{task_arguments_at, task_at, body_block_at}
 use Rattle.rt_parse.proofs.Exact.{IsInhabited, Avoids, Starts, nothing}
@@ -57,7 +57,7 @@ behind_block goes apart most M K = avoids_apart (is_this_sign (codes "{")) goes 
 
 unfoldable pub thread_of : ℕ → Owner → List ℕ → Language (Option Body)
 thread_of most owner text = word text >>= λ at. options owner >>= λ o. block most most 1 0 >>= λ b. gives
-    (Some (body_of o b.0 at))
+    (Some (body_with o b.0 at))
 
 pub thread_starts : (most : ℕ) (owner : Owner) (text : List ℕ) → Starts (is_this_word text) (thread_of most owner text)
 unfolding thread_of
@@ -68,9 +68,9 @@ thread_form : {B : Type 0} {before : Token → Bool} (most : ℕ) → suc PARENT
 unfolding thread_of thread_at
 thread_form most le owner text = form_fewer (λ n. omega arith)
     (form_then _ form_word (λ at. form_seq _ (options_form owner)
-    (λ o. form_map (λ b. Some (body_of o b.0 at)) (λ b. Some (body_of o b.0 at)) (body_form most le) (λ b. refl))
+    (λ o. form_map (λ b. Some (body_with o b.0 at)) (λ b. Some (body_with o b.0 at)) (body_form most le) (λ b. refl))
     (λ o K avoids. behind_block (is_this_sign (codes "("))
-    (signs_apart (codes "{") (codes "(") refl) most (λ b. gives (Some (body_of o b.0 at))) K)))
+    (signs_apart (codes "{") (codes "(") refl) most (λ b. gives (Some (body_with o b.0 at))) K)))
 
 pub thread_body_form : {B : Type 0} {before : Token → Bool} (most : ℕ) → suc PARENTHESES ≤ most
     → (owner : Owner) (text : List ℕ)
@@ -141,7 +141,7 @@ task_is x o args b = record {
   priority = o.priority;
   capacity = o.capacity;
   args = args;
-  body = body_of o b.0 x.at;
+  body = body_with o b.0 x.at;
 }
 
 pub task_starts : (most n : ℕ) → Starts (is_this_word (codes "task")) (task most n)

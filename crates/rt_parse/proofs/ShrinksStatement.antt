@@ -11,7 +11,7 @@ use Rattle.rt_grammar.specs.Tokens.{free, limit_if, first_of, name_limit}
 use Rattle.rt_grammar.specs.Expression.{Operand, Signs, operator, comparisons, strengths, chains, comparison, atom}
 use Rattle.rt_grammar.specs.Expression.{ends, expression}
 use Rattle.rt_grammar.specs.Limits.{statement_limit, nesting_limit, turn_limit}
-use Rattle.rt_grammar.specs.Spawn.{arguments, handle, soon, after, cancel, move, spawn, value}
+use Rattle.rt_grammar.specs.Spawn.{arguments, handle, soon, delayed_spawn, cancel, move, spawn, value}
 use Rattle.rt_grammar.specs.Simple.{bind, assign, emit, pend, call}
 use Rattle.rt_grammar.specs.Statement.{Blocks, branch, loop, further, lock, statement, braced_block, block, inside}
 use Rattle.rt_parse.proofs.Exact.{IsInhabited}
@@ -78,7 +78,7 @@ module _ (most most' : ℕ) (enough : suc PARENTHESES ≤ most') where
   shrinks_soon what = shrinks_then shrinks_word (λ at. shrinks_then (shrinks_name free)
       (λ task. shrinks_then shrinks_arguments (λ args. shrinks_gives _)))
 
-  shrinks_after : (what : Option Limit) → Shrinks (after most what) (after most' what)
+  shrinks_after : (what : Option Limit) → Shrinks (delayed_spawn most what) (delayed_spawn most' what)
   shrinks_after what = shrinks_then shrinks_word (λ at. shrinks_then shrinks_sign
       (λ paren. shrinks_then shrinks_expression (λ delay. shrinks_then shrinks_sign
       (λ end. shrinks_then (shrinks_name free) (λ task. shrinks_then shrinks_arguments (λ args. shrinks_gives _))))))

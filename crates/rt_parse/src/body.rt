@@ -8,7 +8,8 @@ ghost use Rattle.rt_grammar.specs.Bodies.{or_empty};
 ghost use Rattle.rt_parse.specs.Inside.Reading.{GivesRead, begins_with, repeat_at};
 ghost use Rattle.rt_parse.specs.Inside.ReadingList.{items_at, adds_at};
 ghost use Rattle.rt_parse.specs.Inside.ReadingOptions.{binds_at, priority_at, capacity_at, shared_list_at};
-ghost use Rattle.rt_parse.specs.Inside.ReadingOptions.{local_list_at, takes, option_at, some_options_at, options_at};
+ghost use Rattle.rt_parse.specs.Inside.ReadingOptions.{local_list_at, option_comes, option_at, some_options_at};
+ghost use Rattle.rt_parse.specs.Inside.ReadingOptions.{options_at};
 ghost use Rattle.rt_parse.specs.Inside.ReadingBodies.{thread_at, thread_body_at, one_argument_at, argument_at};
 ghost use Rattle.rt_parse.specs.Inside.ReadingBodies.{parameters_at, task_arguments_at, task_is, task_block_at};
 ghost use Rattle.rt_parse.specs.Inside.ReadingBodies.{task_at};
@@ -206,7 +207,7 @@ impl BodyOptions {
 
 /// Whether an option may come here, and comes next.
 fn takes(tokens: &Tokens<'_>, allowed: bool, option: &[u8]) -> bool
-    ensures { result ≡ begins_with (takes allowed option.now) tokens.now }
+    ensures { result ≡ begins_with (option_comes allowed option.now) tokens.now }
 {
     match tokens.peek() {
         Some(token) => allowed && token.is_word(option),

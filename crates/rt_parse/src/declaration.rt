@@ -11,7 +11,7 @@ ghost use Rattle.rt_parse.specs.Inside.ReadingOptions.{ref_resource_at, named_re
 ghost use Rattle.rt_parse.specs.Inside.ReadingDeclaration.{dispatchers_at, extension_at, fpu_at, behind_comma_at};
 ghost use Rattle.rt_parse.specs.Inside.ReadingDeclaration.{features_at, head_rest_at, priority_bits_at, head_at};
 
-use crate::list::{Item, list};
+use crate::list::{ListItem, list};
 use crate::stop::Stop;
 use crate::tokens::{
     at_most, begins_sign, begins_this_name, begins_word, limited_name, limited_word, name, number,
@@ -23,7 +23,7 @@ use rt_ids::limits::{IRQ_NUMBERS, IRQS, LEAST_BITS, LOCALS, MOST_BITS, SHARED};
 use rt_lex::Tokens;
 use std::alloc::Global;
 
-impl Item for Ident {
+impl ListItem for Ident {
     ghost reads = { λ _. name_at };
 
     fn read<'a>(
@@ -61,7 +61,7 @@ fn interrupt<'a>(
     Ok((IrqTree { name, number }, tokens))
 }
 
-impl Item for IrqTree {
+impl ListItem for IrqTree {
     ghost reads = { interrupt_at };
 
     fn read<'a>(
@@ -324,7 +324,7 @@ fn resource<'a>(
     }
 }
 
-impl Item for SharedTree {
+impl ListItem for SharedTree {
     ghost reads = { resource_at };
 
     fn read<'a>(
@@ -376,7 +376,7 @@ fn local<'a>(
     Ok((LocalTree { name, first }, tokens))
 }
 
-impl Item for LocalTree {
+impl ListItem for LocalTree {
     ghost reads = { local_at };
 
     fn read<'a>(
@@ -449,7 +449,7 @@ fn listed_resource<'a>(alloc: Global, tokens: Tokens<'a>) -> Result<(ListedTree,
     }
 }
 
-impl Item for ListedTree {
+impl ListItem for ListedTree {
     ghost reads = { λ _. listed_resource_at };
 
     fn read<'a>(

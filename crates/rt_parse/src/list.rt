@@ -10,7 +10,7 @@ use rt_lex::Tokens;
 use std::alloc::Global;
 
 /// An item of a list.
-pub(crate) trait Item: Sized {
+pub(crate) trait ListItem: Sized {
     /// How it is read after so many others.
     ghost reads: { ℕ → Reader Self };
 
@@ -47,7 +47,7 @@ pub(crate) fn goes_past(tokens: &Tokens<'_>, sign: &[u8]) -> bool
 }
 
 /// A list up to the sign that closes it.
-pub(crate) fn list<'a, T: Item + Drop>(
+pub(crate) fn list<'a, T: ListItem + Drop>(
     alloc: Global,
     tokens: Tokens<'a>,
     closing: &[u8],

@@ -5,7 +5,7 @@
 use Rattle.std.specs.Prelude.{ℕ, min, List, [], ◌∷◌, option_map, unwrap_or}
 use Rattle.rt_ids.specs.declared.limits.TheConstants.{THREAD_VALUE}
 use Rattle.rt_code.specs.Image.{Image}
-use Rattle.rt_points.specs.Point.{Owner, Starting, Thread, Handling, Kind, Mark, Raise, Mask, Opened}
+use Rattle.rt_points.specs.Point.{Owner, Starting, Thread, Handling, SectionKind, Mark, Raise, Mask, Opened}
 use Rattle.rt_points.specs.Leading.{handler_at}
 
 -- the priority value of an owner: `init` runs with all interrupts masked, the thread below every interrupt
@@ -21,7 +21,7 @@ frame_of img Thread = img.thread_words
 frame_of img (Handling index) = unwrap_or (option_map (λ h. h.frame) (handler_at img index)) 0
 
 -- the execution priority inside a section of a kind, where it is this outside: the value falls or stays
-abbrev pub lowered_value : Kind → ℕ → ℕ
+abbrev pub lowered_value : SectionKind → ℕ → ℕ
 lowered_value Mark value = value
 lowered_value (Raise slot v) value = min v value
 lowered_value (Mask slot) value = 0

@@ -10,7 +10,7 @@ use Rattle.rt_code.specs.declared.instr.Instr.{Instr}
 use Rattle.rt_code.specs.declared.instr.Instr.TheVariants as instr
 use Rattle.rt_code.specs.declared.instr.Note.{Note}
 use Rattle.rt_code.specs.declared.instr.Note.TheVariants as note
-use Rattle.rt_points.specs.Point.{Owner, Starting, Thread, Handling, Kind, Mark, Raise, Mask, Opened, Point}
+use Rattle.rt_points.specs.Point.{Owner, Starting, Thread, Handling, SectionKind, Mark, Raise, Mask, Opened, Point}
 
 -- the handler of the interrupt at an index, where it is enabled
 abbrev pub handler_at : Image → ℕ → Option Handler
@@ -32,7 +32,7 @@ owner_after instr.Serve Starting = Thread
 owner_after i owner = owner
 
 -- how the instruction on which a section is entered holds others off
-abbrev pub kind_of : Instr → Kind
+abbrev pub kind_of : Instr → SectionKind
 kind_of (instr.Raise d v) = Raise d v
 kind_of (instr.Mask d) = Mask d
 kind_of i = Mark

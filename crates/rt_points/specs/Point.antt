@@ -8,8 +8,8 @@ pub use Rattle.rt_points.specs.declared.point.Owner.{Owner}
 pub use Rattle.rt_points.specs.declared.point.Owner.TheVariants.{Starting, Thread, Handling}
 -- How an open section holds others off: by nothing; or by BASEPRI, raised to a value, or by PRIMASK, and what the mask
 -- was before is saved in a slot (ARMv7-M Architecture Reference Manual, section B1.4.3).
-pub use Rattle.rt_points.specs.declared.point.Kind.{Kind}
-pub use Rattle.rt_points.specs.declared.point.Kind.TheVariants.{Mark, Raise, Mask}
+pub use Rattle.rt_points.specs.declared.point.SectionKind.{SectionKind}
+pub use Rattle.rt_points.specs.declared.point.SectionKind.TheVariants.{Mark, Raise, Mask}
 -- an open section, with its kind
 pub use Rattle.rt_points.specs.declared.point.Opened.{Opened}
 

@@ -15,7 +15,8 @@ use Rattle.rt_code.specs.declared.instr.Instr.{Instr}
 use Rattle.rt_code.specs.declared.instr.Instr.TheVariants as instr
 use Rattle.rt_code.specs.declared.instr.Note.{Note}
 use Rattle.rt_code.specs.declared.instr.Note.TheVariants as note
-use Rattle.rt_points.specs.Point.{Owner, Starting, Thread, Handling, Kind, Mark, Raise, Mask, Opened, Point, sections}
+use Rattle.rt_points.specs.Point.{Owner, Starting, Thread, Handling, SectionKind, Mark, Raise, Mask, Opened, Point}
+use Rattle.rt_points.specs.Point.{sections}
 use Rattle.rt_points.specs.Leading.{IsPoint, StandsAt, inside_after}
 use Rattle.rt_points.specs.ExecutionPriority.{owner_value, frame_of, execution_priority}
 use Rattle.rt_points.specs.Stack.{stack_need}
@@ -90,7 +91,7 @@ opens (instr.Mask d) = true
 opens i = false
 
 -- the instruction on which a section is left: the one that undoes how it was entered
-abbrev pub closing_instr : Kind → Instr
+abbrev pub closing_instr : SectionKind → Instr
 closing_instr Mark = instr.Mark
 closing_instr (Raise slot value) = instr.Restore slot
 closing_instr (Mask slot) = instr.Unmask slot
@@ -147,7 +148,7 @@ written_slot (instr.Mask d) = Some d
 written_slot i = None
 
 -- this slot holds what a mask was before a section of the kind
-abbrev pub Saves : Kind → ℕ → Type 0
+abbrev pub Saves : SectionKind → ℕ → Type 0
 Saves Mark d = ⊥
 Saves (Raise slot value) d = d ≡ slot
 Saves (Mask slot) d = d ≡ slot
@@ -158,7 +159,7 @@ IsUnsaved inside None = Unit {0}
 IsUnsaved inside (Some d) = AllByRecursion (λ o. ¬ Saves o.kind d) inside
 
 -- a section of this kind masks by PRIMASK
-abbrev pub IsMask : Kind → Type 0
+abbrev pub IsMask : SectionKind → Type 0
 IsMask Mark = ⊥
 IsMask (Raise slot value) = ⊥
 IsMask (Mask slot) = Unit {0}

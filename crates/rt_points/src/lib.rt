@@ -9,5 +9,5 @@ pub mod point;
 pub mod rule;
 
 pub use laws::{constants_are_as_documented, images_are_judged_one_way};
-pub use point::{Kind, Opened, Owner};
+pub use point::{Opened, Owner, SectionKind};
 pub use rule::{MOST_OPEN, Rule, STACK_BYTES};

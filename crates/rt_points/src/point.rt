@@ -15,7 +15,7 @@ pub enum Owner {
 
 /// How an open section holds others off.
 #[derive(Clone, Copy, PartialEq, Eq)]
-pub enum Kind {
+pub enum SectionKind {
     /// By nothing: what runs does already.
     Mark,
     /// By BASEPRI. What it was before is saved in the slot, and it is raised to the value.
@@ -28,5 +28,5 @@ pub enum Kind {
 #[derive(Clone, Copy, PartialEq, Eq)]
 pub struct Opened {
     pub section: Section,
-    pub kind: Kind,
+    pub kind: SectionKind,
 }

@@ -21,7 +21,7 @@ use Rattle.rt_grammar.specs.Tokens.{free, name, limited_name, sign, word, limite
 use Rattle.rt_grammar.specs.Statement.{block}
 use Rattle.rt_grammar.specs.Limits.{at_most}
 use Rattle.rt_grammar.specs.Options.{Options, Owner, OfInit, OfIdle, OfTask, is_init, options}
-use Rattle.rt_grammar.specs.Bodies.{or_empty, body_of, thread_body, parameter, parameters, task}
+use Rattle.rt_grammar.specs.Bodies.{or_empty, body_with, thread_body, parameter, parameters, task}
 use Rattle.rt_print.proofs.Reading.{Reads, Any, read_gives, read_then, read_left, read_right, read_none, read_step}
 use Rattle.rt_print.proofs.Reading.{read_space, read_trail, read_same}
 use Rattle.rt_print.proofs.Lexemes.{IsFront, Stops, IsNamed, read_name, read_word, read_sign}
@@ -40,7 +40,7 @@ or_empty_is view (Some x) (y ∷ ys) e = cc
 
 same_body : (b : Option Ident) (p : _) (c : Option ℕ) (body : Body) (o : Options) (blk : Block) (at : ℕ)
     → AreRead b p c body.shared body.local o → bare_block blk ≡ bare_block body.block
-    → bare_body (body_of o blk at) ≡ bare_body body
+    → bare_body (body_with o blk at) ≡ bare_body body
 same_body b p c body o blk at a e = rw (
   or_empty_is bare_listed o.shared body.shared a.shared,
   or_empty_is bare_name o.local body.local a.local,
@@ -76,7 +76,7 @@ body_reads owner w b Y before own h =
     (shared_left owner None None None b.shared b.local _ (32 ∷ B) own h.shared h.local none_read)) (λ o a.
     read_space _ P B Y
     (read_then (block 16 16 1 0) _ (IsBlock b.block 0) P B Y Y (whole_block_reads b.block Y h.block) (λ c e.
-    read_gives P (Some (body_of o c.0 at)) Y (ap Some (same_body None None None b o c.0 at a e.same))))))))
+    read_gives P (Some (body_with o c.0 at)) Y (ap Some (same_body None None None b o c.0 at a e.same))))))))
 
 init_before : IsBefore (codes "init")
 init_before [] E = refl
@@ -208,7 +208,7 @@ task_reads t before Y h few =
       capacity = o.capacity;
       args = xs;
       body =
-          body_of o b.0 x.at;
+          body_with o b.0 x.at;
     }) Y
     (rw (n, a.binds, a.priority, a.capacity, e, same_body t.binds t.priority t.capacity t.body o b.0 x.at a k.same)
     refl)))))))))

@@ -13,7 +13,7 @@ use Rattle.rt_ast.specs.PrintableBody.{IsPrintableExpression, IsPrintableSpawn, 
 use Rattle.rt_grammar.specs.Tokens.{free, name, sign, word, limited_word}
 use Rattle.rt_grammar.specs.Expression.{expression}
 use Rattle.rt_grammar.specs.Language.{◌or◌}
-use Rattle.rt_grammar.specs.Spawn.{arguments, handle, soon, after, cancel, move, spawn, value}
+use Rattle.rt_grammar.specs.Spawn.{arguments, handle, soon, delayed_spawn, cancel, move, spawn, value}
 use Rattle.rt_print.proofs.Reading.{Reads, Any, read_gives, read_then, read_left, read_right, read_space, read_same}
 use Rattle.rt_print.proofs.Lexemes.{IsNamed, read_name, read_word, read_sign}
 use Rattle.rt_print.proofs.Expressions.{IsTree, expression_reads, plain_closing, plain_semicolon}
@@ -76,7 +76,8 @@ soon_reads task args most what Y h m w =
 
 after_reads : (at : ℕ) (delay : Expression) (task : Ident) (args : List Expression) (most : ℕ) (what : Option Limit)
     (Y : List ℕ) → IsPrintableSpawn (After at delay task args) → 16 ≤ most → what ≡ None
-    → Reads (after most what) (IsSpawn (After at delay task args)) (spawn_text (After at delay task args) ++ Y) Y
+    → Reads (delayed_spawn most what) (IsSpawn (After at delay task args))
+    (spawn_text (After at delay task args) ++ Y) Y
 after_reads at delay task args most what Y h m w =
     let P = IsSpawn (After at delay task args) in
     let Z = 40 ∷ (separated_list expression_text args ++ 41 ∷ Y) in
@@ -86,7 +87,7 @@ after_reads at delay task args most what Y h m w =
     (append_assoc (expression_text delay ++ codes ") ") (call_text task args) Y
     ∙ append_assoc (expression_text delay) (codes ") ") (call_text task args ++ Y)
     ∙ ap (λ (t : List ℕ). expression_text delay ++ 41 ∷ 32 ∷ t) (call_append task args Y)) in
-    read_same (after most what) P (codes "spawn_after(" ++ D) _ Y e
+    read_same (delayed_spawn most what) P (codes "spawn_after(" ++ D) _ Y e
     (read_then (limited_word (codes "spawn_after") what) _ Any P
     (codes "spawn_after(" ++ D) (40 ∷ D) Y (read_word (codes "spawn_after") what (40 ∷ D) w refl) (λ at' u.
     read_then (sign (codes "(")) _ Any P (40 ∷ D) D Y (read_sign (codes "(") free D refl refl) (λ b v.
@@ -167,16 +168,16 @@ move_reads at delay task e most what Y h m w =
 pub spawn_reads : (s : Spawn) (most : ℕ) (what : Option Limit) (Y : List ℕ) → IsPrintableSpawn s → 16 ≤ most → what
     ≡ None → Reads (spawn most what) (IsSpawn s) (spawn_text s ++ Y) Y
 spawn_reads (Soon task args) most what Y h m w =
-    read_left (soon most what) (after most what or cancel most what or move most what) _ _ Y
+    read_left (soon most what) (delayed_spawn most what or cancel most what or move most what) _ _ Y
     (soon_reads task args most what Y h m w)
 spawn_reads (After at delay task args) most what Y h m w =
-    read_right (soon most what) _ _ _ Y (read_left (after most what) (cancel most what or move most what) _ _ Y
+    read_right (soon most what) _ _ _ Y (read_left (delayed_spawn most what) (cancel most what or move most what) _ _ Y
     (after_reads at delay task args most what Y h m w))
 spawn_reads (Cancel at task e) most what Y h m w =
-    read_right (soon most what) _ _ _ Y (read_right (after most what) _ _ _ Y
+    read_right (soon most what) _ _ _ Y (read_right (delayed_spawn most what) _ _ _ Y
     (read_left (cancel most what) (move most what) _ _ Y (cancel_reads at task e most what Y h m w)))
 spawn_reads (Move at delay task e) most what Y h m w =
-    read_right (soon most what) _ _ _ Y (read_right (after most what) _ _ _ Y
+    read_right (soon most what) _ _ _ Y (read_right (delayed_spawn most what) _ _ _ Y
     (read_right (cancel most what) (move most what) _ _ Y (move_reads at delay task e most what Y h m w)))
 
 abbrev pub IsValue : Value → Value → Type 0

@@ -20,7 +20,8 @@ use Rattle.rt_grammar.specs.Expression.{expression}
 use Rattle.rt_grammar.specs.Limits.{statement_limit, nesting_limit, turn_limit}
 use Rattle.rt_grammar.specs.Spawn.{value, spawn}
 use Rattle.rt_grammar.specs.Simple.{Counted, bind, assign, emit, pend, call}
-use Rattle.rt_grammar.specs.Statement.{branch, loop, further, lock, statement, block_of, one_more, braced_block, block}
+use Rattle.rt_grammar.specs.Statement.{branch, loop, further, lock, statement, joined_block, one_more, braced_block}
+use Rattle.rt_grammar.specs.Statement.{block}
 use Rattle.rt_grammar.specs.Statement.{inside}
 use Rattle.rt_print.proofs.Reading.{Reads, Any, IsMargin, read_gives, read_then, read_holds, read_left, read_right}
 use Rattle.rt_print.proofs.Reading.{read_none, read_step, read_space, read_newline, read_margin, read_same}
@@ -126,7 +127,7 @@ pub record AreStatements (b : Block) (before : ℕ) (others : List Statement) (c
     0 where
   pub own : List Statement
   pub all : c.0 ≡ others ++ own
-  pub same : bare_block (block_of own) ≡ bare_block b
+  pub same : bare_block (joined_block own) ≡ bare_block b
   pub count : c.1 ≡ before + statements_of b
 
 -- the lines of a block are read as its statements
@@ -142,9 +143,9 @@ is_deeper [] h = (refl, (refl, (refl, (refl, tt))))
 is_deeper (b ∷ margin) h = (h.0, is_deeper margin h.1)
 
 whole_block : (b : Block) (before : ℕ) (c : Counted (List Statement)) → AreStatements b before [] c
-    → IsBlock b before (block_of c.0, c.1)
+    → IsBlock b before (joined_block c.0, c.1)
 whole_block b before c h = record {
-  same = ap (λ (xs : List Statement). bare_block (block_of xs)) h.all ∙ h.same;
+  same = ap (λ (xs : List Statement). bare_block (joined_block xs)) h.all ∙ h.same;
   count = h.count;
 }
 
@@ -160,7 +161,7 @@ braces_read b most deep nesting before X Z Y n h k =
     read_then (limited_sign (codes "{") (nesting_limit nesting)) _ Any P (123 ∷ X) X Y
     (read_sign (codes "{") (nesting_limit nesting) X (nested_free nesting n) refl) (λ c u.
     read_then (statements_at most deep nesting before) _ (AreStatements b before []) P X Z Y h (λ all p.
-    read_then (sign (codes "}")) _ Any P Z Y Y k (λ d v. read_gives P (block_of all.0, all.1) Y
+    read_then (sign (codes "}")) _ Any P Z Y Y k (λ d v. read_gives P (joined_block all.0, all.1) Y
     (whole_block b before all p))))
 
 blocks_some : (b : Block) → 1 ≤ blocks_of b

@@ -6,7 +6,7 @@ ghost use Rattle.rt_ast.specs.Canonical.{dispatchers_text, fpu_text, head_text, 
 ghost use Rattle.rt_ast.specs.Canonical.{mono_text};
 ghost use Rattle.rt_ast.specs.Canonical.{resource_text, shared_text, local_text, locals_text};
 
-use crate::list::{Item, push_bracketed, push_enclosed};
+use crate::list::{ListItem, push_bracketed, push_enclosed};
 use crate::text::push_name;
 use rt_ast::{AppTree, Ident, IrqTree, LocalTree, MonoTree, SharedTree};
 use rt_ids::{NoMemory, push_bytes, push_number};
@@ -46,7 +46,7 @@ pub(crate) fn push_head(out: &mut Vec<u8>, tree: &AppTree) -> Result<(), NoMemor
     push_bytes(out, b");\n")
 }
 
-impl Item for IrqTree {
+impl ListItem for IrqTree {
     ghost text = { irq_text };
 
     fn push(&self, out: &mut Vec<u8>) -> Result<(), NoMemory> {
@@ -86,7 +86,7 @@ pub(crate) fn push_mono(out: &mut Vec<u8>, mono: &Option<MonoTree>) -> Result<()
     }
 }
 
-impl Item for SharedTree {
+impl ListItem for SharedTree {
     ghost text = { resource_text };
 
     fn push(&self, out: &mut Vec<u8>) -> Result<(), NoMemory> {
@@ -110,7 +110,7 @@ pub(crate) fn push_shared(out: &mut Vec<u8>, resources: &[SharedTree]) -> Result
     push_bytes(out, b"\n")
 }
 
-impl Item for LocalTree {
+impl ListItem for LocalTree {
     ghost text = { local_text };
 
     fn push(&self, out: &mut Vec<u8>) -> Result<(), NoMemory> {

@@ -11,7 +11,7 @@ use rt_ast::{Expr, Ident};
 use rt_ids::{NoMemory, push_bytes};
 
 /// An item of a list.
-pub(crate) trait Item {
+pub(crate) trait ListItem {
     /// Its text.
     ghost text: { Self → List ℕ };
 
@@ -20,7 +20,7 @@ pub(crate) trait Item {
         ensures { OnOk result (out.new.items ≡ out.old.items ++ text self.now) };
 }
 
-impl Item for Ident {
+impl ListItem for Ident {
     ghost text = { name_text };
 
     fn push(&self, out: &mut Vec<u8>) -> Result<(), NoMemory> {
@@ -28,7 +28,7 @@ impl Item for Ident {
     }
 }
 
-impl Item for Expr {
+impl ListItem for Expr {
     ghost text = { λ expr. expression_text (expression_of expr) };
 
     fn push(&self, out: &mut Vec<u8>) -> Result<(), NoMemory> {
@@ -37,7 +37,7 @@ impl Item for Expr {
 }
 
 /// Appends items, each after a comma.
-fn push_further<T: Item>(out: &mut Vec<u8>, items: &[T]) -> Result<(), NoMemory>
+fn push_further<T: ListItem>(out: &mut Vec<u8>, items: &[T]) -> Result<(), NoMemory>
     ensures { OnOk result (out.new.items ≡ out.old.items ++ further T.text items.now) }
 {
     for item in items {
@@ -48,7 +48,7 @@ fn push_further<T: Item>(out: &mut Vec<u8>, items: &[T]) -> Result<(), NoMemory>
 }
 
 /// Appends items with a comma between each two.
-pub(crate) fn push_separated<T: Item>(out: &mut Vec<u8>, items: &[T]) -> Result<(), NoMemory>
+pub(crate) fn push_separated<T: ListItem>(out: &mut Vec<u8>, items: &[T]) -> Result<(), NoMemory>
     ensures { OnOk result (out.new.items ≡ out.old.items ++ separated_list T.text items.now) }
 {
     match items.split_first() {
@@ -69,7 +69,7 @@ pub(crate) fn push_expressions(out: &mut Vec<u8>, exprs: &[Expr]) -> Result<(), 
 }
 
 /// Appends items in brackets.
-pub(crate) fn push_bracketed<T: Item>(out: &mut Vec<u8>, items: &[T]) -> Result<(), NoMemory>
+pub(crate) fn push_bracketed<T: ListItem>(out: &mut Vec<u8>, items: &[T]) -> Result<(), NoMemory>
     ensures { OnOk result (out.new.items ≡ out.old.items ++ bracketed_list T.text items.now) }
 {
     push_bytes(out, b"[")?;
@@ -78,7 +78,7 @@ pub(crate) fn push_bracketed<T: Item>(out: &mut Vec<u8>, items: &[T]) -> Result<
 }
 
 /// Appends items in braces.
-pub(crate) fn push_enclosed<T: Item>(out: &mut Vec<u8>, items: &[T]) -> Result<(), NoMemory>
+pub(crate) fn push_enclosed<T: ListItem>(out: &mut Vec<u8>, items: &[T]) -> Result<(), NoMemory>
     ensures { OnOk result (out.new.items ≡ out.old.items ++ braced_list T.text items.now) }
 {
     if items.is_empty() {

@@ -7,7 +7,7 @@ ghost use Rattle.rt_ast.specs.CanonicalOptions.{capacity_option_text, shared_opt
 ghost use Rattle.rt_ast.specs.CanonicalOptions.{body_options, task_options, options_text};
 ghost use Rattle.rt_print.specs.Opened.{has_any, opening_text, opened_text, closing_text};
 
-use crate::list::{Item, push_bracketed};
+use crate::list::{ListItem, push_bracketed};
 use crate::text::push_name;
 use rt_ast::{BodyTree, Ident, ListedTree, Number, TaskTree};
 use rt_ids::{NoMemory, push_bytes, push_number};
@@ -87,7 +87,7 @@ fn push_capacity(out: &mut Vec<u8>, opened: bool, capacity: Option<u32>) -> Resu
     }
 }
 
-impl Item for ListedTree {
+impl ListItem for ListedTree {
     ghost text = { listed_text };
 
     fn push(&self, out: &mut Vec<u8>) -> Result<(), NoMemory> {

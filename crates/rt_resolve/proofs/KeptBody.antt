@@ -10,7 +10,7 @@ use Rattle.rt_ast.specs.PrintableBody.{IsPrintableExpression, IsPrintableSpawn, 
 use Rattle.rt_ast.specs.PrintableBody.{IsPrintableStatement, ArePrintable}
 use Rattle.rt_app.specs.Limits as kept
 use Rattle.rt_ids.specs.Lists.{greatest}
-use Rattle.rt_app.specs.Frame.{depth, spawn_depth, value_depth, statement_depth, block_depth}
+use Rattle.rt_app.specs.Frame.{expression_depth, spawn_depth, value_depth, statement_depth, block_depth}
 use Rattle.rt_resolve.specs.Scope.{Names, inside}
 use Rattle.rt_resolve.specs.Resolving.{expression, spawn, value, statement, block, names_after, in_loop, binders_in}
 use Rattle.rt_resolve.specs.Resolving.{binders}
@@ -60,16 +60,16 @@ mutual
     blocks_are (names_after names n s) (n + binders_in s) rest,
   ) refl
 
-depth_is : (names : Names) (e : Expression) → depth (expression names e) ≡ depth_of e
+depth_is : (names : Names) (e : Expression) → expression_depth (expression names e) ≡ depth_of e
 depth_is names (Num n) = refl
 depth_is names (Read x) = refl
 depth_is names (Oper o left right) = rw (depth_is names left, depth_is names right) refl
 
-shallow : (names : Names) (e : Expression) → IsPrintableExpression e → depth (expression names e) ≤ DEPTH
+shallow : (names : Names) (e : Expression) → IsPrintableExpression e → expression_depth (expression names e) ≤ DEPTH
 shallow names e p = rw (depth_is names e) p.1
 
 all_shallow : (names : Names) (es : List Expression) → AllByRecursion IsPrintableExpression es
-    → greatest (map depth (map (expression names) es)) ≤ DEPTH
+    → greatest (map expression_depth (map (expression names) es)) ≤ DEPTH
 all_shallow names [] p = omega arith
 all_shallow names (e ∷ es) p = omega (arith, shallow names e p.0, all_shallow names es p.1)
 

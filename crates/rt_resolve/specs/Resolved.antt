@@ -90,9 +90,9 @@ priority_or_one None = 1
 priority_or_one (Some n) = stored_priority n.value
 
 -- the offset of a number, and 0 where there is none
-abbrev pub number_at : Option Number → ℕ
-number_at None = 0
-number_at (Some n) = n.at
+abbrev pub number_offset : Option Number → ℕ
+number_offset None = 0
+number_offset (Some n) = n.at
 
 -- the capacity of a task, which is 1 where none is given, as in RTIC 1
 abbrev pub capacity_or_one : Option ℕ → ℕ
@@ -112,7 +112,7 @@ task app t = record {
   binds = option_map (λ x. or_unknown (irq_named app x.name)) t.binds;
   binds_at = ident_at t.binds;
   priority = priority_or_one t.priority;
-  priority_at = number_at t.priority;
+  priority_at = number_offset t.priority;
   capacity = capacity_or_one t.capacity;
   has_capacity = is_some t.capacity;
   args = length t.args;

@@ -152,7 +152,7 @@ fn ident_at(x: &Option<Ident>) -> u32
 
 /// The offset of a number, and 0 where there is none.
 fn number_at(number: Option<Number>) -> u32
-    ensures { result ≡ meant.number_at number }
+    ensures { result ≡ meant.number_offset number }
 {
     match number {
         None => 0,

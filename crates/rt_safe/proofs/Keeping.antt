@@ -9,8 +9,8 @@ use Rattle.rt_code.specs.declared.instr.Instr.{Instr}
 use Rattle.rt_code.specs.declared.instr.Instr.TheVariants as instr
 use Rattle.rt_code.specs.declared.instr.Note.{Note}
 use Rattle.rt_code.specs.declared.instr.Note.TheVariants as note
-use Rattle.rt_points.specs.declared.point.Kind.{Kind}
-use Rattle.rt_points.specs.declared.point.Kind.TheVariants.{Mark, Raise, Mask}
+use Rattle.rt_points.specs.declared.point.SectionKind.{SectionKind}
+use Rattle.rt_points.specs.declared.point.SectionKind.TheVariants.{Mark, Raise, Mask}
 use Rattle.rt_points.specs.declared.point.Opened.{Opened}
 use Rattle.rt_points.specs.declared.point.Owner.{Owner}
 use Rattle.rt_points.specs.declared.point.Owner.TheVariants.{Starting, Handling}
@@ -30,24 +30,25 @@ pub owner_of_simple : (i : Instr) (owner : Owner) → is_simple i ≡ true → o
 owner_of_simple instr.Serve owner simple = absurd (cc)
 owner_of_simple i owner simple = refl
 
-pub owner_of_opening : (kind : Kind) (owner : Owner) → owner_after (opening_instr kind) owner ≡ owner
+pub owner_of_opening : (kind : SectionKind) (owner : Owner) → owner_after (opening_instr kind) owner ≡ owner
 owner_of_opening Mark owner = refl
 owner_of_opening (Raise slot value) owner = refl
 owner_of_opening (Mask slot) owner = refl
 
-pub owner_of_closing : (kind : Kind) (owner : Owner) → owner_after (closing_instr kind) owner ≡ owner
+pub owner_of_closing : (kind : SectionKind) (owner : Owner) → owner_after (closing_instr kind) owner ≡ owner
 owner_of_closing Mark owner = refl
 owner_of_closing (Raise slot value) owner = refl
 owner_of_closing (Mask slot) owner = refl
 
-pub kind_of_opening : (kind : Kind) → kind_of (opening_instr kind) ≡ kind
+pub kind_of_opening : (kind : SectionKind) → kind_of (opening_instr kind) ≡ kind
 kind_of_opening Mark = refl
 kind_of_opening (Raise slot value) = refl
 kind_of_opening (Mask slot) = refl
 
 module _ (img : Image) (checked : IsChecked img) where
   module _ (P : Owner → List Opened → Type 0) (none : (owner : Owner) → P owner [])
-      (more : (p : Point) (x : Section) (kind : Kind) → EntersAt img p (opening_instr kind) x → P p.owner p.inside
+      (more : (p : Point) (x : Section) (kind : SectionKind) → EntersAt img p (opening_instr kind) x
+      → P p.owner p.inside
       → P p.owner (record { section = x; kind = kind } ∷ p.inside))
       (less : (owner : Owner) (o : Opened) (outer : List Opened) → P owner (o ∷ outer) → P owner outer) where
     -- behind a line
@@ -96,12 +97,12 @@ module _ (img : Image) (checked : IsChecked img) where
   pub raised_well : (p : Point) → IsPoint img p → AreRaisedWell img p.owner p.inside
   raised_well = points_keep (AreRaisedWell img) (λ owner. tt) more (λ owner o outer all. all.1)
     where
-      more : (p : Point) (x : Section) (kind : Kind) → EntersAt img p (opening_instr kind) x
+      more : (p : Point) (x : Section) (kind : SectionKind) → EntersAt img p (opening_instr kind) x
           → AreRaisedWell img p.owner p.inside
           → AreRaisedWell img p.owner (record { section = x; kind = kind } ∷ p.inside)
       more p x kind enters before = (by kind enters, before)
         where
-          by : (kind : Kind) → EntersAt img p (opening_instr kind) x
+          by : (kind : SectionKind) → EntersAt img p (opening_instr kind) x
               → IsRaisedWell img kind (execution_priority img p.owner p.inside)
           by Mark enters = tt
           by (Raise slot value) enters =
@@ -118,7 +119,8 @@ module _ (img : Image) (checked : IsChecked img) where
   pub hold_off : (p : Point) → IsPoint img p → HoldOff p.owner p.inside
   hold_off = points_keep HoldOff (λ owner. tt) more (λ owner o outer all. all.1)
     where
-      more : (p : Point) (x : Section) (kind : Kind) → EntersAt img p (opening_instr kind) x → HoldOff p.owner p.inside
+      more : (p : Point) (x : Section) (kind : SectionKind) → EntersAt img p (opening_instr kind) x
+          → HoldOff p.owner p.inside
           → HoldOff p.owner (record { section = x; kind = kind } ∷ p.inside)
       more p x kind enters before = (
         λ q j outside others.

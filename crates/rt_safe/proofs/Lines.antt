@@ -17,7 +17,7 @@ use Rattle.rt_code.specs.declared.instr.Instr.{Instr}
 use Rattle.rt_code.specs.declared.instr.Instr.TheVariants as instr
 use Rattle.rt_code.specs.declared.instr.Note.{Note}
 use Rattle.rt_code.specs.declared.instr.Note.TheVariants as note
-use Rattle.rt_points.specs.declared.point.Kind.TheVariants.{Mark, Raise, Mask}
+use Rattle.rt_points.specs.declared.point.SectionKind.TheVariants.{Mark, Raise, Mask}
 use Rattle.rt_points.specs.declared.point.Opened.{Opened}
 use Rattle.rt_points.specs.declared.rule.Rule.TheVariants as rule
 use Rattle.rt_points.specs.Checked.{IsChecked}

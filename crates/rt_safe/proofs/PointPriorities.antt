@@ -5,8 +5,8 @@ use Rattle.std.proofs.lemmas.Bool.{eqb-true}
 use Rattle.rt_ids.specs.declared.limits.TheConstants.{THREAD_VALUE}
 use Rattle.rt_code.specs.Image.{Image}
 use Rattle.rt_core.specs.Priority.{base_value, mask_value}
-use Rattle.rt_points.specs.declared.point.Kind.{Kind}
-use Rattle.rt_points.specs.declared.point.Kind.TheVariants.{Mark, Raise, Mask}
+use Rattle.rt_points.specs.declared.point.SectionKind.{SectionKind}
+use Rattle.rt_points.specs.declared.point.SectionKind.TheVariants.{Mark, Raise, Mask}
 use Rattle.rt_points.specs.declared.point.Opened.{Opened}
 use Rattle.rt_points.specs.declared.point.Owner.{Owner}
 use Rattle.rt_points.specs.declared.point.Owner.TheVariants.{Starting, Thread, Handling}
@@ -36,7 +36,7 @@ begun v b m l w is less = omega arith
 
 module _ (img : Image) where
   -- an open raise has a value above 0 and below the execution priority of the sections further out
-  abbrev pub IsRaisedWell : Kind → ℕ → Type 0
+  abbrev pub IsRaisedWell : SectionKind → ℕ → Type 0
   IsRaisedWell (Raise slot value) priority = (0 < value) × (value < priority)
   IsRaisedWell kind priority = Unit {0}
 
@@ -44,7 +44,8 @@ module _ (img : Image) where
   AreRaisedWell owner [] = Unit {0}
   AreRaisedWell owner (o ∷ outer) = IsRaisedWell o.kind (execution_priority img owner outer) × AreRaisedWell owner outer
 
-  one_inside : (v base priority : ℕ) (mask : Bool) (kind : Kind) → IsRaisedWell kind priority → held_off v base mask
+  one_inside : (v base priority : ℕ) (mask : Bool) (kind : SectionKind) → IsRaisedWell kind priority
+      → held_off v base mask
       ≡ priority
       → held_off v (base_by kind base) (mask_by kind mask) ≡ lowered_value kind priority
   unfolding held_off
@@ -64,7 +65,7 @@ module _ (img : Image) where
       (inside_holds v base mask owner outer well.1 start)
 
   -- a section lowers the execution priority
-  pub lowered_falls : (kind : Kind) (priority : ℕ) → lowered_value kind priority ≤ priority
+  pub lowered_falls : (kind : SectionKind) (priority : ℕ) → lowered_value kind priority ≤ priority
   lowered_falls Mark priority = omega arith
   lowered_falls (Raise slot value) priority = omega arith
   lowered_falls (Mask slot) priority = omega arith
@@ -85,7 +86,7 @@ module _ (img : Image) where
   unmasked (Handling index) [] some = refl
   unmasked owner (o ∷ outer) some = by o.kind some (unmasked owner outer)
     where
-      by : (kind : Kind) → 0 < lowered_value kind (execution_priority img owner outer)
+      by : (kind : SectionKind) → 0 < lowered_value kind (execution_priority img owner outer)
           → (0 < execution_priority img owner outer → mask_inside outer (is_starting owner) ≡ false)
           → mask_by kind (mask_inside outer (is_starting owner)) ≡ false
       by Mark some before = before some

@@ -5,8 +5,8 @@ use Rattle.std.proofs.Common.{get_or-set_other}
 use Rattle.std.specs.List.{AllByRecursion}
 use Rattle.rt_code.specs.Image.{Image}
 use Rattle.rt_core.specs.Core.{Context}
-use Rattle.rt_points.specs.declared.point.Kind.{Kind}
-use Rattle.rt_points.specs.declared.point.Kind.TheVariants.{Mark, Raise, Mask}
+use Rattle.rt_points.specs.declared.point.SectionKind.{SectionKind}
+use Rattle.rt_points.specs.declared.point.SectionKind.TheVariants.{Mark, Raise, Mask}
 use Rattle.rt_points.specs.declared.point.Opened.{Opened}
 use Rattle.rt_points.specs.Point.{Point}
 use Rattle.rt_points.specs.Rules as rules
@@ -20,7 +20,8 @@ saves_kept slots d v [] base mask free saves = tt
 saves_kept slots d v (o ∷ outer) base mask free saves =
     (one o.kind free.0 saves.0, saves_kept slots d v outer base mask free.1 saves.1)
   where
-    one : (kind : Kind) → ¬ rules.Saves kind d → KeepsMask slots kind (base_inside outer base) (mask_inside outer mask)
+    one : (kind : SectionKind) → ¬ rules.Saves kind d
+        → KeepsMask slots kind (base_inside outer base) (mask_inside outer mask)
         → KeepsMask (slice_set slots d v) kind (base_inside outer base) (mask_inside outer mask)
     one Mark other saves = tt
     one (Raise slot value) other saves = (

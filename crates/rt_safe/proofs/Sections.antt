@@ -24,8 +24,8 @@ use Rattle.rt_core.specs.Note.{left_value}
 use Rattle.rt_core.specs.Outcome.{settle}
 use Rattle.rt_core.specs.Priority.{pick}
 use Rattle.rt_core.specs.Stepping.{go_on}
-use Rattle.rt_points.specs.declared.point.Kind.{Kind}
-use Rattle.rt_points.specs.declared.point.Kind.TheVariants.{Mark, Raise, Mask}
+use Rattle.rt_points.specs.declared.point.SectionKind.{SectionKind}
+use Rattle.rt_points.specs.declared.point.SectionKind.TheVariants.{Mark, Raise, Mask}
 use Rattle.rt_points.specs.declared.point.Opened.{Opened}
 use Rattle.rt_points.specs.Checked.{IsChecked}
 use Rattle.rt_points.specs.Leading.{IsPoint, Leads, LeadsOn}
@@ -42,18 +42,18 @@ use Rattle.rt_safe.proofs.Lines.{HasLine}
 use Rattle.rt_safe.proofs.Saving.{saves_kept, stacked_alike}
 
 -- the processor behind the instruction that opens a section of a kind
-opened : Processor → Kind → Processor
+opened : Processor → SectionKind → Processor
 opened p Mark = next p
 opened p (Raise d v) = record (next_with_slot p d p.basepri) { basepri = v }
 opened p (Mask d) = record (next_with_slot p d (number_of p.primask)) { primask = true }
 
 -- and behind the one that closes it
-closed : Processor → Kind → Processor
+closed : Processor → SectionKind → Processor
 closed p Mark = next p
 closed p (Raise d v) = record (next p) { basepri = slot p d }
 closed p (Mask d) = record (next p) { primask = slot p d == 1 }
 
-opening_leads : (kind : Kind) (time : ℕ) (p : Processor)
+opening_leads : (kind : SectionKind) (time : ℕ) (p : Processor)
     → unchecked_effect (opening_instr kind) time p ≡ LeadsTo (opened p kind) request.Nothing
 unfolding opened
 opening_leads Mark time p = refl
@@ -64,7 +64,8 @@ number_small : (b : Bool) → number_of b ≤ 1
 number_small true = omega arith
 number_small false = omega arith
 
-closing_leads : (kind : Kind) (time : ℕ) (p : Processor) (base : ℕ) (mask : Bool) → KeepsMask p.slots kind base mask
+closing_leads : (kind : SectionKind) (time : ℕ) (p : Processor) (base : ℕ) (mask : Bool)
+    → KeepsMask p.slots kind base mask
     → unchecked_effect (rules.closing_instr kind) time p ≡ LeadsTo (closed p kind) request.Nothing
 unfolding closed
 closing_leads Mark time p base mask saves = refl
@@ -74,18 +75,18 @@ closing_leads (Mask d) time p base mask saves =
     ap (λ b. if b then LeadsTo (record (next p) { primask = slot p d == 1 }) request.Nothing else Traps trap.Stack)
     (le-leb (slot p d) 1 (omega (arith, small, saves.1)))
 
-opening_on : (kind : Kind) (at : ℕ) → LeadsOn (opening_instr kind) at (suc at)
+opening_on : (kind : SectionKind) (at : ℕ) → LeadsOn (opening_instr kind) at (suc at)
 opening_on Mark at = refl
 opening_on (Raise d v) at = refl
 opening_on (Mask d) at = refl
 
-closing_on : (kind : Kind) (at : ℕ) → LeadsOn (rules.closing_instr kind) at (suc at)
+closing_on : (kind : SectionKind) (at : ℕ) → LeadsOn (rules.closing_instr kind) at (suc at)
 closing_on Mark at = refl
 closing_on (Raise d v) at = refl
 closing_on (Mask d) at = refl
 
 -- What an opening leaves: the masks of its kind, its slot, and memory and the frame as long.
-record IsOpened (p : Processor) (kind : Kind) (inside : List Opened) (base : ℕ) (mask : Bool) : Type 0 where
+record IsOpened (p : Processor) (kind : SectionKind) (inside : List Opened) (base : ℕ) (mask : Bool) : Type 0 where
   address : (opened p kind).address ≡ suc p.address
   basepri : (opened p kind).basepri ≡ base_by kind p.basepri
   primask : (opened p kind).primask ≡ mask_by kind p.primask
@@ -94,7 +95,7 @@ record IsOpened (p : Processor) (kind : Kind) (inside : List Opened) (base : ℕ
   saves : KeepsMask (opened p kind).slots kind (base_inside inside base) (mask_inside inside mask)
   kept : KeepMasks (opened p kind).slots inside base mask
 
-is_opened : (p : Processor) (kind : Kind) (inside : List Opened) (base : ℕ) (mask : Bool) (n : ℕ)
+is_opened : (p : Processor) (kind : SectionKind) (inside : List Opened) (base : ℕ) (mask : Bool) (n : ℕ)
     → p.basepri ≡ base_inside inside base → p.primask ≡ mask_inside inside mask → length p.slots ≡ n
     → AllByRecursion (λ d. d < n) (slots_of (opening_instr kind)) → rules.IsUnsaved inside
     (rules.written_slot (opening_instr kind))
@@ -135,14 +136,14 @@ is_opened p (Mask d) inside base mask n basepri primask long there free saves = 
 }
 
 -- What a closing leaves: the masks as they were before the opening.
-record IsClosed (p : Processor) (kind : Kind) (base : ℕ) (mask : Bool) : Type 0 where
+record IsClosed (p : Processor) (kind : SectionKind) (base : ℕ) (mask : Bool) : Type 0 where
   address : (closed p kind).address ≡ suc p.address
   basepri : (closed p kind).basepri ≡ base
   primask : (closed p kind).primask ≡ mask
   slots : (closed p kind).slots ≡ p.slots
   cells : (closed p kind).cells ≡ p.cells
 
-is_closed : (p : Processor) (kind : Kind) (base : ℕ) (mask : Bool) → p.basepri ≡ base_by kind base
+is_closed : (p : Processor) (kind : SectionKind) (base : ℕ) (mask : Bool) → p.basepri ≡ base_by kind base
     → p.primask ≡ mask_by kind mask → KeepsMask p.slots kind base mask → IsClosed p kind base mask
 unfolding closed
 is_closed p Mark base mask basepri primask saves =
@@ -166,7 +167,8 @@ no_init_end_left x value same = cc (same)
 module _ (img : Image) (checked : IsChecked img) (c : Core) (p : Point) (qs : List Point)
     (fits : RunsAtPoints img c p qs)
     (line : HasLine img p) (picked : pick img c ≡ None) where
-  module _ (x : Section) (kind : Kind) (is : line.instr ≡ opening_instr kind) (tells : line.told ≡ Some (note.Enter x))
+  module _ (x : Section) (kind : SectionKind) (is : line.instr ≡ opening_instr kind)
+      (tells : line.told ≡ Some (note.Enter x))
       (free : FindsNone (Some (what.Enter x)) (insides_of (p ∷ qs))) where
     abbrev inner : Point
     inner = record { address = suc p.address; owner = p.owner; inside = record { section = x; kind = kind } ∷ p.inside }
@@ -226,7 +228,7 @@ module _ (img : Image) (checked : IsChecked img) (c : Core) (p : Point) (qs : Li
       ended = λ end. absurd (no_init_end x end);
     }
 
-  module _ (x : Section) (kind : Kind) (outer : List Opened)
+  module _ (x : Section) (kind : SectionKind) (outer : List Opened)
       (inside : p.inside ≡ record { section = x; kind = kind } ∷ outer)
       (is : line.instr ≡ rules.closing_instr kind) (tells : line.told ≡ Some (note.Leave x)) where
     abbrev outside : Point

@@ -14,7 +14,7 @@ use Rattle.rt_app.specs.Stack.{thread_words, has_handler, need, priority_bytes, 
 use Rattle.rt_code.specs.Image.{Image, entry_words}
 use Rattle.rt_code.specs.Stack as stack
 use Rattle.rt_core.specs.Core.{Context, context_words, stack_in_use, depth}
-use Rattle.rt_sim.specs.Inside.Coupling.{Part, Coupling, irq_of}
+use Rattle.rt_sim.specs.Inside.Coupling.{Part, Coupling, handled_irq}
 use Rattle.rt_sim.specs.Inside.States.{contexts, core_of, words_under}
 use Rattle.rt_sim.specs.Inside.CouplingInvariant.{IsStacked, CouplingInvariant}
 
@@ -22,9 +22,9 @@ words_are : (bits entry irq value : ℕ) (ps : List Part)
     → sum_by (context_words entry) (contexts bits irq value ps) ≡ words_under entry ps
 words_are bits entry irq value [] = refl
 words_are bits entry irq value (q ∷ ps) =
-    let more = words_are bits entry (irq_of q.role) (hardware bits q.priority) ps in
+    let more = words_are bits entry (handled_irq q.role) (hardware bits q.priority) ps in
     let here : Context = record { irq = irq; value = value; address = q.address; slots = q.slots; caller = q.caller } in
-    sum_by-cons (context_words entry) here (contexts bits (irq_of q.role) (hardware bits q.priority) ps)
+    sum_by-cons (context_words entry) here (contexts bits (handled_irq q.role) (hardware bits q.priority) ps)
     ∙ omega (arith, more)
 
 -- a region of so many bytes has room for so many words
@@ -40,7 +40,7 @@ module _ (app : App) (img : Image) (thread : ℕ) where
       → stack_in_use img (core_of app.bits m)
       ≡ length (stack.words_of m.running.caller) + length m.running.slots + words_under (entry_words img) m.below
   used_is m invariant =
-      let more = words_are app.bits (entry_words img) (irq_of m.running.role)
+      let more = words_are app.bits (entry_words img) (handled_irq m.running.role)
       (hardware app.bits m.running.priority) m.below in
       omega (arith, more)
 

@@ -16,7 +16,7 @@ use Rattle.rt_code.specs.Masking.{IsWithin, NobodyKeeps}
 use Rattle.rt_code.specs.Owning.{OpenSection, owns, reads, is_open}
 use Rattle.rt_laws.specs.Preemption.{system_ceiling, greatest_ceiling}
 use Rattle.rt_sim.specs.Inside.Coupling.{Part, runner_of, sections_of, jobs_of}
-use Rattle.rt_sim.specs.Inside.PartInvariant.{who, Reads}
+use Rattle.rt_sim.specs.Inside.PartInvariant.{who, PartReads}
 use Rattle.rt_sim.specs.Inside.CouplingInvariant.{IsStacked}
 
 -- one more section is owned, and read, by who opens it
@@ -76,7 +76,7 @@ module _ (app : App) (img : Image) (thread : ℕ) where
   -- a section that a job may enter is read by none that it interrupted
   free_one : (o : Part) (x : Section) (top : ℕ) → who o ≡ AtPriority o.priority
       → greatest_ceiling app (sections_of o.held) < top → top ≤ ceiling app x
-      → NobodyKeeps (storage app) (AtPriority top) (AtPriority top) x → Reads app img thread o (Guarded x) ≡ false
+      → NobodyKeeps (storage app) (AtPriority top) (AtPriority top) x → PartReads app img thread o (Guarded x) ≡ false
   free_one o x top runner above within nobody =
       or_neither (owns (storage app) (who o) o.held (Guarded x)) ((storage app).is_constant (who o) (Guarded x))
       (or_neither (is_open o.held x) ((storage app).is_kept (who o) (Guarded x))
@@ -88,7 +88,7 @@ module _ (app : App) (img : Image) (thread : ℕ) where
       → system_ceiling app (jobs_of p ps) < top
       → IsStacked app img thread p ps
       → top ≤ ceiling app x → NobodyKeeps (storage app) (AtPriority top) (AtPriority top) x
-      → AllByRecursion (λ o. Reads app img thread o (Guarded x) ≡ false) (p ∷ ps)
+      → AllByRecursion (λ o. PartReads app img thread o (Guarded x) ≡ false) (p ∷ ps)
   free_all p [] x top most above is within nobody =
       (free_one p x top (at_threshold p [] top most above is) (omega arith) within nobody, tt)
   free_all p (q ∷ ps) x top most above is within nobody = (
@@ -98,7 +98,7 @@ module _ (app : App) (img : Image) (thread : ℕ) where
 
   pub free_below : (p : Part) (ps : List Part) (x : Section) → IsStacked app img thread p ps
       → IsWithin (storage app) (who p) (who p) x → NobodyKeeps (storage app) (who p) (who p) x
-      → AllByRecursion (λ o. Reads app img thread o (Guarded x) ≡ false) ps
+      → AllByRecursion (λ o. PartReads app img thread o (Guarded x) ≡ false) ps
   unfolding storage
   free_below p [] x is within nobody = tt
   free_below p (q ∷ ps) x is within nobody =

@@ -23,7 +23,7 @@ use Rattle.rt_app.specs.Holding.{storage, IsHeld, message_at}
 use Rattle.rt_app.specs.Level.{is_of_level}
 use Rattle.rt_code.specs.Image.{Image}
 use Rattle.rt_code.specs.Masking.{NobodyKeeps, EntersSection, TakesOver, slots_with_mask}
-use Rattle.rt_code.specs.Owning.{Kind, Marked, Raised, Masked, OpenSection, is_open, saved_slot, saved_slots}
+use Rattle.rt_code.specs.Owning.{SectionKind, Marked, Raised, Masked, OpenSection, is_open, saved_slot, saved_slots}
 use Rattle.rt_code.specs.Processor.{Processor}
 use Rattle.rt_code.specs.Standing.{Stands, HaveLeft, spend_step}
 use Rattle.rt_code.specs.declared.instr.Instr.{Instr}
@@ -42,7 +42,7 @@ use Rattle.rt_sim.specs.Inside.Ownership.{IsEntered, ChangesOwn, RespectsOwnersh
 use Rattle.rt_sim.specs.Inside.Chains.{is_init, base_by, mask_by, base_inside, mask_inside, base_under, mask_under}
 use Rattle.rt_sim.specs.Inside.Chains.{Saves}
 use Rattle.rt_sim.specs.Inside.Calling.{handles}
-use Rattle.rt_sim.specs.Inside.PartInvariant.{who, Owns, Reads, AreApart}
+use Rattle.rt_sim.specs.Inside.PartInvariant.{who, Owns, PartReads, AreApart}
 use Rattle.rt_sim.specs.Inside.CouplingInvariant.{IsStacked, CouplingInvariant}
 use Rattle.rt_sim.specs.Inside.Agrees.{StepsBoth}
 use Rattle.rt_sim.proofs.Counting.{open_once}
@@ -61,14 +61,14 @@ kept_beside slots slot v (d ∷ ds) none =
     let differs : d ≢ slot = λ e. none (subst (Contains (d ∷ ds)) e (contains_here d ds)) in
     (get_or-set_other slots slot d v 0 differs, kept_beside slots slot v ds (λ is. none (contains_there d ds slot is)))
 
-saving_long : (kind : Kind) (v : ℕ) (slots : List ℕ) → length (slots_with_mask kind v slots) ≡ length slots
+saving_long : (kind : SectionKind) (v : ℕ) (slots : List ℕ) → length (slots_with_mask kind v slots) ≡ length slots
 saving_long Marked v slots = refl
 saving_long (Raised slot) v slots = length-set slots slot v
 saving_long (Masked slot) v slots = length-set slots slot v
 
 module _ (app : App) where
   -- the slot of the section that opens keeps what its mask was, and those of the others what they kept
-  saves_more : (slots : List ℕ) (held : List OpenSection) (x : Section) (kind : Kind) (base : ℕ) (mask : Bool)
+  saves_more : (slots : List ℕ) (held : List OpenSection) (x : Section) (kind : SectionKind) (base : ℕ) (mask : Bool)
       (p : Processor)
       → AllByRecursion (λ d. (d < length slots) × (¬ Contains (saved_slots held) d)) (saved_slot kind)
       → p.basepri ≡ base_inside app held base → p.primask ≡ mask_inside app held mask → Saves app slots held base mask
@@ -90,7 +90,7 @@ module _ (app : App) where
         (length-set slots slot (number_of p.primask)) saves,
   )
 
-  base_set : (p : Processor) (kind : Kind) (x : Section) (base : ℕ) → p.basepri ≡ base
+  base_set : (p : Processor) (kind : SectionKind) (x : Section) (base : ℕ) → p.basepri ≡ base
       → (with_mask p ((storage app).value ((storage app).ceiling x)) kind).basepri ≡ base_by kind
       (hardware app.bits (ceiling app x)) base
   unfolding storage
@@ -98,7 +98,7 @@ module _ (app : App) where
   base_set p (Raised slot) x base is = refl
   base_set p (Masked slot) x base is = is
 
-  mask_set : (p : Processor) (kind : Kind) (v : ℕ) (mask : Bool) → p.primask ≡ mask
+  mask_set : (p : Processor) (kind : SectionKind) (v : ℕ) (mask : Bool) → p.primask ≡ mask
       → (with_mask p v kind).primask ≡ mask_by kind mask
   mask_set p Marked v mask is = is
   mask_set p (Raised slot) v mask is = is
@@ -145,7 +145,7 @@ may_arm app m section.Timer fit represents =
 
 module _ (app : App) (img : Image) (thread : ℕ) where
   -- the running job inside a section more
-  abbrev pub with_section : Part → Section → Kind → ℕ → ℕ → ℕ → Doing Values → Part
+  abbrev pub with_section : Part → Section → SectionKind → ℕ → ℕ → ℕ → Doing Values → Part
   with_section p x kind saved cost n rest = record p {
     rest = rest;
     left = p.left - 1;
@@ -156,15 +156,15 @@ module _ (app : App) (img : Image) (thread : ℕ) where
     steps = n;
   }
 
-  apart_more : (p : Part) (x : Section) (kind : Kind) (saved cost n : ℕ) (rest : Doing Values) (qs : List Part)
-      → AllByRecursion (λ o. Reads app img thread o (Guarded x) ≡ false) qs
+  apart_more : (p : Part) (x : Section) (kind : SectionKind) (saved cost n : ℕ) (rest : Doing Values) (qs : List Part)
+      → AllByRecursion (λ o. PartReads app img thread o (Guarded x) ≡ false) qs
       → AllByRecursion (AreApart app img thread p) qs
       → AllByRecursion (AreApart app img thread (with_section p x kind saved cost n rest)) qs
   apart_more p x kind saved cost n rest [] free apart = tt
   apart_more p x kind saved cost n rest (o ∷ qs) free apart = (
     (
       λ h owns reads. elim (owns_less app (who p) (record { section = x; kind = kind }) p.held h owns) [
-        | inl same ↦ true_and_false _ (subst (λ k. Reads app img thread o k ≡ true) same reads) free.0
+        | inl same ↦ true_and_false _ (subst (λ k. PartReads app img thread o k ≡ true) same reads) free.0
         | inr before ↦ apart.0.0 h before reads
       ],
       λ h owned read. elim (reads_less app (who p) (record { section = x; kind = kind }) p.held h read) [
@@ -176,9 +176,9 @@ module _ (app : App) (img : Image) (thread : ℕ) where
     apart_more p x kind saved cost n rest qs free.1 apart.1,
   )
 
-  stack_more : (p : Part) (ps : List Part) (x : Section) (kind : Kind) (cost n : ℕ) (rest : Doing Values)
+  stack_more : (p : Part) (ps : List Part) (x : Section) (kind : SectionKind) (cost n : ℕ) (rest : Doing Values)
       (c : Processor)
-      → AllByRecursion (λ o. Reads app img thread o (Guarded x) ≡ false) ps
+      → AllByRecursion (λ o. PartReads app img thread o (Guarded x) ≡ false) ps
       → AllByRecursion (λ d. (d < length p.slots) × (¬ Contains (saved_slots p.held) d)) (saved_slot kind)
       → c.basepri ≡ base_inside app p.held (base_under app ps)
       → c.primask ≡ mask_inside app p.held (mask_under app p.role ps)
@@ -232,7 +232,7 @@ module _ (app : App) (img : Image) (thread : ℕ) where
       values = reached_values (goes.follows 0 m.values) m.values;
     }
 
-    free : AllByRecursion (λ o. Reads app img thread o (Guarded x) ≡ false) m.below
+    free : AllByRecursion (λ o. PartReads app img thread o (Guarded x) ≡ false) m.below
     free = free_below app img thread m.running m.below x invariant.stack goes.within goes.shared
 
     not_mine : Owns app img thread m.running (Guarded x) ≡ false
@@ -245,7 +245,7 @@ module _ (app : App) (img : Image) (thread : ℕ) where
         (m.values (Guarded x))
     represents = invariant.represented (Guarded x) is_held (
       not_mine,
-      all_weaker (λ o. Reads app img thread o (Guarded x) ≡ false)
+      all_weaker (λ o. PartReads app img thread o (Guarded x) ≡ false)
           (λ o. Owns app img thread o (Guarded x) ≡ false)
           (λ o f. left_of_none (Owns app img thread o (Guarded x)) _ f) m.below free,
     )
@@ -321,7 +321,7 @@ module _ (app : App) (img : Image) (thread : ℕ) where
       alarmed = invariant.alarmed;
     }
 
-    core_inside : (kind : Kind) → with_processor (core_of app.bits m)
+    core_inside : (kind : SectionKind) → with_processor (core_of app.bits m)
         (processor_after_opening (core_of app.bits m).processor
         ((storage app).value ((storage app).ceiling x)) kind)
         ≡ core_of app.bits (record m {

@@ -14,7 +14,7 @@ use Rattle.rt_app.specs.Ceiling.{ceiling}
 use Rattle.rt_app.specs.Holding.{storage}
 use Rattle.rt_code.specs.Image.{Image}
 use Rattle.rt_code.specs.Masking.{IsMask, IsKindFor}
-use Rattle.rt_code.specs.Owning.{Kind, Marked, Raised, Masked, OpenSection}
+use Rattle.rt_code.specs.Owning.{SectionKind, Marked, Raised, Masked, OpenSection}
 use Rattle.rt_core.specs.Priority.{running_value, base_value, mask_value, execution}
 use Rattle.rt_laws.specs.State.{Init}
 use Rattle.rt_laws.specs.Preemption.{system_ceiling, greatest_ceiling}
@@ -54,7 +54,8 @@ module _ (app : App) (img : Image) (thread : ℕ) (few : 3 ≤ app.bits) (many :
       go true is = absurd (let e : v ≡ 0 = eqb-true v 0 is in omega arith)
       go false is = refl
 
-  pub one_inside : (p c l base : ℕ) (mask : Bool) (kind : Kind) → IsMask (storage app) (AtPriority p) c (max p l) kind
+  pub one_inside : (p c l base : ℕ) (mask : Bool) (kind : SectionKind)
+      → IsMask (storage app) (AtPriority p) c (max p l) kind
       → held_off (hardware app.bits p) base mask ≡ hardware app.bits (max p l)
       → held_off (hardware app.bits p) (base_by kind (hardware app.bits c) base)
       (mask_by kind mask) ≡ hardware app.bits (max p (max c l))
@@ -112,7 +113,7 @@ module _ (app : App) (img : Image) (thread : ℕ) (few : 3 ≤ app.bits) (many :
   masked [] = refl
   masked (h ∷ outer) = by h.kind (masked outer)
     where
-      by : (kind : Kind) → mask_inside app outer true ≡ true → mask_by kind (mask_inside app outer true) ≡ true
+      by : (kind : SectionKind) → mask_inside app outer true ≡ true → mask_by kind (mask_inside app outer true) ≡ true
       by Marked is = is
       by (Raised slot) is = is
       by (Masked slot) is = refl

@@ -6,7 +6,8 @@ use Rattle.std.proofs.lemmas.List.{length-map}
 use Rattle.std.proofs.lemmas.Option.{none-some, same_Some, slice_get_within}
 use Rattle.rt_ids.specs.Lists.{then_from}
 use Rattle.rt_ids.specs.Event.{Event}
-use Rattle.rt_actions.specs.Action.{Action, Enters, Leaves, Emits, Posts, Clocks, Places, FindsFull, Readies, Starts, Frees}
+use Rattle.rt_actions.specs.Action.{Action, Enters, Leaves, Emits, Posts, Clocks, Places, FindsFull, Readies, Starts}
+use Rattle.rt_actions.specs.Action.{Frees}
 use Rattle.rt_actions.specs.Action.{Arms, Fires, Cancels, Moves, SetsAlarm, Ends, Returns}
 use Rattle.rt_actions.specs.Content.{Values}
 use Rattle.rt_actions.specs.Doing.{Doing, over, does}
@@ -28,7 +29,7 @@ use Rattle.rt_core.specs.Core.{Core, reset, depth}
 use Rattle.rt_core.specs.Trace.{core_after, labels}
 use Rattle.rt_core.proofs.Showing.{shows_its_events}
 use Rattle.rt_laws.specs.State.{Role, Init, Idle, Waiting, Serving, Job, State, first}
-use Rattle.rt_laws.specs.Giving.{gives, item_given, item_of, next_item, return_item, next_instant, is_due}
+use Rattle.rt_laws.specs.Giving.{item_to_come, item_given, item_of, next_item, return_item, next_instant, is_due}
 use Rattle.rt_laws.specs.Allowed.{May, after}
 use Rattle.rt_laws.specs.Observer.{Observer, first_sight, sees_all}
 use Rattle.rt_laws.specs.Properties.{KeepsLaws}
@@ -93,7 +94,7 @@ not_trap s role (does action made next) k is = by action is
     by Returns is = returned role is
 
 module _ (app : App) where
-  gives_no_trap : (s : State) (k : ℕ) → gives s ≡ Some (what.Trap k) → ⊥
+  gives_no_trap : (s : State) (k : ℕ) → item_to_come s ≡ Some (what.Trap k) → ⊥
   gives_no_trap s k is = by s.jobs is
     where
       by : (jobs : List Job) → item_given s jobs ≡ Some (what.Trap k) → ⊥

@@ -21,7 +21,7 @@ use Rattle.rt_app.specs.Layout.{memory}
 use Rattle.rt_app.proofs.Laid.{resource_lies}
 use Rattle.rt_code.specs.Cells.{resource_cell}
 use Rattle.rt_code.specs.Image.{Image}
-use Rattle.rt_code.specs.Owning.{Kind, Marked, Raised, Masked, OpenSection, owns, is_open, Agree}
+use Rattle.rt_code.specs.Owning.{SectionKind, Marked, Raised, Masked, OpenSection, owns, is_open, Agree}
 use Rattle.rt_code.specs.Processor.{Processor}
 use Rattle.rt_code.specs.Standing.{Stands, HaveLeft}
 use Rattle.rt_code.proofs.Mine.{owns_more, reads_more, owns_reads, owns_open, same_section}
@@ -55,7 +55,7 @@ length-dropped : {X : Type 0} (xs : List X) (n : ℕ) → length xs ≡ suc n �
 length-dropped [] n long = absurd (omega (arith, long))
 length-dropped (x ∷ xs) n long = omega (arith, long)
 
-open_first : (x : Section) (kind : Kind) (outer : List OpenSection)
+open_first : (x : Section) (kind : SectionKind) (outer : List OpenSection)
     → is_open (record { section = x; kind = kind } ∷ outer) x ≡ true
 open_first x kind outer = or_left _ (is_open outer x) (same_section x)
 
@@ -64,19 +64,19 @@ number_low true = omega arith
 number_low false = omega arith
 
 module _ (app : App) where
-  can_put_back : (slots : List ℕ) (kind : Kind) (base : ℕ) (mask : Bool) → SavesBy app slots kind base mask
+  can_put_back : (slots : List ℕ) (kind : SectionKind) (base : ℕ) (mask : Bool) → SavesBy app slots kind base mask
       → CanPutBack kind slots
   can_put_back slots Marked base mask saves = tt
   can_put_back slots (Raised slot) base mask saves = saves.0
   can_put_back slots (Masked slot) base mask saves = (saves.0, subst (λ n. n ≤ 1) (sym saves.1) (number_low mask))
 
-  base_put : (p : Processor) (kind : Kind) (v base : ℕ) (mask : Bool) → SavesBy app p.slots kind base mask
+  base_put : (p : Processor) (kind : SectionKind) (v base : ℕ) (mask : Bool) → SavesBy app p.slots kind base mask
       → p.basepri ≡ base_by kind v base → (with_saved p kind).basepri ≡ base
   base_put p Marked v base mask saves is = is
   base_put p (Raised slot) v base mask saves is = saves.1
   base_put p (Masked slot) v base mask saves is = is
 
-  mask_put : (p : Processor) (kind : Kind) (base : ℕ) (mask : Bool) → SavesBy app p.slots kind base mask
+  mask_put : (p : Processor) (kind : SectionKind) (base : ℕ) (mask : Bool) → SavesBy app p.slots kind base mask
       → p.primask ≡ mask_by kind mask → (with_saved p kind).primask ≡ mask
   mask_put p Marked base mask saves is = is
   mask_put p (Raised slot) base mask saves is = is
@@ -94,7 +94,7 @@ module _ (app : App) (img : Image) (thread : ℕ) where
     steps = n;
   }
 
-  abbrev pub with_held : Coupling → Section → Kind → List OpenSection → Coupling
+  abbrev pub with_held : Coupling → Section → SectionKind → List OpenSection → Coupling
   with_held m x kind outer = record m {
     running =
         record m.running { held = record { section = x; kind = kind } ∷ outer };
@@ -161,7 +161,7 @@ module _ (app : App) (img : Image) (thread : ℕ) where
   value_shown named m long section.Timer represents = refl
 
   module _ (named : (r : ℕ) → r < length app.shared → resource_cell img r ≡ Some r) (m : Coupling) (x : Section)
-      (kind : Kind) (outer : List OpenSection)
+      (kind : SectionKind) (outer : List OpenSection)
       (invariant : CouplingInvariant app img thread (with_held m x kind outer)) (works : IsWorking m.running.role)
       (n : ℕ)
       (none : candidate app (state_of (with_held m x kind outer)) ≡ None)
@@ -275,7 +275,7 @@ module _ (app : App) (img : Image) (thread : ℕ) where
           alarmed = invariant.alarmed;
         }
 
-    core_outside : (kind : Kind) → with_processor (core_of app.bits m)
+    core_outside : (kind : SectionKind) → with_processor (core_of app.bits m)
         (processor_after_closing (core_of app.bits m).processor kind)
         ≡ core_of app.bits (record m {
           running = without_section m.running outer n (follows 0 m.values);

@@ -29,7 +29,7 @@ use Rattle.rt_gen_body.proofs.Stored.{stored}
 use Rattle.rt_laws.specs.State.{Role, Init, Idle, Waiting, Serving}
 use Rattle.rt_sim.specs.Inside.Coupling.{Part, configuration_of}
 use Rattle.rt_sim.specs.Inside.Counts.{hands, IsOnce}
-use Rattle.rt_sim.specs.Inside.PartInvariant.{who, PartInvariant, StandsBy, AgreesWith, Owns, Reads, AreApart}
+use Rattle.rt_sim.specs.Inside.PartInvariant.{who, PartInvariant, StandsBy, AgreesWith, Owns, PartReads, AreApart}
 use Rattle.rt_sim.proofs.Counting.{queued_in, fewer_once}
 
 -- a cell is as before, or it belongs to what the job owns, or to a place in its hands
@@ -77,7 +77,7 @@ module _ (app : App) (img : Image) (thread : ℕ) where
       → ((cell : ℕ) → MayLoad (storage app) (who q) (configuration_of cells queues q) ((storage app).home cell)
       → slice_index after cell ≡ slice_index cells cell)
       → ((h : Location) → Owns app img thread q h ≡ true → others h ≡ queues h)
-      → ((h : Location) → Reads app img thread q h ≡ true → later h ≡ values h)
+      → ((h : Location) → PartReads app img thread q h ≡ true → later h ≡ values h)
       → PartInvariant app img thread after others later q
   part_kept cells after queues others values later q invariant long touched queued same = record {
     stands = stands q.role invariant.stands;
@@ -143,7 +143,7 @@ module _ (app : App) (img : Image) (thread : ℕ) where
   home_reads : (q : Part) (cells : List ℕ) (queues : Location → List Entry) (cell : ℕ) (h : Location)
       → (storage app).home cell ≡ At h
       → MayLoad (storage app) (who q) (configuration_of cells queues q) ((storage app).home cell)
-      → Reads app img thread q h ≡ true
+      → PartReads app img thread q h ≡ true
   home_reads q cells queues cell h is may =
       subst (λ home. MayLoad (storage app) (who q) (configuration_of cells queues q) home) is may
 

@@ -12,7 +12,8 @@ use Rattle.rt_actions.specs.Doing.{Doing}
 use Rattle.rt_app.specs.Tree.{App}
 use Rattle.rt_app.specs.Holding.{storage}
 use Rattle.rt_code.specs.Image.{Image}
-use Rattle.rt_code.specs.Owning.{Kind, Marked, Raised, Masked, OpenSection, Configuration, saved_slot, saved_slots}
+use Rattle.rt_code.specs.Owning.{SectionKind, Marked, Raised, Masked, OpenSection, Configuration, saved_slot}
+use Rattle.rt_code.specs.Owning.{saved_slots}
 use Rattle.rt_code.specs.Processor.{Processor}
 use Rattle.rt_code.specs.Standing.{Stands, HaveLeft, KeepsSaved, configuration_after, spend_step}
 use Rattle.rt_core.specs.Leading.{GoesPlainly, IsAt}
@@ -55,7 +56,7 @@ module _ (app : App) where
     saves_kept slots after outer base mask (all_behind _ (saved_slot h.kind) (saved_slots outer) kept) long saves.1,
   )
     where
-      one : (kind : Kind) → AllByRecursion (λ d. slice_index after d ≡ slice_index slots d) (saved_slot kind)
+      one : (kind : SectionKind) → AllByRecursion (λ d. slice_index after d ≡ slice_index slots d) (saved_slot kind)
           → SavesBy app slots kind (base_inside app outer base) (mask_inside app outer mask)
           → SavesBy app after kind (base_inside app outer base) (mask_inside app outer mask)
       one Marked kept saves = tt

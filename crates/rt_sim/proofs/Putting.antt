@@ -20,7 +20,7 @@ use Rattle.rt_gen_body.proofs.Owning.{local_cell}
 use Rattle.rt_gen_body.proofs.Stored.{stored}
 use Rattle.rt_laws.specs.DeviceWords.{IsUnused}
 use Rattle.rt_sim.specs.Inside.Coupling.{Part, Coupling, job_of, jobs_of, configuration_of}
-use Rattle.rt_sim.specs.Inside.PartInvariant.{who, PartInvariant, Reads}
+use Rattle.rt_sim.specs.Inside.PartInvariant.{who, PartInvariant, PartReads}
 use Rattle.rt_sim.specs.Inside.CouplingInvariant.{CouplingInvariant}
 use Rattle.rt_sim.proofs.Others.{part_kept}
 
@@ -58,14 +58,14 @@ module _ (app : App) (img : Image) (thread n word : ℕ) (declared : n < length 
         (λ same. other (ap (storage app).home same ∙ its_home))
 
     values_left : (q : Part) → is_kept app (who q) (Own n) ≡ false → (h : Location)
-        → Reads app img thread q h ≡ true → values_after values h ≡ values h
+        → PartReads app img thread q h ≡ true → values_after values h ≡ values h
     values_left q away (Guarded x) read = refl
     values_left q away (Own k) read = by (n == k) refl
       where
         by : (b : Bool) → (n == k) ≡ b → (if b then Number word else values (Own k)) ≡ values (Own k)
         by false other = refl
-        by true same = absurd (true_and_false (Reads app img thread q (Own n))
-            (subst (λ j. Reads app img thread q (Own j) ≡ true) (sym (eqb-true n k same)) read)
+        by true same = absurd (true_and_false (PartReads app img thread q (Own n))
+            (subst (λ j. PartReads app img thread q (Own j) ≡ true) (sym (eqb-true n k same)) read)
             (unread app n word (who q) q.held away))
 
     -- what holds of a job that may not use the resource
@@ -74,7 +74,7 @@ module _ (app : App) (img : Image) (thread n word : ℕ) (declared : n < length 
     part_put q away invariant =
         part_kept app img thread cells (cells_after cells) queues queues values (values_after values) q invariant
         (length-set cells (local_at app n) word)
-        (λ cell may. left cell (λ home. true_and_false (Reads app img thread q (Own n))
+        (λ cell may. left cell (λ home. true_and_false (PartReads app img thread q (Own n))
         (subst (λ h. MayLoad (storage app) (who q) (configuration_of cells queues q) h) home may)
         (unread app n word (who q) q.held away)))
         (λ h owned. refl) (values_left q away)

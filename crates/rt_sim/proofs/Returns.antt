@@ -15,7 +15,7 @@ use Rattle.rt_core.specs.Stepping.{step}
 use Rattle.rt_trace.specs.declared.item.What.TheVariants as what
 use Rattle.rt_laws.specs.Giving.{return_item}
 use Rattle.rt_laws.specs.Preemption.{candidate}
-use Rattle.rt_sim.specs.Inside.Coupling.{Part, Coupling, irq_of, configuration_of, whereabouts_of}
+use Rattle.rt_sim.specs.Inside.Coupling.{Part, Coupling, handled_irq, configuration_of, whereabouts_of}
 use Rattle.rt_sim.specs.Inside.States.{core_of, state_of}
 use Rattle.rt_sim.specs.Inside.Chains.{base_inside, mask_inside, base_under, mask_under}
 use Rattle.rt_sim.specs.Inside.Counts.{hands}
@@ -78,18 +78,18 @@ module _ (app : App) (img : Image) (thread : ℕ) where
     }
 
     pub returns_to : step img (core_of app.bits (record m { below = q ∷ ps })) ≡
-        (core_of app.bits resumed, Some (what.Ret (irq_of m.running.role)))
+        (core_of app.bits resumed, Some (what.Ret (handled_irq m.running.role)))
         → StepsBoth app img thread (core_of app.bits (record m { below = q ∷ ps }))
         (state_of (record m { below = q ∷ ps })) (whereabouts_of (record m { below = q ∷ ps }))
     returns_to is = record {
       core = core_of app.bits resumed;
-      shown = Some (what.Ret (irq_of m.running.role));
+      shown = Some (what.Ret (handled_irq m.running.role));
       is = is;
       may = (
         may_turn app img thread (record m { below = q ∷ ps }) invariant works none left,
         gives_item app img thread (record m { below = q ∷ ps }) invariant works Returns ends.values ends.follows ends.is
             ∙ ap return_item invariant.stack.0.serves
-            ∙ ap (λ r. Some (what.Ret (irq_of r))) (sym invariant.stack.0.serves),
+            ∙ ap (λ r. Some (what.Ret (handled_irq r))) (sym invariant.stack.0.serves),
       );
       agrees = record {
         coupling = resumed;

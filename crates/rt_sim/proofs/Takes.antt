@@ -42,7 +42,7 @@ use Rattle.rt_sim.specs.Inside.Chains.{base_of, mask_of}
 use Rattle.rt_sim.specs.Inside.Ownership.{AlwaysRespects}
 use Rattle.rt_sim.specs.Inside.Counts.{hands}
 use Rattle.rt_sim.specs.Inside.Calling.{CallsWithin}
-use Rattle.rt_sim.specs.Inside.PartInvariant.{who, Owns, Reads, AreApart, IsOpenWell, AreOfKind, PartInvariant}
+use Rattle.rt_sim.specs.Inside.PartInvariant.{who, Owns, PartReads, AreApart, IsOpenWell, AreOfKind, PartInvariant}
 use Rattle.rt_sim.specs.Inside.CouplingInvariant.{IsStacked, CouplingInvariant}
 use Rattle.rt_sim.specs.Inside.Agrees.{StepsBoth}
 use Rattle.rt_sim.proofs.Counting.{fewer_once}
@@ -156,7 +156,7 @@ module _ (app : App) (img : Image) (thread : ℕ) where
     apart_one : (top : ℕ) (o : Part) (cells : List ℕ) (queues : Location → List Entry) (values : Values)
         → who o ≡ AtPriority o.priority → o.priority < top
         → PartInvariant app img thread cells queues values o
-        → ((h : Location) → owns (storage app) (AtPriority top) [] h ≡ true → Reads app img thread o h ≡ true → ⊥)
+        → ((h : Location) → owns (storage app) (AtPriority top) [] h ≡ true → PartReads app img thread o h ≡ true → ⊥)
         × ((h : Location) → Owns app img thread o h ≡ true → reads (storage app) (AtPriority top) [] h ≡ true → ⊥)
     apart_one top o cells queues values runner less invariant =
         subst (λ w. ((h : Location) → owns (storage app) (AtPriority top) [] h ≡ true

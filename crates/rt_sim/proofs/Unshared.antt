@@ -18,7 +18,7 @@ use Rattle.rt_app.specs.Declarations.{owns as owns_local}
 use Rattle.rt_app.specs.Holding.{storage, is_kept, is_constant, is_some_at}
 use Rattle.rt_app.specs.Listing.{is_lock_free, is_read_alone}
 use Rattle.rt_code.specs.Image.{Image}
-use Rattle.rt_code.specs.Owning.{Kind, Marked, Raised, Masked, OpenSection, owns, is_open}
+use Rattle.rt_code.specs.Owning.{SectionKind, Marked, Raised, Masked, OpenSection, owns, is_open}
 use Rattle.rt_code.proofs.Mine.{owns_reads, same_section}
 use Rattle.rt_laws.specs.State.{Role, Init, Idle, Waiting, Serving}
 use Rattle.rt_laws.specs.Observer.{Seen, IsInside}
@@ -30,7 +30,7 @@ use Rattle.rt_sim.specs.Whereabouts.{Whereabouts, IsOnce}
 use Rattle.rt_sim.specs.Inside.Coupling.{Part, Coupling, runner_of, sections_of, job_of, whereabouts_of}
 use Rattle.rt_sim.specs.Inside.Counts.{hands}
 use Rattle.rt_sim.specs.Inside.Chains.{is_init, mask_by, mask_inside}
-use Rattle.rt_sim.specs.Inside.PartInvariant.{who, Owns, Reads, OwnedIsUnread, AreApart}
+use Rattle.rt_sim.specs.Inside.PartInvariant.{who, Owns, PartReads, OwnedIsUnread, AreApart}
 use Rattle.rt_sim.specs.Inside.CouplingInvariant.{IsOn, IsStacked, CouplingInvariant}
 use Rattle.rt_sim.specs.Inside.States.{state_of}
 use Rattle.rt_sim.proofs.OwnedAccess.{not_init_seen}
@@ -48,7 +48,7 @@ mask_stays : (app : App) (held : List OpenSection) → mask_inside app held true
 mask_stays app [] = refl
 mask_stays app (h ∷ held) = ap (mask_by h.kind) (mask_stays app held) ∙ by h.kind
   where
-    by : (kind : Kind) → mask_by kind true ≡ true
+    by : (kind : SectionKind) → mask_by kind true ≡ true
     by Marked = refl
     by (Raised slot) = refl
     by (Masked slot) = refl
@@ -146,10 +146,10 @@ module _ (app : App) (img : Image) (thread : ℕ) where
     owns_back (Guarded section.Timer) is = or_left (is_open s.part.held section.Timer) _ (opened section.Timer is)
     owns_back (Own n) is = ap (λ w. is_kept app w (Own n)) runner ∙ local_listed n is
 
-    also_reads : (h : Location) → Owns app img thread s.part h ≡ true → Reads app img thread s.part h ≡ true
+    also_reads : (h : Location) → Owns app img thread s.part h ≡ true → PartReads app img thread s.part h ≡ true
     also_reads h is = owns_reads (storage app) (who s.part) s.part.held h is
 
-    reads_back : (h : Location) → ReadsLocation app vs h → Reads app img thread s.part h ≡ true
+    reads_back : (h : Location) → ReadsLocation app vs h → PartReads app img thread s.part h ≡ true
     unfolding storage
     reads_back (Guarded (section.Res r)) (inl change) = also_reads (Guarded (section.Res r)) (changes r change)
     reads_back (Guarded (section.Res r)) (inr alone) =

@@ -14,29 +14,29 @@ use Rattle.rt_count.specs.declared.summary.Summary.{Summary}
 use Rattle.rt_script.specs.Generated.{generated}
 use Rattle.rt_script.specs.Script.{events}
 use Rattle.rt_script.specs.declared.line.Line.{Line}
-use Rattle.rt_soak.specs.Inside.Sharing.{first_of, run_of, IsShare}
-use Rattle.rt_soak.specs.Inside.Totals.{Part, IsThere, AreFew, runs_in}
+use Rattle.rt_soak.specs.Inside.Sharing.{first_run, run_of, IsShare}
+use Rattle.rt_soak.specs.Inside.Totals.{WorkerRuns, IsThere, AreFew, runs_in}
 use Rattle.rt_soak.specs.declared.run.Run.{Run}
 
 abbrev pub made_of : ℕ → Summary → Run
 made_of run s = record { number = run; summary = s }
 
 -- the first worker begins with the first run
-pub first_first : (count workers : ℕ) → first_of count workers 0 ≡ 0
+pub first_first : (count workers : ℕ) → first_run count workers 0 ≡ 0
 first_first count workers = grind arith
 
 -- the last one ends with the last run
-pub last_last : (count workers : ℕ) → 0 < workers → first_of count workers workers ≡ count
+pub last_last : (count workers : ℕ) → 0 < workers → first_run count workers workers ≡ count
 last_last count workers some = mul-div_cancel_left count some
 
 -- and none ends before it begins, or behind the last run
 pub shares_rise : (count workers worker : ℕ) → 0 < workers
-    → first_of count workers worker ≤ first_of count workers (worker + 1)
+    → first_run count workers worker ≤ first_run count workers (worker + 1)
 shares_rise count workers worker some =
     le-div (worker * count / workers) ((worker + 1) * count) workers some
     (omega (arith, div-mul-le_self (worker * count) workers, add-mul worker 1 count))
 
-pub shares_within : (count workers worker : ℕ) → worker ≤ workers → first_of count workers worker ≤ count
+pub shares_within : (count workers worker : ℕ) → worker ≤ workers → first_run count workers worker ≤ count
 shares_within count workers worker within = div-le_of_le-mul workers (mul-le-mul_right count within)
 
 -- a run of a core that has the image
@@ -63,11 +63,11 @@ module _ (f : ℕ → Run) where
 
 module _ (image : Image) (irqs : List ℕ) (number count workers : ℕ) where
   before : ℕ → List Run
-  before worker = map (run_of image irqs number) (numbers_below (first_of count workers worker))
+  before worker = map (run_of image irqs number) (numbers_below (first_run count workers worker))
 
   -- what workers from one on answer are the runs behind those of the workers before
-  gathered : (parts : List Part) (k : ℕ)
-      → ((w : ℕ) (d : Part) → w < length parts
+  gathered : (parts : List WorkerRuns) (k : ℕ)
+      → ((w : ℕ) (d : WorkerRuns) → w < length parts
       → IsShare image irqs number count workers (k + w) (slice_index_or parts w d))
       → AllByRecursion IsThere parts → before k ++ flat_map runs_in parts ≡ before (k + length parts)
   unfolding before
@@ -86,8 +86,8 @@ module _ (image : Image) (irqs : List ℕ) (number count workers : ℕ) where
   gathered (Err e ∷ parts) k each there = absurd there.0
 
   -- all of them are all the runs
-  pub all_runs : (parts : List Part) → 0 < workers → length parts ≡ workers
-      → ((w : ℕ) (d : Part) → w < workers
+  pub all_runs : (parts : List WorkerRuns) → 0 < workers → length parts ≡ workers
+      → ((w : ℕ) (d : WorkerRuns) → w < workers
       → IsShare image irqs number count workers w (slice_index_or parts w d))
       → AllByRecursion IsThere parts
       → flat_map runs_in parts ≡ map (run_of image irqs number) (numbers_below count)
@@ -98,11 +98,11 @@ module _ (image : Image) (irqs : List ℕ) (number count workers : ℕ) where
       ∙ gathered parts 0 (λ w d within. subst (λ n. IsShare image irqs number count workers n
       (slice_index_or parts w d))
       (let e : w ≡ 0 + w = omega arith in e) (each w d (omega (arith, within, as_many)))) there
-      ∙ ap (λ n. map (run_of image irqs number) (numbers_below (first_of count workers n)))
+      ∙ ap (λ n. map (run_of image irqs number) (numbers_below (first_run count workers n)))
       (let e : 0 + length parts ≡ workers = omega (arith, as_many) in e)
       ∙ ap (λ n. map (run_of image irqs number) (numbers_below n)) (last_last count workers some)
 
   -- and few
-  pub few_in : (part : Part) (w : ℕ) → IsShare image irqs number count workers w part → AreFew part
+  pub few_in : (part : WorkerRuns) (w : ℕ) → IsShare image irqs number count workers w part → AreFew part
   few_in (Ok runs) w share = (share.1, share.2)
   few_in (Err e) w share = tt

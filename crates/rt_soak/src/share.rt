@@ -2,7 +2,7 @@
 
 ghost use Rattle.std.specs.Prelude.{◌≡◌, ◌+◌, ◌<◌, ◌≤◌, length, IfOk};
 ghost use Rattle.std.specs.List.{AllByRecursion};
-ghost use Rattle.rt_soak.specs.Inside.Sharing.{first_of, run_of, AreRuns};
+ghost use Rattle.rt_soak.specs.Inside.Sharing.{first_run, run_of, AreRuns};
 ghost use Rattle.rt_soak.specs.Inside.Totals.{IsSmall};
 ghost use Rattle.rt_soak.specs.declared.soaking.TheConstants.{MOST_RUNS, MOST_WORKERS};
 
@@ -30,7 +30,7 @@ impl Plan {
         requires workers { self.now.workers ≤ MOST_WORKERS }
         requires some { 0 < self.now.workers }
         requires worker { worker ≤ self.now.workers }
-        ensures { result ≡ first_of self.now.count self.now.workers worker }
+        ensures { result ≡ first_run self.now.count self.now.workers worker }
     {
         (worker as u32 * self.count) / u32::from(self.workers)
     }
@@ -93,7 +93,7 @@ pub(crate) fn share(
     requires workers { plan.workers ≤ MOST_WORKERS }
     requires worker { worker < plan.workers }
     ensures runs { IfOk result (λ runs. AreRuns core.now.image irqs.now plan.number
-        (first_of plan.count plan.workers worker) (first_of plan.count plan.workers (worker + 1)) runs.items) }
+        (first_run plan.count plan.workers worker) (first_run plan.count plan.workers (worker + 1)) runs.items) }
     ensures small { IfOk result (λ runs. AllByRecursion IsSmall runs.items) }
     ensures few { IfOk result (λ runs. length runs.items ≤ MOST_RUNS) }
 {

@@ -26,12 +26,12 @@ use Rattle.rt_lines.specs.declared.operand.Wrong.{Wrong}
 use Rattle.rt_trace.specs.declared.reader.TraceReader.{TraceReader}
 use Rattle.rt_trace.specs.declared.refusal.TraceRefused.{TraceRefused}
 use Rattle.rt_trace.proofs.Stepping.{line_passed, line_read, line_wrong, refused_so}
-use Rattle.rt_top.specs.Inside.Auditor.{Goes, Refuses, Stands, HasAudited, IsJudgedText}
+use Rattle.rt_top.specs.Inside.Auditor.{IsJudgedSoFar, Refuses, AuditStands, HasAudited, IsJudgedText}
 
 module _ {app : App} {names : Names} {ls : List (List ℕ)} {old : TraceReader} (line : List ℕ) where
   -- a line that tells no item
   pub goes_silent : {new : TraceReader} {judge : Judge} → line_told names old.phase line ≡ Ok (new.phase, None)
-      → Goes app names ls old judge → Goes app names (ls ++ line ∷ []) new judge
+      → IsJudgedSoFar app names ls old judge → IsJudgedSoFar app names (ls ++ line ∷ []) new judge
   goes_silent {new = new} reads g = record {
     items = g.items;
     few = omega (arith, g.few, length-append ls (line ∷ []));
@@ -44,7 +44,7 @@ module _ {app : App} {names : Names} {ls : List (List ℕ)} {old : TraceReader} 
   pub goes_on : {new : TraceReader} {before after : Judge} (item : Item)
       → line_told names old.phase line ≡ Ok (new.phase, Some item)
       → ((items : List Item) → HasJudged app items before → HasJudged app (items ++ item ∷ []) after)
-      → Goes app names ls old before → Goes app names (ls ++ line ∷ []) new after
+      → IsJudgedSoFar app names ls old before → IsJudgedSoFar app names (ls ++ line ∷ []) new after
   goes_on {new = new} item reads judges g = record {
     items = g.items ++ item ∷ [];
     few = omega (arith, g.few, length-append g.items (item ∷ []), length-append ls (line ∷ []));
@@ -57,7 +57,7 @@ module _ {app : App} {names : Names} {ls : List (List ℕ)} {old : TraceReader} 
   -- a line that is wrong
   pub line_refuses : {judge : Judge} (number : ℕ) (refusal : TraceRefused) → suc (length ls) ≡ number
       → (w : Wrong) × (line_told names old.phase line ≡ Err w) × (refusal ≡ refusal_of w number)
-      → Goes app names ls old judge → Refuses names (ls ++ line ∷ []) refusal
+      → IsJudgedSoFar app names ls old judge → Refuses names (ls ++ line ∷ []) refusal
   line_refuses number refusal counted (w, told, says) g = λ text behind short parts.
       refused_so names text (suc (length ls)) w refusal (record {
         short = short;
@@ -79,7 +79,7 @@ refuses_on names ls line refusal refuses =
 -- and where that is kept
 pub stands_on : (app : App) (names : Names) (ls : List (List ℕ)) (line : List ℕ) (reader : TraceReader) (judge : Judge)
     (refusing : Option TraceRefused) (refusal : TraceRefused) → refusing ≡ Some refusal
-    → Stands app names ls reader judge refusing → Stands app names (ls ++ line ∷ []) reader judge refusing
+    → AuditStands app names ls reader judge refusing → AuditStands app names (ls ++ line ∷ []) reader judge refusing
 stands_on app names ls line reader judge None refusal some h = absurd cc
 stands_on app names ls line reader judge (Some kept) refusal some h = refuses_on names ls line kept h
 
@@ -115,7 +115,7 @@ module _ {chosen : Option App} {names : Names} {machine : Machine} {reader : Tra
       subst (λ (n : Names). IsTraceRefused n text refusal) same_names
       (refuses text [] short (sym (append-nil (lines text))))
 
-  goes : refusing ≡ None → Goes (app_of machine.code.now.app.now) names (lines text) reader judge
+  goes : refusing ≡ None → IsJudgedSoFar (app_of machine.code.now.app.now) names (lines text) reader judge
   goes none = rw none at h.stands
 
   pub end_unended : refusing ≡ None → (count : ℕ) (refusal : TraceRefused) → length (lines text) ≡ count

@@ -2,8 +2,8 @@
 use Rattle.std.proofs.Common.{◌≡◌, ℕ, zero, suc, ◌<◌, ◌≤◌, ◌⊎◌, List, length, Option, Some, inl, inr, subst, arith}
 use Rattle.rt_ids.specs.declared.status.Status.{Status}
 use Rattle.rt_ids.specs.declared.status.Status.TheVariants as status
-use Rattle.rt_top.specs.Words.{Command, Names}
-use Rattle.rt_top.specs.Kinds.{Kind, kinds_of}
+use Rattle.rt_top.specs.Words.{Command, NamesCommand}
+use Rattle.rt_top.specs.Kinds.{TextKind, kinds_of}
 use Rattle.rt_top.specs.Defined.{Inputs}
 use Rattle.rt_top.specs.Inside.Decides.{Conducts}
 use Rattle.rt_top.specs.Inside.Meant.{command_word}
@@ -16,15 +16,15 @@ use Rattle.rt_top.proofs.Using.{failed_at, Did, behind}
 
 -- the words name one command, so this is the one that was conducted
 pub conducted : {t : Inputs} {sources : Sources} {before after : List ℕ} {fb fa : ℕ} {result : Status}
-    (words : List (List ℕ)) (c : code.Command) → Names words (command_word c)
+    (words : List (List ℕ)) (c : code.Command) → NamesCommand words (command_word c)
     → Conducts (command_word c) (kinds_of (command_word c)) t sources before after fb fa result → (e : Command)
-    → Names words e → Conducts e (kinds_of e) t sources before after fb fa result
+    → NamesCommand words e → Conducts e (kinds_of e) t sources before after fb fa result
 conducted {t} {sources} {before} {after} {fb} {fa} {result} words c named k e named_so =
     subst (λ x. Conducts x (kinds_of x) t sources before after fb fa result)
     (one_command words (command_word c) e named named_so) k
 
 -- of three sources one failed, and those behind it were not come to
-module _ (kinds : List Kind) (first a b d : List ℕ) (DA DB DD : ℕ → Use → Type 0) (end : Option Reply)
+module _ (kinds : List TextKind) (first a b d : List ℕ) (DA DB DD : ℕ → Use → Type 0) (end : Option Reply)
     (read : AreRead kinds first (Then a DA (Then b DB (Then d DD No))) end) (is : end ≡ Some (reply.Stop status.Read))
     (FA FB FD : Type 0) (fa : (limit : ℕ) → DA limit Failed → FA) (fb : (limit : ℕ) → DB limit Failed → FB)
     (fd : (limit : ℕ) → DD limit Failed → FD) where

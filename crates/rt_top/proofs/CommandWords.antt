@@ -7,7 +7,7 @@ use Rattle.std.proofs.lemmas.Option.{IfSome_then}
 use Rattle.std.specs.Str.Parse.{digits_value}
 use Rattle.std.specs.Borrow.{Bor}
 use Rattle.rt_top.specs.Words.{texts, Command, Run, Check, Fmt, Build, Audit, Live, Soak, Demo, Deepest, Times, Verify}
-use Rattle.rt_top.specs.Words.{Pair, Names, IsCommand, IsNumber}
+use Rattle.rt_top.specs.Words.{Pair, NamesCommand, IsCommand, IsNumber}
 use Rattle.rt_top.specs.Inside.Meant.{command_word}
 use Rattle.rt_top.specs.declared.command.Command as code
 use Rattle.rt_top.specs.declared.command.Command.TheVariants as command
@@ -55,7 +55,7 @@ command_named (verb ∷ words) =
     (when (bytes_eq verb (codes "demo")) (Demo (number_at 0 words))
     (Some (Soak (number_at 1 words) (number_at 2 words) (number_at 3 words)))))))))))))
 
-pub names_it : (words : List (List ℕ)) (c : Command) → Names words c → command_named words ≡ Some c
+pub names_it : (words : List (List ℕ)) (c : Command) → NamesCommand words c → command_named words ≡ Some c
 names_it words Run named = ap command_named named.2
 names_it words Check named = ap command_named named.1
 names_it words Fmt named = ap command_named named.1
@@ -74,19 +74,19 @@ names_it words Pair named = ap command_named named.3
 names_it words (Demo n) named = let e = ap command_named named.1 in let a = named.2.value in cc
 
 -- words name one command at most
-pub one_command : (words : List (List ℕ)) (c d : Command) → Names words c → Names words d → c ≡ d
+pub one_command : (words : List (List ℕ)) (c d : Command) → NamesCommand words c → NamesCommand words d → c ≡ d
 one_command words c d named other = let e = names_it words c named in let f = names_it words d other in cc
 
 -- the words of `soak`, with those of its numbers
 module _ (words : List (List ℕ)) (app a b c : List ℕ) (is : words ≡ codes "soak" ∷ app ∷ a ∷ b ∷ c ∷ [])
     (r : Option code.Command) where
   pub soak_named : IfSome r (λ x. (n k w : ℕ) × (x ≡ command.Soak n k w) × IsNumber 0 (2 ^ 64 - 1) a n
-      × IsNumber 1 10000 b k × IsNumber 1 64 c w) → IfSome r (λ x. Names words (command_word x))
+      × IsNumber 1 10000 b k × IsNumber 1 64 c w) → IfSome r (λ x. NamesCommand words (command_word x))
   soak_named some =
       IfSome_then r some (λ x (n, k, w, so, of_n, of_k, of_w).
-      subst (λ y. Names words (command_word y)) (sym so) (app, a, b, c, is, of_n, of_k, of_w))
+      subst (λ y. NamesCommand words (command_word y)) (sym so) (app, a, b, c, is, of_n, of_k, of_w))
 
-  spelled : (n k w : ℕ) → Names words (Soak n k w)
+  spelled : (n k w : ℕ) → NamesCommand words (Soak n k w)
       → IsNumber 0 (2 ^ 64 - 1) a n × IsNumber 1 10000 b k × IsNumber 1 64 c w
   spelled n k w (app', a', b', c', are, of_n, of_k, of_w) =
       let same = sym is ∙ are in
@@ -104,7 +104,7 @@ module _ (words : List (List ℕ)) (app a b c : List ℕ) (is : words ≡ codes 
       let names = names_it words e named in
       let so = ap command_named is in
       let same : e ≡ Soak (digits_value 10 a) (digits_value 10 b) (digits_value 10 c) = cc in
-      let numbers = spelled _ _ _ (subst (Names words) same named) in
+      let numbers = spelled _ _ _ (subst (NamesCommand words) same named) in
       none _ _ _ numbers.0 numbers.1 numbers.2
 
   pub soak_none : IfNone r ((n k w : ℕ) → IsNumber 0 (2 ^ 64 - 1) a n → IsNumber 1 10000 b k → IsNumber 1 64 c w

@@ -6,8 +6,8 @@ use Rattle.rt_app.specs.Tree.{App}
 use Rattle.rt_build.specs.Accepted.{IsApplication}
 use Rattle.rt_outside.specs.Bytes.{Past}
 use Rattle.rt_top.specs.Words.{Command}
-use Rattle.rt_top.specs.Kinds.{Kind, Application, kinds_of, most_bytes, IsOfKind, IsRefusedBy}
-use Rattle.rt_top.specs.Defined.{Inputs, Writes}
+use Rattle.rt_top.specs.Kinds.{TextKind, Application, kinds_of, most_bytes, IsOfKind, IsRefusedBy}
+use Rattle.rt_top.specs.Defined.{Inputs, IsOutputOf}
 use Rattle.rt_top.specs.Ends.{IsKept}
 use Rattle.rt_top.specs.SecondRefusal.{RefusesOver}
 use Rattle.rt_top.specs.Inside.Decides.{Tells, EndsAs, Finishes, IsReplyTo, Answers, AnswersOne, EndsBy, Conducts}
@@ -27,7 +27,7 @@ pub kept : {S : Type 0} {past : S → Past} {left : S → Option (List ℕ)} {fa
 kept = record { gave_none = refl; has_all = refl; no_fault = refl }
 
 -- a text of the kind was read, and is refused
-pub refusal_reads : (k : Kind) (first gave : List ℕ) (Does : ℕ → Use → Type 0) → Does (most_bytes k) Whole
+pub refusal_reads : (k : TextKind) (first gave : List ℕ) (Does : ℕ → Use → Type 0) → Does (most_bytes k) Whole
     → Does (most_bytes k) Left → (told : Status) (P : List ℕ → Type 0)
     → ((line : List ℕ) → P line → IsRefusedBy k first gave told line) → (r : Reply) → Tells told P r
     → IsNotRead k first gave Does r
@@ -42,7 +42,7 @@ pub refused_over : {R : Type 0} {IsRefused : App → List ℕ → R → Type 0} 
     → RefusesOver IsRefused Says text more line
 refused_over app is r refused says = record { app = app; of_text = is; refusal = r; refused = refused; says = says }
 
-module _ {c : Command} {k : Kind} {kinds : List Kind} {t : Inputs} {gave : List ℕ} {Does : ℕ → Use → Type 0}
+module _ {c : Command} {k : TextKind} {kinds : List TextKind} {t : Inputs} {gave : List ℕ} {Does : ℕ → Use → Type 0}
     {more : Sources} where
   pub refused_answers : {r : Reply} → AreUnread more → IsNotRead k t.first gave Does r
       → Answers c (k ∷ kinds) t (Then gave Does more) r
@@ -56,12 +56,12 @@ module _ {c : Command} {k : Kind} {kinds : List Kind} {t : Inputs} {gave : List 
 
 module _ {c : Command} {t : Inputs} where
   -- all texts were read
-  pub replies_answers : {sources : Sources} {r : Reply} → AreUnread sources → Replies (Writes c t) r
+  pub replies_answers : {sources : Sources} {r : Reply} → AreUnread sources → Replies (IsOutputOf c t) r
       → Answers c [] t sources r
   replies_answers unread is = record { end = None; read = (unread, refl); replies = is }
 
   -- one text is left to be read, of the first of these sources
-  module _ {k : Kind} {gave : List ℕ} {Does : ℕ → Use → Type 0} {more : Sources} where
+  module _ {k : TextKind} {gave : List ℕ} {Does : ℕ → Use → Type 0} {more : Sources} where
     pub one_answers : {r : Reply} → AreUnread more → AnswersOne c k t gave Does r
         → Answers c (k ∷ []) t (Then gave Does more) r
     one_answers unread (inl (whole, is, replies)) =
@@ -77,7 +77,7 @@ module _ {c : Command} {t : Inputs} where
         record { end = Some r; read = inr (r, refl, none, unread); ends = ends; heard = heard }
 
   -- a reply was finished
-  pub finished : {kinds : List Kind} {sources : Sources} {r : Reply} {before after : List ℕ} {fb fa : ℕ}
+  pub finished : {kinds : List TextKind} {sources : Sources} {r : Reply} {before after : List ℕ} {fb fa : ℕ}
       {result : Status} → Answers c kinds t sources r → Finishes before after fb fa r result
       → (fa ≡ fb) ⊎ (result ≡ status.Write) → Conducts c kinds t sources before after fb fa result
   finished {r = r} {before = before} {after = after} {fb = fb} {fa = fa} {result = result} a done heard =

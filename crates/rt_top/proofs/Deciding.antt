@@ -11,7 +11,7 @@ use Rattle.rt_script.specs.Text.{IsScriptText}
 use Rattle.rt_script.specs.declared.line.Line.{Line}
 use Rattle.rt_top.specs.Words.{Run, Live, Pair}
 use Rattle.rt_top.specs.Outputs.{IsGoodOf, IsGoodImage, IsListed}
-use Rattle.rt_top.specs.Defined.{Inputs, Writes}
+use Rattle.rt_top.specs.Defined.{Inputs, IsOutputOf}
 use Rattle.rt_top.specs.Inside.Decides.{Lists}
 use Rattle.rt_top.specs.Inside.Started.{ShowsRun, ShowsLive, ShowsPair}
 use Rattle.rt_top.proofs.Happening.{runs_well, run_happens, live_happens, first_happens, second_happens}
@@ -32,7 +32,8 @@ module _ (u : Inputs) (app : App) (accepted : IsApplication u.first app) (ended 
     of_text : HasTypedNumbers image → IsGoodImage u.first app image
     of_text numbers = record { of_text = accepted; good = good; numbers = numbers }
 
-    pub ran : IsScriptText (names_of app) u.second asked → ShowsRun image asked ended bytes → Writes Run u ended bytes
+    pub ran : IsScriptText (names_of app) u.second asked → ShowsRun image asked ended bytes
+        → IsOutputOf Run u ended bytes
     ran read (is, numbers, written) = (
       is,
       record {
@@ -49,7 +50,7 @@ module _ (u : Inputs) (app : App) (accepted : IsApplication u.first app) (ended 
 
     -- and beside the devices
     pub lived : IsScriptText (names_of app) u.second asked → ShowsLive image asked ended bytes
-        → Writes Live u ended bytes
+        → IsOutputOf Live u ended bytes
     lived read (is, numbers, shown, live, written) = (
       is,
       record {
@@ -68,7 +69,7 @@ module _ (u : Inputs) (app : App) (accepted : IsApplication u.first app) (ended 
 
     -- and beside another core
     pub paired : (other : App) → IsApplication u.second other → IsScriptText (names_of app) u.third asked
-        → ShowsPair image other asked ended bytes → Writes Pair u ended bytes
+        → ShowsPair image other asked ended bytes → IsOutputOf Pair u ended bytes
     paired other of_other read shows =
         let one : IsGoodImage u.first app image = of_text shows.first_numbers in
         let two : IsGoodImage u.second other shows.second = record {

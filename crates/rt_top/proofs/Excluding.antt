@@ -40,13 +40,13 @@ use Rattle.rt_trace.proofs.Stepping.{one_trace}
 use Rattle.rt_top.specs.Words.{Command, Run, Check, Fmt, Build, Audit, Live, Soak, Demo, Deepest, Times, Verify, Pair}
 use Rattle.rt_top.specs.Refusal.{RefusesText, RefusesApplication}
 use Rattle.rt_top.specs.SecondRefusal.{RefusesOver, SaysScript, SaysTrace, SaysLimits}
-use Rattle.rt_top.specs.Kinds.{Kind, kinds_of, IsOfKind, IsRefusedBy, IsRefusedAmong}
+use Rattle.rt_top.specs.Kinds.{TextKind, kinds_of, IsOfKind, IsRefusedBy, IsRefusedAmong}
 use Rattle.rt_top.specs.Kinds as kind
 use Rattle.rt_top.specs.Outputs.{Says, IsAudited, TellsDeepest, TellsTimes}
 use Rattle.rt_top.specs.Outputs as outputs
 use Rattle.rt_top.specs.Verified.{SaysImage, TellsImage}
 use Rattle.rt_top.specs.Verified as verified
-use Rattle.rt_top.specs.Defined.{Inputs, Writes, Defined, refused, output}
+use Rattle.rt_top.specs.Defined.{Inputs, IsOutputOf, Defined, refused, output}
 
 -- What is read is refused by no line.
 
@@ -172,7 +172,7 @@ image_read text line image (in_image.UnknownName n) is met says = listings.read_
 image_read text line image in_image.NoMemory is met says = says
 
 -- A text is of its kind or is refused, not both.
-pub one_of_each : (k : Kind) (first text : List ℕ) (ended : Status) (line : List ℕ) → IsOfKind k first text
+pub one_of_each : (k : TextKind) (first text : List ℕ) (ended : Status) (line : List ℕ) → IsOfKind k first text
     → IsRefusedBy k first text ended line → ⊥
 one_of_each kind.Tree first text ended line (a, is) (told, r) = tree_passes text line a is r
 one_of_each kind.Application first text ended line (app, is) (told, r) = application_passes text line app is r
@@ -190,7 +190,7 @@ one_of_each kind.Listing first text ended line (image, is) (told, (refusal, met,
     image_read text line image refusal is met says
 
 -- a refusal has the status of its kind
-one_refusal : (k : Kind) (first text : List ℕ) (a b : Status) (x y : List ℕ) → IsRefusedBy k first text a x
+one_refusal : (k : TextKind) (first text : List ℕ) (a b : Status) (x y : List ℕ) → IsRefusedBy k first text a x
     → IsRefusedBy k first text b y → AreDue a b
 one_refusal kind.Tree first text a b x y r s = due_as status.App a b tt r.0 s.0
 one_refusal kind.Application first text a b x y r s = due_as status.App a b tt r.0 s.0
@@ -201,13 +201,13 @@ one_refusal kind.Limits first text a b x y r s = due_as status.Text a b tt r.0 s
 one_refusal kind.Listing first text a b x y r s = due_as status.Text a b tt r.0 s.0
 
 -- each text is of its kind
-abbrev AreOfKinds : List Kind → List ℕ → List (List ℕ) → Type 0
+abbrev AreOfKinds : List TextKind → List ℕ → List (List ℕ) → Type 0
 AreOfKinds [] first texts = Unit {0}
 AreOfKinds (k ∷ kinds) first [] = ⊥
 AreOfKinds (k ∷ kinds) first (text ∷ texts) = IsOfKind k first text × AreOfKinds kinds first texts
 
 -- then none is refused
-none_refused : (kinds : List Kind) (first : List ℕ) (texts : List (List ℕ)) (ended : Status) (line : List ℕ)
+none_refused : (kinds : List TextKind) (first : List ℕ) (texts : List (List ℕ)) (ended : Status) (line : List ℕ)
     → AreOfKinds kinds first texts → IsRefusedAmong kinds first texts ended line → ⊥
 none_refused [] first texts ended line are r = r
 none_refused (k ∷ kinds) first [] ended line are r = r
@@ -216,7 +216,7 @@ none_refused (k ∷ kinds) first (text ∷ texts) ended line are (inr r) =
     none_refused kinds first texts ended line are.1 r.1
 
 -- and the first that is has one status
-one_among : (kinds : List Kind) (first : List ℕ) (texts : List (List ℕ)) (a b : Status) (x y : List ℕ)
+one_among : (kinds : List TextKind) (first : List ℕ) (texts : List (List ℕ)) (a b : Status) (x y : List ℕ)
     → IsRefusedAmong kinds first texts a x → IsRefusedAmong kinds first texts b y → AreDue a b
 one_among [] first texts a b x y r s = absurd r
 one_among (k ∷ kinds) first [] a b x y r s = absurd r
@@ -226,7 +226,7 @@ one_among (k ∷ kinds) first (text ∷ texts) a b x y (inr r) (inl s) = absurd 
 one_among (k ∷ kinds) first (text ∷ texts) a b x y (inr r) (inr s) = one_among kinds first texts a b x y r.1 s.1
 
 -- where there is an output each text is of its kind
-all_read : (c : Command) (t : Inputs) (ended : Status) (bytes : List ℕ) → Writes c t ended bytes
+all_read : (c : Command) (t : Inputs) (ended : Status) (bytes : List ℕ) → IsOutputOf c t ended bytes
     → AreOfKinds (kinds_of c) t.first (t.first ∷ t.second ∷ t.third ∷ [])
 all_read Run t ended bytes (is, w) = ((w.app, w.is.of_text), ((w.app, w.is.of_text, w.script, w.read), tt))
 all_read Check t ended bytes (is, (app, accepted, says)) = ((app, accepted), tt)
@@ -244,7 +244,8 @@ all_read Pair t ended bytes (is, w) = (
   ((w.second, w.is_second.of_text), ((w.first, w.is_first.of_text, w.script, w.read), tt)),
 )
 
-one_output : (c : Command) (t : Inputs) (a b : Status) (x y : List ℕ) → Writes c t a x → Writes c t b y → AreDue a b
+one_output : (c : Command) (t : Inputs) (a b : Status) (x y : List ℕ) → IsOutputOf c t a x → IsOutputOf c t b y
+    → AreDue a b
 one_output Audit t a b x y w v = audited_so t.first t.second a b x y w v
 one_output Deepest t a b x y (app, is, tells) (other, is', tells') =
     whether_once (has_deepest_script app ≡ true) a b (deepened_so app a x tells)

@@ -4,7 +4,7 @@ use Rattle.std.proofs.Common.{take, slice_get, inl, inr, refl, subst, arith}
 use Rattle.rt_ids.specs.declared.status.Status.{Status}
 use Rattle.rt_ids.specs.declared.status.Status.TheVariants as status
 use Rattle.rt_outside.specs.Bytes.{Past}
-use Rattle.rt_top.specs.Kinds.{Kind, most_bytes, IsRefusedAmong}
+use Rattle.rt_top.specs.Kinds.{TextKind, most_bytes, IsRefusedAmong}
 use Rattle.rt_top.specs.Inside.Replies.{RepliesOrStops}
 use Rattle.rt_top.specs.Inside.Using.{Use, Unread, Whole, Failed, Left, HasUse, Sources, No, Then, AreUnread, AreRead}
 use Rattle.rt_top.specs.Inside.Using.{for_memory, at_fault, IsNotRead, refusal, stop}
@@ -42,7 +42,7 @@ did_unread zero (Then gave Does more) u = u.0
 did_unread (suc n) (Then gave Does more) u = did_unread n more u.1
 
 -- the sources that a command does not come to
-pub skipped : (n : ℕ) (kinds : List Kind) (first : List ℕ) (sources : Sources) (end : Option Reply)
+pub skipped : (n : ℕ) (kinds : List TextKind) (first : List ℕ) (sources : Sources) (end : Option Reply)
     → AreRead kinds first sources end
     → (length kinds ≤ n)
     ⊎ ((ended : Status) × (line : List ℕ) × IsRefusedAmong (take n kinds) first (gaves sources) ended line)
@@ -61,7 +61,8 @@ skipped (suc n) (k ∷ kinds) first (Then gave Does more) end (inr (r, is, none,
     unread_behind n more unread
 
 -- the sources that it comes to, where the program does not stop
-pub read_whole : (n : ℕ) (kinds : List Kind) (first : List ℕ) (sources : Sources) (end : Option Reply) (k : Kind)
+pub read_whole : (n : ℕ) (kinds : List TextKind) (first : List ℕ) (sources : Sources) (end : Option Reply)
+    (k : TextKind)
     → AreRead kinds first sources end → slice_get kinds n ≡ Some k
     → ((ended : Status) (line : List ℕ) → IsRefusedAmong (take n kinds) first (gaves sources) ended line → ⊥)
     → ((ended : Status) → end ≡ Some (reply.Stop ended) → ⊥) → Did n sources (most_bytes k) Whole
@@ -79,7 +80,7 @@ read_whole (suc n) (j ∷ kinds) first (Then gave Does more) end k (inr (r, ends
     is passed alive = absurd (passed ended line.items (inl by))
 
 -- what was done with a source; only one that failed stops the program so
-pub did : (n : ℕ) (kinds : List Kind) (first : List ℕ) (sources : Sources) (end : Option Reply)
+pub did : (n : ℕ) (kinds : List TextKind) (first : List ℕ) (sources : Sources) (end : Option Reply)
     → AreRead kinds first sources end
     → (limit : ℕ) × (how : Use) × Did n sources limit how × (how ≡ Failed → end ≡ Some (reply.Stop status.Read))
 did n [] first sources end read = (0, Unread, did_unread n sources read.0, λ e. absurd cc)
@@ -106,7 +107,7 @@ quiet past left faults old new limit Failed P u told = inr (told refl)
 quiet past left faults old new limit Left P u told = inl u
 
 -- where a source failed, it is one that the command has a text in, and none behind it was come to
-pub failed_at : (kinds : List Kind) (first : List ℕ) (sources : Sources) (end : Option Reply)
+pub failed_at : (kinds : List TextKind) (first : List ℕ) (sources : Sources) (end : Option Reply)
     → AreRead kinds first sources end → end ≡ Some (reply.Stop status.Read)
     → (n limit : ℕ) × (n < length kinds) × (n < count sources) × Did n sources limit Failed
     × AreUnread (behind (suc n) sources)
@@ -123,17 +124,18 @@ failed_at (k ∷ kinds) first (Then gave Does more) end (inr (r, ends, stop ende
     absurd cc
 
 -- a reply in place of an output: a text is refused, and those before it are not, or the program stops
-abbrev pub EndedBy : List Kind → List ℕ → List (List ℕ) → Reply → Type 0
+abbrev pub EndedBy : List TextKind → List ℕ → List (List ℕ) → Reply → Type 0
 EndedBy kinds first texts r =
     RepliesOrStops (IsRefusedAmong kinds first texts) (λ ended. (ended ≡ status.Memory) ⊎ (ended ≡ status.Read)) r
 
-ended_here : (k : Kind) (kinds : List Kind) (first gave : List ℕ) (Does : ℕ → Use → Type 0) (texts : List (List ℕ))
+ended_here : (k : TextKind) (kinds : List TextKind) (first gave : List ℕ)
+    (Does : ℕ → Use → Type 0) (texts : List (List ℕ))
     (r : Reply) → IsNotRead k first gave Does r → EndedBy (k ∷ kinds) first (gave ∷ texts) r
 ended_here k kinds first gave Does texts r (refusal ended line whole by) = inl by
 ended_here k kinds first gave Does texts r (stop ended (for_memory left)) = inl refl
 ended_here k kinds first gave Does texts r (stop ended (at_fault failed)) = inr refl
 
-pub ended_by : (kinds : List Kind) (first : List ℕ) (sources : Sources) (r : Reply)
+pub ended_by : (kinds : List TextKind) (first : List ℕ) (sources : Sources) (r : Reply)
     → AreRead kinds first sources (Some r) → EndedBy kinds first (gaves sources) r
 ended_by [] first sources r read = let e = read.1 in absurd cc
 ended_by (k ∷ kinds) first No r read = absurd read

@@ -6,8 +6,8 @@ use Rattle.rt_ids.specs.declared.status.Status.TheVariants as status
 use Rattle.rt_demo.specs.Demo.{demo}
 use Rattle.rt_outside.specs.Bytes.{Took, TookPrefix}
 use Rattle.rt_top.specs.Words.{Command, Run, Check, Fmt, Build, Audit, Live, Soak, Demo, Deepest, Times, Verify, Pair}
-use Rattle.rt_top.specs.Words.{Names}
-use Rattle.rt_top.specs.Kinds.{Kind, kinds_of, IsRefusedAmong}
+use Rattle.rt_top.specs.Words.{NamesCommand}
+use Rattle.rt_top.specs.Kinds.{TextKind, kinds_of, IsRefusedAmong}
 use Rattle.rt_top.specs.Outputs.{IsFormatted, IsCheckReport, IsListed, IsRun, IsAudited, IsLive, IsSoaked, IsDeepened}
 use Rattle.rt_top.specs.Outputs.{IsTimed}
 use Rattle.rt_top.specs.Verified.{IsVerified}
@@ -24,19 +24,19 @@ abbrev pub inputs : List ℕ → List ℕ → List ℕ → Inputs
 inputs first second third = record { first = first; second = second; third = third }
 
 -- with this status these bytes are the output for texts of their kinds
-abbrev pub Writes : Command → Inputs → Status → List ℕ → Type 0
-Writes Run t ended bytes = (ended ≡ status.Done) × IsRun t.first t.second bytes
-Writes Check t ended bytes = (ended ≡ status.Done) × IsCheckReport t.first bytes
-Writes Fmt t ended bytes = (ended ≡ status.Done) × IsFormatted t.first bytes
-Writes Build t ended bytes = (ended ≡ status.Done) × IsListed t.first bytes
-Writes Audit t ended bytes = IsAudited t.first t.second ended bytes
-Writes Live t ended bytes = (ended ≡ status.Done) × IsLive t.first t.second bytes
-Writes (Soak number count workers) t ended bytes = (ended ≡ status.Done) × IsSoaked t.first number count bytes
-Writes (Demo n) t ended bytes = (ended ≡ status.Done) × (bytes ≡ demo n)
-Writes Deepest t ended bytes = IsDeepened t.first ended bytes
-Writes Times t ended bytes = IsTimed t.first t.second ended bytes
-Writes Verify t ended bytes = IsVerified t.first ended bytes
-Writes Pair t ended bytes = (ended ≡ status.Done) × IsPaired t.first t.second t.third bytes
+abbrev pub IsOutputOf : Command → Inputs → Status → List ℕ → Type 0
+IsOutputOf Run t ended bytes = (ended ≡ status.Done) × IsRun t.first t.second bytes
+IsOutputOf Check t ended bytes = (ended ≡ status.Done) × IsCheckReport t.first bytes
+IsOutputOf Fmt t ended bytes = (ended ≡ status.Done) × IsFormatted t.first bytes
+IsOutputOf Build t ended bytes = (ended ≡ status.Done) × IsListed t.first bytes
+IsOutputOf Audit t ended bytes = IsAudited t.first t.second ended bytes
+IsOutputOf Live t ended bytes = (ended ≡ status.Done) × IsLive t.first t.second bytes
+IsOutputOf (Soak number count workers) t ended bytes = (ended ≡ status.Done) × IsSoaked t.first number count bytes
+IsOutputOf (Demo n) t ended bytes = (ended ≡ status.Done) × (bytes ≡ demo n)
+IsOutputOf Deepest t ended bytes = IsDeepened t.first ended bytes
+IsOutputOf Times t ended bytes = IsTimed t.first t.second ended bytes
+IsOutputOf Verify t ended bytes = IsVerified t.first ended bytes
+IsOutputOf Pair t ended bytes = (ended ≡ status.Done) × IsPaired t.first t.second t.third bytes
 
 -- One of the first texts of the command, so many, is refused with this status and line.
 abbrev pub IsRefusedWithin : ℕ → Command → Inputs → Status → List ℕ → Type 0
@@ -47,7 +47,7 @@ IsRefusedWithin n c t ended line =
 pub data Defined (c : Command) (t : Inputs) : Status → List ℕ → Type 0 where
   refused : (ended : Status) (line : List ℕ)
       → IsRefusedAmong (kinds_of c) t.first (t.first ∷ t.second ∷ t.third ∷ []) ended line → Defined c t ended line
-  output : (ended : Status) (bytes : List ℕ) → Writes c t ended bytes → Defined c t ended bytes
+  output : (ended : Status) (bytes : List ℕ) → IsOutputOf c t ended bytes → Defined c t ended bytes
 
 -- the status is due
 abbrev pub IsDue : Command → Inputs → Status → Type 0
@@ -64,11 +64,11 @@ IsAnswer other = Unit {0}
 -- is refused.
 abbrev pub Skips : ℕ → List (List ℕ) → Inputs → Type 0
 Skips n words t =
-    (c : Command) → Names words c
+    (c : Command) → NamesCommand words c
     → (length (kinds_of c) ≤ n) ⊎ ((ended : Status) × (line : List ℕ) × IsRefusedWithin n c t ended line)
 
 -- The command reads a text of this kind from the source behind so many, and none of its texts before it is refused.
-pub record ComesTo (n : ℕ) (c : Command) (t : Inputs) (kind : Kind) : Type 0 where
+pub record ComesTo (n : ℕ) (c : Command) (t : Inputs) (kind : TextKind) : Type 0 where
   pub reads : slice_get (kinds_of c) n ≡ Some kind
   pub passed : (ended : Status) (line : List ℕ) → IsRefusedWithin n c t ended line → ⊥
 

@@ -23,22 +23,22 @@ use Rattle.rt_top.specs.Refusal.{RefusesText, RefusesApplication, RefusesOther}
 use Rattle.rt_top.specs.SecondRefusal.{RefusesScript, RefusesTrace, RefusesLimits}
 use Rattle.rt_top.specs.Verified.{RefusesListing}
 
-pub data Kind : Type 0 where
+pub data TextKind : Type 0 where
   -- an application that need only be in the grammar and within the limits
-  Tree : Kind
+  Tree : TextKind
   -- one that breaks no rule
-  Application : Kind
+  Application : TextKind
   -- a second one
-  OtherApplication : Kind
+  OtherApplication : TextKind
   -- these are over the names of the first application
-  Script : Kind
-  Trace : Kind
-  Limits : Kind
+  Script : TextKind
+  Trace : TextKind
+  Limits : TextKind
   -- the listing of an image, whatever made it
-  Listing : Kind
+  Listing : TextKind
 
 -- the kinds of the texts that a command reads
-abbrev pub kinds_of : Command → List Kind
+abbrev pub kinds_of : Command → List TextKind
 kinds_of Run = Application ∷ Script ∷ []
 kinds_of Check = Application ∷ []
 kinds_of Fmt = Tree ∷ []
@@ -53,7 +53,7 @@ kinds_of Verify = Listing ∷ []
 kinds_of Pair = Application ∷ OtherApplication ∷ Script ∷ []
 
 -- the most bytes of a text of the kind
-abbrev pub most_bytes : Kind → ℕ
+abbrev pub most_bytes : TextKind → ℕ
 most_bytes Tree = TEXT_BYTES
 most_bytes Application = TEXT_BYTES
 most_bytes OtherApplication = TEXT_BYTES
@@ -63,7 +63,7 @@ most_bytes Limits = SCRIPT_BYTES
 most_bytes Listing = IMAGE_BYTES
 
 -- the text is of the kind; `first` is the first text that the command reads
-abbrev pub IsOfKind : Kind → List ℕ → List ℕ → Type 0
+abbrev pub IsOfKind : TextKind → List ℕ → List ℕ → Type 0
 IsOfKind Tree first text = (a : tree.App) × IsText text a
 IsOfKind Application first text = (app : App) × IsApplication text app
 IsOfKind OtherApplication first text = (app : App) × IsApplication text app
@@ -76,7 +76,7 @@ IsOfKind Limits first text =
 IsOfKind Listing first text = (image : Image) × IsListingText text image
 
 -- the text is none of the kind, and is refused with this status and this line
-abbrev pub IsRefusedBy : Kind → List ℕ → List ℕ → Status → List ℕ → Type 0
+abbrev pub IsRefusedBy : TextKind → List ℕ → List ℕ → Status → List ℕ → Type 0
 IsRefusedBy Tree first text ended line = (ended ≡ status.App) × RefusesText text line
 IsRefusedBy Application first text ended line = (ended ≡ status.App) × RefusesApplication text line
 IsRefusedBy OtherApplication first text ended line = (ended ≡ status.App) × RefusesOther text line
@@ -86,7 +86,7 @@ IsRefusedBy Limits first text ended line = (ended ≡ status.Text) × RefusesLim
 IsRefusedBy Listing first text ended line = (ended ≡ status.Text) × RefusesListing text line
 
 -- one of the texts is refused, each for its kind, and those before it are of theirs
-abbrev pub IsRefusedAmong : List Kind → List ℕ → List (List ℕ) → Status → List ℕ → Type 0
+abbrev pub IsRefusedAmong : List TextKind → List ℕ → List (List ℕ) → Status → List ℕ → Type 0
 IsRefusedAmong [] first texts ended line = ⊥
 IsRefusedAmong (kind ∷ kinds) first [] ended line = ⊥
 IsRefusedAmong (kind ∷ kinds) first (text ∷ texts) ended line =

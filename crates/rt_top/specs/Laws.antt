@@ -3,13 +3,13 @@
 use Rattle.std.specs.Prelude.{◌≡◌, ℕ, List}
 use Rattle.rt_ids.specs.declared.status.Status.{Status}
 use Rattle.rt_top.specs.Words.{Command}
-use Rattle.rt_top.specs.Kinds.{Kind, IsOfKind, IsRefusedBy}
+use Rattle.rt_top.specs.Kinds.{TextKind, IsOfKind, IsRefusedBy}
 use Rattle.rt_top.specs.Defined.{Inputs, IsDue}
 
 -- no text that is of a kind is refused
 abbrev pub OneOfEachKind : Type 0
 OneOfEachKind =
-    (kind : Kind) (first text : List ℕ) (ended : Status) (line : List ℕ) → IsOfKind kind first text
+    (kind : TextKind) (first text : List ℕ) (ended : Status) (line : List ℕ) → IsOfKind kind first text
     → IsRefusedBy kind first text ended line → ⊥
 
 -- no two statuses are due

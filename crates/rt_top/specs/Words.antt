@@ -34,25 +34,25 @@ pub record IsNumber (least most : ℕ) (word : List ℕ) (n : ℕ) : Type 0 wher
   pub within : n ≤ most
 
 -- the words name this command
-abbrev pub Names : List (List ℕ) → Command → Type 0
-Names words Run = (app script : List ℕ) × (words ≡ codes "run" ∷ app ∷ script ∷ [])
-Names words Check = (app : List ℕ) × (words ≡ codes "check" ∷ app ∷ [])
-Names words Fmt = (app : List ℕ) × (words ≡ codes "fmt" ∷ app ∷ [])
-Names words Build = (app : List ℕ) × (words ≡ codes "build" ∷ app ∷ [])
-Names words Audit = (app trace : List ℕ) × (words ≡ codes "audit" ∷ app ∷ trace ∷ [])
-Names words Live = (app script : List ℕ) × (words ≡ codes "live" ∷ app ∷ script ∷ [])
-Names words (Soak number count workers) =
+abbrev pub NamesCommand : List (List ℕ) → Command → Type 0
+NamesCommand words Run = (app script : List ℕ) × (words ≡ codes "run" ∷ app ∷ script ∷ [])
+NamesCommand words Check = (app : List ℕ) × (words ≡ codes "check" ∷ app ∷ [])
+NamesCommand words Fmt = (app : List ℕ) × (words ≡ codes "fmt" ∷ app ∷ [])
+NamesCommand words Build = (app : List ℕ) × (words ≡ codes "build" ∷ app ∷ [])
+NamesCommand words Audit = (app trace : List ℕ) × (words ≡ codes "audit" ∷ app ∷ trace ∷ [])
+NamesCommand words Live = (app script : List ℕ) × (words ≡ codes "live" ∷ app ∷ script ∷ [])
+NamesCommand words (Soak number count workers) =
     (app a b c : List ℕ) × (words ≡ codes "soak" ∷ app ∷ a ∷ b ∷ c ∷ []) × IsNumber 0 (2 ^ 64 - 1) a number
     × IsNumber 1 10000 b count × IsNumber 1 64 c workers
-Names words (Demo n) = (word : List ℕ) × (words ≡ codes "demo" ∷ word ∷ []) × IsNumber 1 48 word n
-Names words Deepest = (app : List ℕ) × (words ≡ codes "deepest" ∷ app ∷ [])
-Names words Times = (app limits : List ℕ) × (words ≡ codes "times" ∷ app ∷ limits ∷ [])
-Names words Verify = (image : List ℕ) × (words ≡ codes "verify" ∷ image ∷ [])
-Names words Pair = (first second script : List ℕ) × (words ≡ codes "pair" ∷ first ∷ second ∷ script ∷ [])
+NamesCommand words (Demo n) = (word : List ℕ) × (words ≡ codes "demo" ∷ word ∷ []) × IsNumber 1 48 word n
+NamesCommand words Deepest = (app : List ℕ) × (words ≡ codes "deepest" ∷ app ∷ [])
+NamesCommand words Times = (app limits : List ℕ) × (words ≡ codes "times" ∷ app ∷ limits ∷ [])
+NamesCommand words Verify = (image : List ℕ) × (words ≡ codes "verify" ∷ image ∷ [])
+NamesCommand words Pair = (first second script : List ℕ) × (words ≡ codes "pair" ∷ first ∷ second ∷ script ∷ [])
 
 -- the words name a command
 abbrev pub IsCommand : List (List ℕ) → Type 0
-IsCommand words = (c : Command) × Names words c
+IsCommand words = (c : Command) × NamesCommand words c
 
 -- the line for all other words
 abbrev pub usage_line : List ℕ

@@ -9,7 +9,7 @@ ghost use Rattle.rt_app.specs.Tree as tree;
 ghost use Rattle.rt_app.specs.View.{app_of};
 ghost use Rattle.rt_baker_moves.specs.Machine.{IsMachine};
 ghost use Rattle.rt_trace.specs.Reading.{IsTraceRefused};
-ghost use Rattle.rt_top.specs.Inside.Auditor.{Goes, Stands, HasAudited, IsJudgedText};
+ghost use Rattle.rt_top.specs.Inside.Auditor.{IsJudgedSoFar, AuditStands, HasAudited, IsJudgedText};
 
 use rt_baker::{Judge, Verdict};
 use rt_baker_moves::Machine;
@@ -100,11 +100,11 @@ fn audit_line<'a>(
 ) -> Result<Option<TraceRefused>, NoMemory>
     requires follows { IsMachine machine.now }
     requires goes { (ls : List (List ℕ)) × (suc (length ls) ≡ number)
-        × Goes (app_of machine.now.code.now.app.now) names.now ls reader.old judge.old }
+        × IsJudgedSoFar (app_of machine.now.code.now.app.now) names.now ls reader.old judge.old }
     ensures { let app = app_of machine.now.code.now.app.now in
         IfOk result (λ refused. (ls : List (List ℕ)) → suc (length ls) ≡ number
-        → Goes app names.now ls reader.old judge.old
-        → Stands app names.now (ls ++ line.now ∷ []) reader.new judge.new refused) }
+        → IsJudgedSoFar app names.now ls reader.old judge.old
+        → AuditStands app names.now (ls ++ line.now ∷ []) reader.new judge.new refused) }
 {
     match reader.take(names, number, line) {
         Ok(None) => Ok(None),

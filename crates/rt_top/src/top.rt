@@ -3,8 +3,8 @@
 ghost use Rattle.std.specs.Prelude.{◌≡◌, ◌≤◌, ◌⊎◌, [], length};
 ghost use Rattle.rt_outside.specs.Faults.{Rose};
 ghost use Rattle.rt_outside.specs.Bytes.{Took};
-ghost use Rattle.rt_top.specs.Words.{Command, texts, Names, IsCommand, usage_line};
-ghost use Rattle.rt_top.specs.Kinds.{Kind, kinds_of, most_bytes};
+ghost use Rattle.rt_top.specs.Words.{Command, texts, NamesCommand, IsCommand, usage_line};
+ghost use Rattle.rt_top.specs.Kinds.{TextKind, kinds_of, most_bytes};
 ghost use Rattle.rt_top.specs.Defined.{inputs, IsDue, IsAnswer, Skips, ComesTo, WroteAll, WrotePart};
 ghost use Rattle.rt_top.specs.Ends.{Wrote, IsKept};
 ghost use Rattle.rt_top.specs.Reads.{given_by, IsReadWithin};
@@ -43,13 +43,13 @@ pub fn rtic<R: Threads + Sync, A: Source, B: Source, C: Source, K: Sink + Send, 
     // With an answer all that is defined for the texts that were given was written, and nothing else. What is defined
     // is in specs/Outputs.antt, Verified.antt and Paired.antt: of an image that it is good (`Good` of `rt_sim`), so for
     // every list of events a run of Baker's machine within its bounds. docs/VERIFICATION.md tells it in words.
-    ensures answered { (c : Command) → Names (texts words.now) c → IsAnswer result →
+    ensures answered { (c : Command) → NamesCommand (texts words.now) c → IsAnswer result →
         let t = inputs (given_by A.past app.old app.new) (given_by B.past second.old second.new)
         (given_by C.past third.old third.new) in
         WroteAll c t result (K.taken out.old) (K.taken out.new) }
 
     // Where nothing failed, the status is the one that is due, or memory was wanted.
-    ensures complete { (c : Command) (due : Status) → Names (texts words.now) c →
+    ensures complete { (c : Command) (due : Status) → NamesCommand (texts words.now) c →
         let t = inputs (given_by A.past app.old app.new) (given_by B.past second.old second.new)
         (given_by C.past third.old third.new) in
         IsDue c t due →
@@ -76,21 +76,21 @@ pub fn rtic<R: Threads + Sync, A: Source, B: Source, C: Source, K: Sink + Send, 
 
     // With an answer each source that the command comes to was read to its end, or up to one byte more than its text
     // may have.
-    ensures first_read { (c : Command) (kind : Kind) → Names (texts words.now) c →
+    ensures first_read { (c : Command) (kind : TextKind) → NamesCommand (texts words.now) c →
         let t = inputs (given_by A.past app.old app.new) (given_by B.past second.old second.new)
         (given_by C.past third.old third.new) in
         ComesTo 0 c t kind → IsAnswer result → IsReadWithin (most_bytes kind) A.past A.left app.old app.new }
-    ensures second_read { (c : Command) (kind : Kind) → Names (texts words.now) c →
+    ensures second_read { (c : Command) (kind : TextKind) → NamesCommand (texts words.now) c →
         let t = inputs (given_by A.past app.old app.new) (given_by B.past second.old second.new)
         (given_by C.past third.old third.new) in
         ComesTo 1 c t kind → IsAnswer result → IsReadWithin (most_bytes kind) B.past B.left second.old second.new }
-    ensures third_read { (c : Command) (kind : Kind) → Names (texts words.now) c →
+    ensures third_read { (c : Command) (kind : TextKind) → NamesCommand (texts words.now) c →
         let t = inputs (given_by A.past app.old app.new) (given_by B.past second.old second.new)
         (given_by C.past third.old third.new) in
         ComesTo 2 c t kind → IsAnswer result → IsReadWithin (most_bytes kind) C.past C.left third.old third.new }
 
     // A source that the command reads failed, and then no source after it was read and nothing was written.
-    ensures read { result ≡ Status.Read → (c : Command) × Names (texts words.now) c
+    ensures read { result ≡ Status.Read → (c : Command) × NamesCommand (texts words.now) c
         × (((1 ≤ length (kinds_of c)) × Rose (A.faults app.old) (A.faults app.new)
         × IsKept B.past B.left B.faults second.old second.new × IsKept C.past C.left C.faults third.old third.new)
         ⊎ ((2 ≤ length (kinds_of c)) × Rose (B.faults second.old) (B.faults second.new)
@@ -106,7 +106,7 @@ pub fn rtic<R: Threads + Sync, A: Source, B: Source, C: Source, K: Sink + Send, 
 
     // The sink failed, having taken a beginning of what is defined.
     ensures write { result ≡ Status.Write → Rose (K.faults out.old) (K.faults out.new) }
-    ensures part { (c : Command) → Names (texts words.now) c → result ≡ Status.Write →
+    ensures part { (c : Command) → NamesCommand (texts words.now) c → result ≡ Status.Write →
         let t = inputs (given_by A.past app.old app.new) (given_by B.past second.old second.new)
         (given_by C.past third.old third.new) in
         WrotePart c t (K.taken out.old) (K.taken out.new) }

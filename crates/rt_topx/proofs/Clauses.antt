@@ -8,8 +8,8 @@ use Rattle.rt_top.specs.declared.reply.Reply.{Reply}
 use Rattle.rt_top.specs.declared.reply.Reply.TheVariants as reply
 use Rattle.rt_top.proofs.Using.{Did, behind}
 use Rattle.rt_topx.specs.declared.command.Command.{Command}
-use Rattle.rt_topx.specs.Words.{Names}
-use Rattle.rt_topx.specs.Kinds.{Kind, kinds_of}
+use Rattle.rt_topx.specs.Words.{NamesCommand}
+use Rattle.rt_topx.specs.Kinds.{TextKind, kinds_of}
 use Rattle.rt_topx.specs.Inside.Decides.{Conducts}
 use Rattle.rt_topx.specs.Inside.Using.{AreRead}
 use Rattle.rt_topx.proofs.CommandWords.{one_command}
@@ -17,14 +17,14 @@ use Rattle.rt_topx.proofs.Using.{failed_at}
 
 -- the words name one command, so this is the one that was conducted
 pub conducted : {t : Inputs} {sources : Sources} {before after : List ℕ} {fb fa : ℕ} {result : Status}
-    (words : List (List ℕ)) (c : Command) → Names words c
-    → Conducts c (kinds_of c) t sources before after fb fa result → (e : Command) → Names words e
+    (words : List (List ℕ)) (c : Command) → NamesCommand words c
+    → Conducts c (kinds_of c) t sources before after fb fa result → (e : Command) → NamesCommand words e
     → Conducts e (kinds_of e) t sources before after fb fa result
 conducted {t} {sources} {before} {after} {fb} {fa} {result} words c named k e named_so =
     subst (λ x. Conducts x (kinds_of x) t sources before after fb fa result) (one_command words c e named named_so) k
 
 -- of three sources one failed, and those behind it were not come to
-module _ (kinds : List Kind) (t : Inputs) (a b d : List ℕ) (DA DB DD : ℕ → Use → Type 0) (end : Option Reply)
+module _ (kinds : List TextKind) (t : Inputs) (a b d : List ℕ) (DA DB DD : ℕ → Use → Type 0) (end : Option Reply)
     (read : AreRead kinds t (Then a DA (Then b DB (Then d DD No))) end) (is : end ≡ Some (reply.Stop status.Read))
     (FA FB FD : Type 0) (fa : (limit : ℕ) → DA limit Failed → FA) (fb : (limit : ℕ) → DB limit Failed → FB)
     (fd : (limit : ℕ) → DD limit Failed → FD) where

@@ -2,7 +2,7 @@
 use Rattle.std.proofs.Common.{◌≡◌, ℕ, List, [], ◌∷◌, codes, Option, Some, None, Bool, true, false, bytes_eq, ap}
 use Rattle.rt_topx.specs.declared.command.Command.{Command}
 use Rattle.rt_topx.specs.declared.command.Command.TheVariants as command
-use Rattle.rt_topx.specs.Words.{Names}
+use Rattle.rt_topx.specs.Words.{NamesCommand}
 
 -- the command, where the test is true, else that of the other tests
 abbrev when : Bool → Command → Option Command → Option Command
@@ -16,11 +16,11 @@ command_named (verb ∷ words) =
     when (bytes_eq verb (codes "run")) command.Run (when (bytes_eq verb (codes "audit")) command.Audit
     (when (bytes_eq verb (codes "live")) command.Live None))
 
-names_it : (words : List (List ℕ)) (c : Command) → Names words c → command_named words ≡ Some c
+names_it : (words : List (List ℕ)) (c : Command) → NamesCommand words c → command_named words ≡ Some c
 names_it words command.Run named = ap command_named named.3
 names_it words command.Audit named = ap command_named named.3
 names_it words command.Live named = ap command_named named.3
 
 -- words name one command at most
-pub one_command : (words : List (List ℕ)) (c d : Command) → Names words c → Names words d → c ≡ d
+pub one_command : (words : List (List ℕ)) (c d : Command) → NamesCommand words c → NamesCommand words d → c ≡ d
 one_command words c d named other = let e = names_it words c named in let f = names_it words d other in cc

@@ -16,9 +16,9 @@ use Rattle.rt_top.specs.declared.reply.Reply.{Reply}
 use Rattle.rt_top.specs.declared.reply.Reply.TheVariants as reply
 use Rattle.rt_topx.specs.declared.command.Command.{Command}
 use Rattle.rt_topx.specs.declared.command.Command.TheVariants as command
-use Rattle.rt_topx.specs.Kinds.{Kind, kinds_of, most_bytes, IsOfKind, IsRefusedBy}
+use Rattle.rt_topx.specs.Kinds.{TextKind, kinds_of, most_bytes, IsOfKind, IsRefusedBy}
 use Rattle.rt_topx.specs.Kinds as kind
-use Rattle.rt_topx.specs.Defined.{Writes}
+use Rattle.rt_topx.specs.Defined.{IsOutputOf}
 use Rattle.rt_topx.specs.Inside.Decides.{AnswersOne, ConductsOne, EndsBy, Conducts}
 use Rattle.rt_topx.specs.Inside.Using.{IsNotRead, refusal, stop}
 use Rattle.rt_topx.specs.Refusal.{RefusesBeside}
@@ -30,7 +30,7 @@ not_application t gave Does r (first_using.refusal ended line whole is) = refusa
 not_application t gave Does r (first_using.stop ended stops) = stop ended stops
 
 -- a text of the kind was read, and is refused
-pub refusal_reads : (k : Kind) (t : Inputs) (gave : List ℕ) (Does : ℕ → Use → Type 0) → Does (most_bytes k) Whole
+pub refusal_reads : (k : TextKind) (t : Inputs) (gave : List ℕ) (Does : ℕ → Use → Type 0) → Does (most_bytes k) Whole
     → Does (most_bytes k) Left → (told : Status) (P : List ℕ → Type 0)
     → ((line : List ℕ) → P line → IsRefusedBy k t gave told line) → (r : Reply) → Tells told P r
     → IsNotRead k t gave Does r
@@ -54,16 +54,16 @@ refused_beside app is board of_board r refused says = record {
   says = says;
 }
 
-module _ {c : Command} {k : Kind} {t : Inputs} {gave : List ℕ} {Does : ℕ → Use → Type 0} {more : Sources}
+module _ {c : Command} {k : TextKind} {t : Inputs} {gave : List ℕ} {Does : ℕ → Use → Type 0} {more : Sources}
     {before after : List ℕ} {fb fa : ℕ} {result : Status} where
   -- the texts behind one that was read
-  pub conducts_behind : {kinds : List Kind} → Does (most_bytes k) Whole → IsOfKind k t gave
+  pub conducts_behind : {kinds : List TextKind} → Does (most_bytes k) Whole → IsOfKind k t gave
       → Conducts c kinds t more before after fb fa result
       → Conducts c (k ∷ kinds) t (Then gave Does more) before after fb fa result
   conducts_behind whole is h = record { end = h.end; read = inl (whole, is, h.read); ends = h.ends; heard = h.heard }
 
   -- a text that was not read, and the reply to it
-  pub refused_conducts : {kinds : List Kind} {r : Reply} → AreUnread more → IsNotRead k t gave Does r
+  pub refused_conducts : {kinds : List TextKind} {r : Reply} → AreUnread more → IsNotRead k t gave Does r
       → Finishes before after fb fa r result → (fa ≡ fb) ⊎ (result ≡ status.Write)
       → Conducts c (k ∷ kinds) t (Then gave Does more) before after fb fa result
   refused_conducts {r = r} unread is done heard =
@@ -84,7 +84,7 @@ module _ {c : Command} {k : Kind} {t : Inputs} {gave : List ℕ} {Does : ℕ →
   one_answers {r = r} unread (inl (whole, is, replies)) done heard =
       record { end = None; read = inl (whole, is, (unread, refl)); ends = ends r replies done; heard = heard }
     where
-      ends : (r : Reply) → Replies (Writes c t) r → Finishes before after fb fa r result
+      ends : (r : Reply) → Replies (IsOutputOf c t) r → Finishes before after fb fa r result
           → EndsBy c t None before after fb fa result
       ends (reply.Write ended text) w wrote = inl (ended, text.items, w, wrote)
       ends (reply.Stop ended) is (told, none) = inr (told ∙ is, none)

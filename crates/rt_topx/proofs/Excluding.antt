@@ -28,11 +28,11 @@ use Rattle.rt_top.proofs.Excluding.{application_passes, application_only, IsRepl
 use Rattle.rt_top.proofs.Excluding.{SaysWhether, whether_once}
 use Rattle.rt_topx.specs.declared.command.Command.{Command}
 use Rattle.rt_topx.specs.declared.command.Command.TheVariants as command
-use Rattle.rt_topx.specs.Kinds.{Kind, kinds_of, IsOfKind, IsRefusedBy, IsRefusedAmong}
+use Rattle.rt_topx.specs.Kinds.{TextKind, kinds_of, IsOfKind, IsRefusedBy, IsRefusedAmong}
 use Rattle.rt_topx.specs.Kinds as kind
 use Rattle.rt_topx.specs.Refusal.{RefusesBoard, RefusesBeside, SaysBoard, SaysScript, SaysTrace}
 use Rattle.rt_topx.specs.Outputs.{IsAudited, Says}
-use Rattle.rt_topx.specs.Defined.{Writes, Defined, refused, output}
+use Rattle.rt_topx.specs.Defined.{IsOutputOf, Defined, refused, output}
 
 -- What is read is refused by no line.
 
@@ -95,7 +95,7 @@ beside_passes IsOf IsRefused Says excludes text beside more line app is b of_boa
     (subst (λ c. IsOf r.app c more s) one (subst (λ a. IsOf a b more s) same read)) r.refused r.says
 
 -- A text is of its kind or is refused, not both.
-pub one_of_each : (k : Kind) (t : Inputs) (text : List ℕ) (ended : Status) (line : List ℕ) → IsOfKind k t text
+pub one_of_each : (k : TextKind) (t : Inputs) (text : List ℕ) (ended : Status) (line : List ℕ) → IsOfKind k t text
     → IsRefusedBy k t text ended line → ⊥
 one_of_each kind.Application t text ended line (app, is) (told, r) = application_passes text line app is r
 one_of_each kind.Board t text ended line (app, is, b, read) (told, r) =
@@ -131,7 +131,7 @@ audited_so text beside more a b x y one other =
     (judged_so other.app other.board other.told other.verdict b y other.is other.says))))
 
 -- a refusal has the status of its kind
-one_refusal : (k : Kind) (t : Inputs) (text : List ℕ) (a b : Status) (x y : List ℕ) → IsRefusedBy k t text a x
+one_refusal : (k : TextKind) (t : Inputs) (text : List ℕ) (a b : Status) (x y : List ℕ) → IsRefusedBy k t text a x
     → IsRefusedBy k t text b y → AreDue a b
 one_refusal kind.Application t text a b x y r s = due_as status.App a b tt r.0 s.0
 one_refusal kind.Board t text a b x y r s = due_as status.Text a b tt r.0 s.0
@@ -139,13 +139,13 @@ one_refusal kind.Script t text a b x y r s = due_as status.Text a b tt r.0 s.0
 one_refusal kind.Trace t text a b x y r s = due_as status.Text a b tt r.0 s.0
 
 -- each text is of its kind
-abbrev AreOfKinds : List Kind → Inputs → List (List ℕ) → Type 0
+abbrev AreOfKinds : List TextKind → Inputs → List (List ℕ) → Type 0
 AreOfKinds [] t texts = Unit {0}
 AreOfKinds (k ∷ kinds) t [] = ⊥
 AreOfKinds (k ∷ kinds) t (text ∷ texts) = IsOfKind k t text × AreOfKinds kinds t texts
 
 -- then none is refused
-none_refused : (kinds : List Kind) (t : Inputs) (texts : List (List ℕ)) (ended : Status) (line : List ℕ)
+none_refused : (kinds : List TextKind) (t : Inputs) (texts : List (List ℕ)) (ended : Status) (line : List ℕ)
     → AreOfKinds kinds t texts → IsRefusedAmong kinds t texts ended line → ⊥
 none_refused [] t texts ended line are r = r
 none_refused (k ∷ kinds) t [] ended line are r = r
@@ -153,7 +153,7 @@ none_refused (k ∷ kinds) t (text ∷ texts) ended line are (inl r) = one_of_ea
 none_refused (k ∷ kinds) t (text ∷ texts) ended line are (inr r) = none_refused kinds t texts ended line are.1 r.1
 
 -- and the first that is has one status
-one_among : (kinds : List Kind) (t : Inputs) (texts : List (List ℕ)) (a b : Status) (x y : List ℕ)
+one_among : (kinds : List TextKind) (t : Inputs) (texts : List (List ℕ)) (a b : Status) (x y : List ℕ)
     → IsRefusedAmong kinds t texts a x → IsRefusedAmong kinds t texts b y → AreDue a b
 one_among [] t texts a b x y r s = absurd r
 one_among (k ∷ kinds) t [] a b x y r s = absurd r
@@ -163,7 +163,7 @@ one_among (k ∷ kinds) t (text ∷ texts) a b x y (inr r) (inl s) = absurd (one
 one_among (k ∷ kinds) t (text ∷ texts) a b x y (inr r) (inr s) = one_among kinds t texts a b x y r.1 s.1
 
 -- where there is an output each text is of its kind
-all_read : (c : Command) (t : Inputs) (ended : Status) (bytes : List ℕ) → Writes c t ended bytes
+all_read : (c : Command) (t : Inputs) (ended : Status) (bytes : List ℕ) → IsOutputOf c t ended bytes
     → AreOfKinds (kinds_of c) t (t.first ∷ t.second ∷ t.third ∷ [])
 all_read command.Run t ended bytes (is, w) = (
   (w.app, w.is.of_text),
@@ -178,7 +178,8 @@ all_read command.Live t ended bytes (is, w) = (
   ((w.app, w.is.of_text, w.board, w.of_board), ((w.app, w.is.of_text, w.board, w.of_board, w.script, w.read), tt)),
 )
 
-one_output : (c : Command) (t : Inputs) (a b : Status) (x y : List ℕ) → Writes c t a x → Writes c t b y → AreDue a b
+one_output : (c : Command) (t : Inputs) (a b : Status) (x y : List ℕ) → IsOutputOf c t a x → IsOutputOf c t b y
+    → AreDue a b
 one_output command.Run t a b x y w v = due_as status.Done a b tt w.0 v.0
 one_output command.Audit t a b x y w v = audited_so t.first t.second t.third a b x y w v
 one_output command.Live t a b x y w v = due_as status.Done a b tt w.0 v.0

@@ -33,7 +33,7 @@ use Rattle.rt_inputs.proofs.Free.{runs_with_inputs_are_good}
 use Rattle.rt_inputs.proofs.Moved.{events_come, steps_shown}
 use Rattle.rt_live.specs.Interleaving.{arrivals_from, look_arrivals}
 use Rattle.rt_live_inputs.specs.Boxes.{boxes, plain}
-use Rattle.rt_live_inputs.specs.Looking.{Found, Turn, Happens, Looks, box_happenings, happenings_of, line_turns}
+use Rattle.rt_live_inputs.specs.Looking.{Found, InputTurn, Happens, Looks, box_happenings, happenings_of, line_turns}
 use Rattle.rt_live_inputs.specs.Looking.{look_happenings, own_steps, step_turns, turns}
 use Rattle.rt_live_inputs.specs.Output.{IsLiveText, happened}
 use Rattle.rt_live_inputs.specs.declared.boxes.BoxKind.{BoxKind as Box}
@@ -41,7 +41,7 @@ use Rattle.rt_live_inputs.proofs.Good.{live_runs_are_good}
 use Rattle.rt_top.specs.Defined.{Inputs}
 use Rattle.rt_top.specs.Outputs.{IsGoodOf}
 use Rattle.rt_topx.specs.declared.command.Command.TheVariants as command
-use Rattle.rt_topx.specs.Defined.{Writes}
+use Rattle.rt_topx.specs.Defined.{IsOutputOf}
 use Rattle.rt_topx.specs.Inside.Started.{ShowsLive}
 use Rattle.rt_topx.proofs.Scripted.{count_line, scripted}
 
@@ -80,7 +80,7 @@ arms_few n (Stepped (Some w) ∷ ls) =
     either false = omega arith
 
 -- how many of what is done by turns are ticks or core steps
-abbrev turns_timed : List Turn → ℕ
+abbrev turns_timed : List InputTurn → ℕ
 turns_timed [] = zero
 turns_timed (Looks ∷ ts) = turns_timed ts
 turns_timed (Happens (Gives local word) ∷ ts) = turns_timed ts
@@ -88,7 +88,7 @@ turns_timed (Happens (Comes (Arrive irq)) ∷ ts) = turns_timed ts
 turns_timed (Happens (Comes Tick) ∷ ts) = suc (turns_timed ts)
 turns_timed (Happens (Comes Step) ∷ ts) = suc (turns_timed ts)
 
-turns_append : (ts us : List Turn) → turns_timed (ts ++ us) ≡ turns_timed ts + turns_timed us
+turns_append : (ts us : List InputTurn) → turns_timed (ts ++ us) ≡ turns_timed ts + turns_timed us
 turns_append [] us = omega arith
 turns_append (Looks ∷ ts) us = turns_append ts us
 turns_append (Happens (Gives local word) ∷ ts) us = turns_append ts us
@@ -115,7 +115,7 @@ look_untimed bs one more =
     ap (λ h. timed (events_of h)) (append_assoc (map Comes (look_arrivals one.row)) waited more)
     ∙ row_untimed (arrivals_from 0 one.row) (waited ++ more) ∙ boxes_untimed (zip bs one.waited) more
 
-happens_timed : (bs : List Box) (ts : List Turn) (found : List Found)
+happens_timed : (bs : List Box) (ts : List InputTurn) (found : List Found)
     → timed (events_of (happenings_of bs ts found)) ≤ turns_timed ts
 happens_timed bs [] found = omega arith
 happens_timed bs (Happens (Gives local word) ∷ ts) found = happens_timed bs ts found
@@ -211,7 +211,7 @@ own_few (given.Gives local word ∷ s) = omega (arith, count_more (given.Gives l
 
 all_timed : (s : List GivenLine) (found : List Found) → timed (events_of (happened s found)) ≤ 2 * count (asked s)
 all_timed s found =
-    let more : List Turn = flat_map (λ t. t) (replicate (own_steps s) step_turns) in
+    let more : List InputTurn = flat_map (λ t. t) (replicate (own_steps s) step_turns) in
     omega (
       arith,
       happens_timed (boxes s) (turns s) found,
@@ -242,7 +242,7 @@ module _ (app : App) (image : Image) (good : IsGoodOf app image) (board : Board)
 pub lived : (t : Inputs) (app : App) → IsApplication t.first app → (board : Board) → IsBoardOf app t.second board
     → AreInputs app board.inputs → (image : Image) → IsGoodOf app image → (s : List GivenLine)
     → IsGivenText (names_of app) app board t.third s → (ended : Status) (bytes : List ℕ)
-    → ShowsLive app image board s ended bytes → Writes command.Live t ended bytes
+    → ShowsLive app image board s ended bytes → IsOutputOf command.Live t ended bytes
 lived t app of_text board of_board inputs image good s read ended bytes (is, numbers, shown, live, written) = (
   is,
   record {

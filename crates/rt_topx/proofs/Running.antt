@@ -21,7 +21,7 @@ use Rattle.rt_script.specs.Script.{HasNames}
 use Rattle.rt_top.specs.Defined.{Inputs}
 use Rattle.rt_top.specs.Outputs.{IsGoodOf}
 use Rattle.rt_topx.specs.declared.command.Command.TheVariants as command
-use Rattle.rt_topx.specs.Defined.{Writes}
+use Rattle.rt_topx.specs.Defined.{IsOutputOf}
 use Rattle.rt_topx.specs.Inside.Started.{ShowsRun}
 use Rattle.rt_topx.proofs.Scripted.{scripted}
 
@@ -37,7 +37,7 @@ shown app image good board inputs text script read =
 pub ran : (t : Inputs) (app : App) → IsApplication t.first app → (board : Board) → IsBoardOf app t.second board
     → AreInputs app board.inputs → (image : Image) → IsGoodOf app image → (script : List GivenLine)
     → IsGivenText (names_of app) app board t.third script → (ended : Status) (bytes : List ℕ)
-    → ShowsRun app image board script ended bytes → Writes command.Run t ended bytes
+    → ShowsRun app image board script ended bytes → IsOutputOf command.Run t ended bytes
 ran t app of_text board of_board inputs image good script read ended bytes (is, numbers, written) = (
   is,
   record {

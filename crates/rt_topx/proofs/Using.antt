@@ -9,12 +9,12 @@ use Rattle.rt_top.specs.Inside.Using.{for_memory, at_fault}
 use Rattle.rt_top.specs.declared.reply.Reply.{Reply}
 use Rattle.rt_top.specs.declared.reply.Reply.TheVariants as reply
 use Rattle.rt_top.proofs.Using.{gaves, count, behind, Did, unread_behind, did_unread}
-use Rattle.rt_topx.specs.Kinds.{Kind, most_bytes, IsRefusedAmong}
+use Rattle.rt_topx.specs.Kinds.{TextKind, most_bytes, IsRefusedAmong}
 use Rattle.rt_topx.specs.Inside.Using.{AreRead, IsNotRead, refusal, stop}
 use Rattle.rt_topx.proofs.Excluding.{one_of_each}
 
 -- the sources that a command does not come to
-pub skipped : (n : ℕ) (kinds : List Kind) (t : Inputs) (sources : Sources) (end : Option Reply)
+pub skipped : (n : ℕ) (kinds : List TextKind) (t : Inputs) (sources : Sources) (end : Option Reply)
     → AreRead kinds t sources end
     → (length kinds ≤ n)
     ⊎ ((ended : Status) × (line : List ℕ) × IsRefusedAmong (take n kinds) t (gaves sources) ended line)
@@ -33,7 +33,7 @@ skipped (suc n) (k ∷ kinds) t (Then gave Does more) end (inr (r, is, none, unr
     unread_behind n more unread
 
 -- the sources that it comes to, where the program does not stop
-pub read_whole : (n : ℕ) (kinds : List Kind) (t : Inputs) (sources : Sources) (end : Option Reply) (k : Kind)
+pub read_whole : (n : ℕ) (kinds : List TextKind) (t : Inputs) (sources : Sources) (end : Option Reply) (k : TextKind)
     → AreRead kinds t sources end → slice_get kinds n ≡ Some k
     → ((ended : Status) (line : List ℕ) → IsRefusedAmong (take n kinds) t (gaves sources) ended line → ⊥)
     → ((ended : Status) → end ≡ Some (reply.Stop ended) → ⊥) → Did n sources (most_bytes k) Whole
@@ -51,7 +51,7 @@ read_whole (suc n) (j ∷ kinds) t (Then gave Does more) end k (inr (r, ends, re
     is passed alive = absurd (passed ended line.items (inl by))
 
 -- what was done with a source; only one that failed stops the program so
-pub did : (n : ℕ) (kinds : List Kind) (t : Inputs) (sources : Sources) (end : Option Reply)
+pub did : (n : ℕ) (kinds : List TextKind) (t : Inputs) (sources : Sources) (end : Option Reply)
     → AreRead kinds t sources end
     → (limit : ℕ) × (how : Use) × Did n sources limit how × (how ≡ Failed → end ≡ Some (reply.Stop status.Read))
 did n [] t sources end read = (0, Unread, did_unread n sources read.0, λ e. absurd cc)
@@ -69,7 +69,7 @@ did (suc n) (k ∷ kinds) t (Then gave Does more) end (inr (r, is, none, unread)
     (0, Unread, did_unread n more unread, λ e. absurd cc)
 
 -- where a source failed, it is one that the command has a text in, and none behind it was come to
-pub failed_at : (kinds : List Kind) (t : Inputs) (sources : Sources) (end : Option Reply)
+pub failed_at : (kinds : List TextKind) (t : Inputs) (sources : Sources) (end : Option Reply)
     → AreRead kinds t sources end → end ≡ Some (reply.Stop status.Read)
     → (n limit : ℕ) × (n < length kinds) × (n < count sources) × Did n sources limit Failed
     × AreUnread (behind (suc n) sources)
@@ -86,17 +86,18 @@ failed_at (k ∷ kinds) t (Then gave Does more) end (inr (r, ends, stop ended (f
     absurd cc
 
 -- a reply in place of an output: a text is refused, and those before it are not, or the program stops
-abbrev pub EndedBy : List Kind → Inputs → List (List ℕ) → Reply → Type 0
+abbrev pub EndedBy : List TextKind → Inputs → List (List ℕ) → Reply → Type 0
 EndedBy kinds t texts (reply.Write ended line) = IsRefusedAmong kinds t texts ended line.items
 EndedBy kinds t texts (reply.Stop ended) = (ended ≡ status.Memory) ⊎ (ended ≡ status.Read)
 
-ended_here : (k : Kind) (kinds : List Kind) (t : Inputs) (gave : List ℕ) (Does : ℕ → Use → Type 0) (texts : List (List ℕ))
+ended_here : (k : TextKind) (kinds : List TextKind) (t : Inputs) (gave : List ℕ)
+    (Does : ℕ → Use → Type 0) (texts : List (List ℕ))
     (r : Reply) → IsNotRead k t gave Does r → EndedBy (k ∷ kinds) t (gave ∷ texts) r
 ended_here k kinds t gave Does texts r (refusal ended line whole by) = inl by
 ended_here k kinds t gave Does texts r (stop ended (for_memory left)) = inl refl
 ended_here k kinds t gave Does texts r (stop ended (at_fault failed)) = inr refl
 
-pub ended_by : (kinds : List Kind) (t : Inputs) (sources : Sources) (r : Reply)
+pub ended_by : (kinds : List TextKind) (t : Inputs) (sources : Sources) (r : Reply)
     → AreRead kinds t sources (Some r) → EndedBy kinds t (gaves sources) r
 ended_by [] t sources r read = let e = read.1 in absurd cc
 ended_by (k ∷ kinds) t No r read = absurd read

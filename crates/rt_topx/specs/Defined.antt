@@ -7,15 +7,15 @@ use Rattle.rt_outside.specs.Bytes.{Took, TookPrefix}
 use Rattle.rt_top.specs.Defined.{Inputs}
 use Rattle.rt_topx.specs.declared.command.Command.{Command}
 use Rattle.rt_topx.specs.declared.command.Command.TheVariants as command
-use Rattle.rt_topx.specs.Words.{Names}
-use Rattle.rt_topx.specs.Kinds.{Kind, kinds_of, IsRefusedAmong}
+use Rattle.rt_topx.specs.Words.{NamesCommand}
+use Rattle.rt_topx.specs.Kinds.{TextKind, kinds_of, IsRefusedAmong}
 use Rattle.rt_topx.specs.Outputs.{IsRun, IsAudited, IsLive}
 
 -- with this status these bytes are the output for texts of their kinds
-abbrev pub Writes : Command → Inputs → Status → List ℕ → Type 0
-Writes command.Run t ended bytes = (ended ≡ status.Done) × IsRun t.first t.second t.third bytes
-Writes command.Audit t ended bytes = IsAudited t.first t.second t.third ended bytes
-Writes command.Live t ended bytes = (ended ≡ status.Done) × IsLive t.first t.second t.third bytes
+abbrev pub IsOutputOf : Command → Inputs → Status → List ℕ → Type 0
+IsOutputOf command.Run t ended bytes = (ended ≡ status.Done) × IsRun t.first t.second t.third bytes
+IsOutputOf command.Audit t ended bytes = IsAudited t.first t.second t.third ended bytes
+IsOutputOf command.Live t ended bytes = (ended ≡ status.Done) × IsLive t.first t.second t.third bytes
 
 -- One of the first texts of the command, so many, is refused with this status and line.
 abbrev pub IsRefusedWithin : ℕ → Command → Inputs → Status → List ℕ → Type 0
@@ -26,7 +26,7 @@ IsRefusedWithin n c t ended line =
 pub data Defined (c : Command) (t : Inputs) : Status → List ℕ → Type 0 where
   refused : (ended : Status) (line : List ℕ)
       → IsRefusedAmong (kinds_of c) t (t.first ∷ t.second ∷ t.third ∷ []) ended line → Defined c t ended line
-  output : (ended : Status) (bytes : List ℕ) → Writes c t ended bytes → Defined c t ended bytes
+  output : (ended : Status) (bytes : List ℕ) → IsOutputOf c t ended bytes → Defined c t ended bytes
 
 -- the status is due
 abbrev pub IsDue : Command → Inputs → Status → Type 0
@@ -36,11 +36,11 @@ IsDue c t ended = (bytes : List ℕ) × Defined c t ended bytes
 -- is refused.
 abbrev pub Skips : ℕ → List (List ℕ) → Inputs → Type 0
 Skips n words t =
-    (c : Command) → Names words c
+    (c : Command) → NamesCommand words c
     → (length (kinds_of c) ≤ n) ⊎ ((ended : Status) × (line : List ℕ) × IsRefusedWithin n c t ended line)
 
 -- The command reads a text of this kind from the source behind so many, and none of its texts before it is refused.
-pub record ComesTo (n : ℕ) (c : Command) (t : Inputs) (kind : Kind) : Type 0 where
+pub record ComesTo (n : ℕ) (c : Command) (t : Inputs) (kind : TextKind) : Type 0 where
   pub reads : slice_get (kinds_of c) n ≡ Some kind
   pub passed : (ended : Status) (line : List ℕ) → IsRefusedWithin n c t ended line → ⊥
 

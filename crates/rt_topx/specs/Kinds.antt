@@ -20,29 +20,29 @@ use Rattle.rt_topx.specs.declared.command.Command.TheVariants as command
 use Rattle.rt_topx.specs.Refusal.{RefusesBoard, RefusesScript, RefusesTrace}
 
 -- what a text is that a command reads
-pub data Kind : Type 0 where
-  Application : Kind
+pub data TextKind : Type 0 where
+  Application : TextKind
   -- of the first application
-  Board : Kind
+  Board : TextKind
   -- these are over the names of the application and the inputs of the board
-  Script : Kind
-  Trace : Kind
+  Script : TextKind
+  Trace : TextKind
 
 -- the kinds of the texts that a command reads
-abbrev pub kinds_of : Command → List Kind
+abbrev pub kinds_of : Command → List TextKind
 kinds_of command.Run = Application ∷ Board ∷ Script ∷ []
 kinds_of command.Audit = Application ∷ Board ∷ Trace ∷ []
 kinds_of command.Live = Application ∷ Board ∷ Script ∷ []
 
 -- the most bytes of a text of the kind
-abbrev pub most_bytes : Kind → ℕ
+abbrev pub most_bytes : TextKind → ℕ
 most_bytes Application = TEXT_BYTES
 most_bytes Board = SCRIPT_BYTES
 most_bytes Script = SCRIPT_BYTES
 most_bytes Trace = TRACE_BYTES
 
 -- the text is of the kind, where these are the texts that the command reads
-abbrev pub IsOfKind : Kind → Inputs → List ℕ → Type 0
+abbrev pub IsOfKind : TextKind → Inputs → List ℕ → Type 0
 IsOfKind Application t text = (app : App) × IsApplication text app
 IsOfKind Board t text = (app : App) × IsApplication t.first app × (board : boards.Board) × IsBoardOf app text board
 IsOfKind Script t text =
@@ -53,14 +53,14 @@ IsOfKind Trace t text =
     × (told : Told) × IsInputsText (names_of app) app board text told
 
 -- the text is none of the kind, and is refused with this status and this line
-abbrev pub IsRefusedBy : Kind → Inputs → List ℕ → Status → List ℕ → Type 0
+abbrev pub IsRefusedBy : TextKind → Inputs → List ℕ → Status → List ℕ → Type 0
 IsRefusedBy Application t text ended line = (ended ≡ status.App) × RefusesApplication text line
 IsRefusedBy Board t text ended line = (ended ≡ status.Text) × RefusesBoard t.first text line
 IsRefusedBy Script t text ended line = (ended ≡ status.Text) × RefusesScript t.first t.second text line
 IsRefusedBy Trace t text ended line = (ended ≡ status.Text) × RefusesTrace t.first t.second text line
 
 -- one of the texts is refused, each for its kind, and those before it are of theirs
-abbrev pub IsRefusedAmong : List Kind → Inputs → List (List ℕ) → Status → List ℕ → Type 0
+abbrev pub IsRefusedAmong : List TextKind → Inputs → List (List ℕ) → Status → List ℕ → Type 0
 IsRefusedAmong [] t texts ended line = ⊥
 IsRefusedAmong (kind ∷ kinds) t [] ended line = ⊥
 IsRefusedAmong (kind ∷ kinds) t (text ∷ texts) ended line =

@@ -4,13 +4,13 @@ use Rattle.std.specs.Prelude.{◌≡◌, ℕ, List}
 use Rattle.rt_ids.specs.declared.status.Status.{Status}
 use Rattle.rt_top.specs.Defined.{Inputs}
 use Rattle.rt_topx.specs.declared.command.Command.{Command}
-use Rattle.rt_topx.specs.Kinds.{Kind, IsOfKind, IsRefusedBy}
+use Rattle.rt_topx.specs.Kinds.{TextKind, IsOfKind, IsRefusedBy}
 use Rattle.rt_topx.specs.Defined.{IsDue}
 
 -- no text that is of a kind is refused
 abbrev pub OneOfEachKind : Type 0
 OneOfEachKind =
-    (kind : Kind) (t : Inputs) (text : List ℕ) (ended : Status) (line : List ℕ) → IsOfKind kind t text
+    (kind : TextKind) (t : Inputs) (text : List ℕ) (ended : Status) (line : List ℕ) → IsOfKind kind t text
     → IsRefusedBy kind t text ended line → ⊥
 
 -- no two statuses are due

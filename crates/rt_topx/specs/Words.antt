@@ -4,14 +4,14 @@ use Rattle.rt_topx.specs.declared.command.Command.{Command}
 use Rattle.rt_topx.specs.declared.command.Command.TheVariants as command
 
 -- the words name this command
-abbrev pub Names : List (List ℕ) → Command → Type 0
-Names words command.Run = (app board script : List ℕ) × (words ≡ codes "run" ∷ app ∷ board ∷ script ∷ [])
-Names words command.Audit = (app board trace : List ℕ) × (words ≡ codes "audit" ∷ app ∷ board ∷ trace ∷ [])
-Names words command.Live = (app board script : List ℕ) × (words ≡ codes "live" ∷ app ∷ board ∷ script ∷ [])
+abbrev pub NamesCommand : List (List ℕ) → Command → Type 0
+NamesCommand words command.Run = (app board script : List ℕ) × (words ≡ codes "run" ∷ app ∷ board ∷ script ∷ [])
+NamesCommand words command.Audit = (app board trace : List ℕ) × (words ≡ codes "audit" ∷ app ∷ board ∷ trace ∷ [])
+NamesCommand words command.Live = (app board script : List ℕ) × (words ≡ codes "live" ∷ app ∷ board ∷ script ∷ [])
 
 -- the words name a command
 abbrev pub IsCommand : List (List ℕ) → Type 0
-IsCommand words = (c : Command) × Names words c
+IsCommand words = (c : Command) × NamesCommand words c
 
 -- the line for all other words
 abbrev pub usage_line : List ℕ

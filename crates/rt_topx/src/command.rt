@@ -2,7 +2,7 @@
 
 ghost use Rattle.std.specs.Prelude.{IfSome, IfNone};
 ghost use Rattle.rt_top.specs.Words.{texts};
-ghost use Rattle.rt_topx.specs.Words.{Names, IsCommand};
+ghost use Rattle.rt_topx.specs.Words.{NamesCommand, IsCommand};
 
 /// A command.
 #[derive(Clone, Copy, PartialEq, Eq)]
@@ -17,7 +17,7 @@ pub enum Command {
 
 /// The command that the words name, None where they name none.
 pub(crate) fn command_of(words: &[&str]) -> Option<Command>
-    ensures some { IfSome result (λ c. Names (texts words.now) c) }
+    ensures some { IfSome result (λ c. NamesCommand (texts words.now) c) }
     ensures none { IfNone result (¬ IsCommand (texts words.now)) }
 {
     match words {

@@ -8,8 +8,8 @@ ghost use Rattle.rt_top.specs.Defined.{inputs, IsAnswer};
 ghost use Rattle.rt_top.specs.Ends.{Wrote, IsKept};
 ghost use Rattle.rt_top.specs.Reads.{given_by, IsReadWithin};
 ghost use Rattle.rt_topx.specs.declared.command.Command.{Command};
-ghost use Rattle.rt_topx.specs.Words.{Names, IsCommand, usage_line};
-ghost use Rattle.rt_topx.specs.Kinds.{Kind, kinds_of, most_bytes};
+ghost use Rattle.rt_topx.specs.Words.{NamesCommand, IsCommand, usage_line};
+ghost use Rattle.rt_topx.specs.Kinds.{TextKind, kinds_of, most_bytes};
 ghost use Rattle.rt_topx.specs.Defined.{IsDue, Skips, ComesTo, WroteAll, WrotePart};
 
 use crate::command::command_of;
@@ -43,13 +43,13 @@ pub fn rticx<R: Threads + Sync, A: Source, B: Source, C: Source, K: Sink + Send,
     // With an answer all that is defined for the texts that were given was written, and nothing else. What is defined
     // is in specs/Outputs.antt: of an image that it is good beside the devices of the board, so for every list of
     // events and words a run of Baker's machine beside devices.
-    ensures answered { (c : Command) → Names (texts words.now) c → IsAnswer result →
+    ensures answered { (c : Command) → NamesCommand (texts words.now) c → IsAnswer result →
         let t = inputs (given_by A.past first.old first.new) (given_by B.past second.old second.new)
         (given_by C.past third.old third.new) in
         WroteAll c t result (K.taken out.old) (K.taken out.new) }
 
     // Where nothing failed, the status is the one that is due, or memory was wanted.
-    ensures complete { (c : Command) (due : Status) → Names (texts words.now) c →
+    ensures complete { (c : Command) (due : Status) → NamesCommand (texts words.now) c →
         let t = inputs (given_by A.past first.old first.new) (given_by B.past second.old second.new)
         (given_by C.past third.old third.new) in
         IsDue c t due →
@@ -76,21 +76,21 @@ pub fn rticx<R: Threads + Sync, A: Source, B: Source, C: Source, K: Sink + Send,
 
     // With an answer each source that the command comes to was read to its end, or up to one byte more than its text
     // may have.
-    ensures first_read { (c : Command) (kind : Kind) → Names (texts words.now) c →
+    ensures first_read { (c : Command) (kind : TextKind) → NamesCommand (texts words.now) c →
         let t = inputs (given_by A.past first.old first.new) (given_by B.past second.old second.new)
         (given_by C.past third.old third.new) in
         ComesTo 0 c t kind → IsAnswer result → IsReadWithin (most_bytes kind) A.past A.left first.old first.new }
-    ensures second_read { (c : Command) (kind : Kind) → Names (texts words.now) c →
+    ensures second_read { (c : Command) (kind : TextKind) → NamesCommand (texts words.now) c →
         let t = inputs (given_by A.past first.old first.new) (given_by B.past second.old second.new)
         (given_by C.past third.old third.new) in
         ComesTo 1 c t kind → IsAnswer result → IsReadWithin (most_bytes kind) B.past B.left second.old second.new }
-    ensures third_read { (c : Command) (kind : Kind) → Names (texts words.now) c →
+    ensures third_read { (c : Command) (kind : TextKind) → NamesCommand (texts words.now) c →
         let t = inputs (given_by A.past first.old first.new) (given_by B.past second.old second.new)
         (given_by C.past third.old third.new) in
         ComesTo 2 c t kind → IsAnswer result → IsReadWithin (most_bytes kind) C.past C.left third.old third.new }
 
     // A source that the command reads failed, and then no source after it was read and nothing was written.
-    ensures read { result ≡ Status.Read → (c : Command) × Names (texts words.now) c
+    ensures read { result ≡ Status.Read → (c : Command) × NamesCommand (texts words.now) c
         × (((1 ≤ length (kinds_of c)) × Rose (A.faults first.old) (A.faults first.new)
         × IsKept B.past B.left B.faults second.old second.new × IsKept C.past C.left C.faults third.old third.new)
         ⊎ ((2 ≤ length (kinds_of c)) × Rose (B.faults second.old) (B.faults second.new)
@@ -106,7 +106,7 @@ pub fn rticx<R: Threads + Sync, A: Source, B: Source, C: Source, K: Sink + Send,
 
     // The sink failed, having taken a beginning of what is defined.
     ensures write { result ≡ Status.Write → Rose (K.faults out.old) (K.faults out.new) }
-    ensures part { (c : Command) → Names (texts words.now) c → result ≡ Status.Write →
+    ensures part { (c : Command) → NamesCommand (texts words.now) c → result ≡ Status.Write →
         let t = inputs (given_by A.past first.old first.new) (given_by B.past second.old second.new)
         (given_by C.past third.old third.new) in
         WrotePart c t (K.taken out.old) (K.taken out.new) }

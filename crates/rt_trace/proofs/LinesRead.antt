@@ -28,8 +28,8 @@ use Rattle.rt_trace.specs.Words.{first, operands, rows, HasFewValues}
 use Rattle.rt_trace.specs.declared.item.Item.{Item}
 use Rattle.rt_trace.specs.declared.item.What.{What}
 use Rattle.rt_trace.specs.declared.item.What.TheVariants as what
-use Rattle.rt_trace.specs.declared.row.Row.{Row}
-use Rattle.rt_trace.specs.declared.row.Row.TheVariants as row
+use Rattle.rt_trace.specs.declared.row.TraceRow.{TraceRow}
+use Rattle.rt_trace.specs.declared.row.TraceRow.TheVariants as row
 use Rattle.rt_trace.proofs.Told.{words_agree}
 
 first_test : (w : What) → list_all is_word_byte (first w) ≡ true
@@ -74,7 +74,7 @@ record Says (names : Names) (ws : List (List ℕ)) (item : Item) : Type 0 where
   pub words_are : ws ≡ decimal item.step ∷ first item.what ∷ operand_words names item.what
 
 -- what is read of words is what they are written of
-abbrev RowSays : Names → List (List ℕ) → Row → Type 0
+abbrev RowSays : Names → List (List ℕ) → TraceRow → Type 0
 RowSays names ws (row.Shown item) = Says names ws item
 RowSays names ws (row.Total total) = Unit {0}
 

@@ -5,7 +5,8 @@ use Rattle.rt_lines.specs.Answers.{and_make}
 use Rattle.rt_lines.specs.Reading.{IsFirstWrong}
 use Rattle.rt_lines.proofs.Reading.{read_one_way}
 use Rattle.rt_trace.specs.Reader.{refusal_of}
-use Rattle.rt_trace.specs.Reading.{IsTraceRefused, IsTraceText, Standing, line_told, step, trace_of, trace_reader}
+use Rattle.rt_trace.specs.Reading.{IsTraceRefused, IsTraceText, Standing, line_told, reader_step, trace_of}
+use Rattle.rt_trace.specs.Reading.{trace_reader}
 use Rattle.rt_trace.specs.Trace.{Trace}
 use Rattle.rt_trace.specs.declared.item.Item.{Item}
 use Rattle.rt_lines.specs.declared.operand.Wrong.{Wrong}
@@ -21,17 +22,17 @@ module _ (names : Names) where
   -- a line that tells an item, or none
   pub line_read : (from to : Phase) (items : List Item) (line : List ℕ) (item : Option Item)
       → line_told names from line ≡ Ok (to, item)
-      → step names (at from items) line ≡ Ok (at to (items ++ option_to_list item))
+      → reader_step names (at from items) line ≡ Ok (at to (items ++ option_to_list item))
   line_read from to items line item told =
       ap (λ r. and_make r (λ told. at told.0 (items ++ option_to_list told.1))) told
 
   pub line_passed : (from to : Phase) (items : List Item) (line : List ℕ) → line_told names from line ≡ Ok (to, None)
-      → step names (at from items) line ≡ Ok (at to items)
+      → reader_step names (at from items) line ≡ Ok (at to items)
   line_passed from to items line told =
       line_read from to items line None told ∙ ap (λ told. Ok (at to told)) (append-nil items)
 
   pub line_wrong : (from : Phase) (items : List Item) (line : List ℕ) (w : Wrong) → line_told names from line ≡ Err w
-      → step names (at from items) line ≡ Err w
+      → reader_step names (at from items) line ≡ Err w
   line_wrong from items line w told =
       ap (λ r. and_make r (λ told. at told.0 (items ++ option_to_list told.1))) told
 

@@ -24,8 +24,8 @@ use Rattle.rt_trace.specs.declared.item.Item.{Item}
 use Rattle.rt_lines.specs.declared.operand.Wrong.{Wrong}
 use Rattle.rt_trace.specs.declared.reader.Phase.{Phase}
 use Rattle.rt_trace.specs.declared.reader.Phase.TheVariants as phase
-use Rattle.rt_trace.specs.declared.row.Row.{Row}
-use Rattle.rt_trace.specs.declared.row.Row.TheVariants as row
+use Rattle.rt_trace.specs.declared.row.TraceRow.{TraceRow}
+use Rattle.rt_trace.specs.declared.row.TraceRow.TheVariants as row
 use Rattle.rt_lines.proofs.Numerals.{number_read}
 use Rattle.rt_lines.proofs.Unbroken.{IsUnbroken, fed, lines_fed, unbroken_append}
 use Rattle.rt_lines.proofs.Words.{word_free, decimal_bytes, words_spaced}
@@ -124,7 +124,7 @@ rows_read : (names : Names) (items : List Item) → AreNames names → AllByRecu
     → map (row_of_line names) (map (item_line names) items) ≡ map row_of_item items
 rows_read names [] are all = refl
 rows_read names (item ∷ items) are all =
-    ap₂ (λ (r : Result Row Wrong) (rs : List (Result Row Wrong)). r ∷ rs) (lines_read names item are all.0)
+    ap₂ (λ (r : Result TraceRow Wrong) (rs : List (Result TraceRow Wrong)). r ∷ rs) (lines_read names item are all.0)
     (rows_read names items are all.1)
 
 items_unbroken : (names : Names) (items : List Item) → AreNames names → AllByRecursion (HasLine names) items

@@ -15,7 +15,7 @@ use Rattle.rt_trace.specs.Text.{item_line, text, trace_text}
 use Rattle.rt_trace.specs.Trace.{Trace}
 use Rattle.rt_trace.specs.TraceLines.{AreTraceLines}
 use Rattle.rt_trace.specs.declared.item.Item.{Item}
-use Rattle.rt_trace.specs.declared.row.Row.TheVariants as row
+use Rattle.rt_trace.specs.declared.row.TraceRow.TheVariants as row
 
 -- the line of an item is read as the item
 abbrev pub LinesAreRead : Type 0

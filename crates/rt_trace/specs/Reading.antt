@@ -18,8 +18,8 @@ use Rattle.rt_lines.specs.declared.operand.Wrong.{Wrong}
 use Rattle.rt_lines.specs.declared.operand.Wrong.TheVariants as wrong
 use Rattle.rt_trace.specs.declared.reader.Phase.{Phase}
 use Rattle.rt_trace.specs.declared.reader.Phase.TheVariants as phase
-use Rattle.rt_trace.specs.declared.row.Row.{Row}
-use Rattle.rt_trace.specs.declared.row.Row.TheVariants as row
+use Rattle.rt_trace.specs.declared.row.TraceRow.{TraceRow}
+use Rattle.rt_trace.specs.declared.row.TraceRow.TheVariants as row
 use Rattle.rt_trace.specs.declared.refusal.TraceRefused.{TraceRefused}
 use Rattle.rt_trace.specs.declared.refusal.TraceRefused.TheVariants as refused
 
@@ -36,7 +36,7 @@ abbrev pub is_account : List ℕ → Bool
 is_account line = starts_with nat_eq line (codes "account ")
 
 -- where a reader stands behind a row, and the item of the row
-abbrev pub behind_row : Row → Phase × Option Item
+abbrev pub behind_row : TraceRow → Phase × Option Item
 behind_row (row.Shown item) = (phase.Items, Some item)
 behind_row (row.Total total) = (phase.Closed total, None)
 
@@ -58,8 +58,8 @@ pub record Standing : Type 0 where
   pub items : List Item
 
 -- where a reader stands a line further on, or what is wrong with the line
-abbrev pub step : Names → Standing → List ℕ → Result Standing Wrong
-step names s line =
+abbrev pub reader_step : Names → Standing → List ℕ → Result Standing Wrong
+reader_step names s line =
     and_make (line_told names s.phase line)
     (λ told. record { phase = told.0; items = s.items ++ option_to_list told.1 })
 
@@ -79,7 +79,7 @@ trace_reader names = record {
   most = TRACE_BYTES;
   lines = lines;
   start = record { phase = phase.Start; items = [] };
-  step = step names;
+  step = reader_step names;
   missing = λ s. missing s.phase;
 }
 

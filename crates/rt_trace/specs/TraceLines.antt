@@ -7,8 +7,8 @@ use Rattle.rt_trace.specs.Row.{row_of_line}
 use Rattle.rt_trace.specs.Trace.{Trace}
 use Rattle.rt_trace.specs.declared.item.Item.{Item}
 use Rattle.rt_lines.specs.declared.operand.Wrong.{Wrong}
-use Rattle.rt_trace.specs.declared.row.Row.{Row}
-use Rattle.rt_trace.specs.declared.row.Row.TheVariants as row
+use Rattle.rt_trace.specs.declared.row.TraceRow.{TraceRow}
+use Rattle.rt_trace.specs.declared.row.TraceRow.TheVariants as row
 
 -- the lines of a listing, and the first line `trace` behind them
 pub record IsListing (heading : List (List ℕ)) : Type 0 where
@@ -25,7 +25,7 @@ IsHeading [] (line ∷ ls) = begins_listing line ≡ false
 IsHeading heading ls = IsListing heading
 
 -- what the line of an item says
-abbrev pub row_of_item : Item → Result Row Wrong
+abbrev pub row_of_item : Item → Result TraceRow Wrong
 row_of_item item = Ok (row.Shown item)
 
 -- what closes the text: nothing, or the line of the total with lines of accounts behind it

@@ -7,7 +7,7 @@ ghost use Rattle.rt_lines.specs.declared.operand.Wrong.{Wrong};
 
 use crate::item::Item;
 use crate::refusal::TraceRefused;
-use crate::row::{Row, read_row};
+use crate::row::{TraceRow, read_row};
 use rt_ids::Names;
 use rt_lines::Wrong;
 
@@ -97,8 +97,8 @@ fn behind_row(names: &Names, line: &[u8]) -> Result<(Phase, Option<Item>), Wrong
     ensures { result ≡ row_told names.now line.now }
 {
     match read_row(names, line)? {
-        Row::Shown(item) => Ok((Phase::Items, Some(item))),
-        Row::Total(total) => Ok((Phase::Closed(total), None)),
+        TraceRow::Shown(item) => Ok((Phase::Items, Some(item))),
+        TraceRow::Total(total) => Ok((Phase::Closed(total), None)),
     }
 }
 

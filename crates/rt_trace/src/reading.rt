@@ -3,7 +3,7 @@
 ghost use Rattle.std.specs.Prelude.{◌≡◌, ◌<◌, ◌⊎◌, [], ◌∷◌, ◌++◌, length, Ok, Err, IfOk, IfErr, OnOk};
 ghost use Rattle.rt_ids.specs.declared.limits.TheConstants.{TRACE_BYTES};
 ghost use Rattle.rt_trace.specs.Reader.{refusal_of, standing};
-ghost use Rattle.rt_trace.specs.Reading.{step};
+ghost use Rattle.rt_trace.specs.Reading.{reader_step};
 ghost use Rattle.rt_trace.specs.Reading as spec;
 ghost use Rattle.rt_lines.specs.declared.operand.Wrong.{Wrong};
 
@@ -49,10 +49,10 @@ fn take_line(
     number: u32,
     line: &[u8],
 ) -> Result<(), TraceRefused>
-    ensures taken { OnOk result (step names.now (standing reader.old items.old.items) line.now
+    ensures taken { OnOk result (reader_step names.now (standing reader.old items.old.items) line.now
         ≡ Ok (standing reader.new items.new.items)) }
     ensures refused { IfErr result (λ refusal. (refusal ≡ TraceRefused.NoMemory) ⊎ ((wrong : Wrong)
-        × (step names.now (standing reader.old items.old.items) line.now ≡ Err wrong)
+        × (reader_step names.now (standing reader.old items.old.items) line.now ≡ Err wrong)
         × (refusal ≡ refusal_of wrong number))) }
 {
     match reader.take(names, number, line) {

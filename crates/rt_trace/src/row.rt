@@ -19,7 +19,7 @@ use rt_lines::{
 
 /// What a line of a trace says.
 #[derive(Clone, Copy, PartialEq, Eq)]
-pub enum Row {
+pub enum TraceRow {
     /// An item.
     Shown(Item),
     /// The total of core steps.
@@ -27,7 +27,7 @@ pub enum Row {
 }
 
 /// What a line says.
-pub fn read_row(names: &Names, line: &[u8]) -> Result<Row, Wrong>
+pub fn read_row(names: &Names, line: &[u8]) -> Result<TraceRow, Wrong>
     ensures { result ≡ spec.row_of_line names.now line.now }
 {
     let Some((word, words)) = next_word(Some(line)) else {
@@ -35,16 +35,16 @@ pub fn read_row(names: &Names, line: &[u8]) -> Result<Row, Wrong>
     };
     if word == b"total".as_slice() {
         let total: u32 = one(names, words)?;
-        Ok(Row::Total(u64::from(total)))
+        Ok(TraceRow::Total(u64::from(total)))
     } else {
         let item = read_item(names, word, words)?;
-        Ok(Row::Shown(item))
+        Ok(TraceRow::Shown(item))
     }
 }
 
 /// The item of a step number and words.
 fn read_item(names: &Names, step: &[u8], words: Option<&[u8]>) -> Result<Item, Wrong>
-    ensures { and_make result Row.Shown ≡ spec.item_at names.now (step.now ∷ words_of words.entry) }
+    ensures { and_make result TraceRow.Shown ≡ spec.item_at names.now (step.now ∷ words_of words.entry) }
 {
     let step = number_below(step, 1 << 31).ok_or(Wrong::Form)?;
     let (first, words) = next_word(words).ok_or(Wrong::Form)?;

@@ -13,7 +13,7 @@ use Rattle.rt_values.specs.declared.call.Call.TheVariants.{Give, Take}
 use Rattle.rt_values.specs.declared.view.View.{View}
 use Rattle.rt_values.specs.History.{LeavesWord, gives, takes}
 use Rattle.rt_values.specs.Object.{waiting}
-use Rattle.rt_values.specs.Inside.Rule.{Kept, Knows, Standing}
+use Rattle.rt_values.specs.Inside.Rule.{HasHistory, Knows, HistoryStands}
 use Rattle.rt_values.specs.Inside.Steps.{Seat}
 use Rattle.rt_values.proofs.Histories.{prefix_none, prefix_self}
 
@@ -62,7 +62,7 @@ takes_at zero v at m = refl
 takes_at (suc zero) v at m = absurd (false≢true (ap (λ (x : View). x.takes) (some-injective giver_seat v at) ∙ m))
 takes_at (suc (suc seat)) v at m = absurd (some-ne-none v (sym at))
 
-standing : Standing ((2 ^ 32 + 65) ∷ []) views (give ∷ []) (2 ^ 32 + 65)
+standing : HistoryStands ((2 ^ 32 + 65) ∷ []) views (give ∷ []) (2 ^ 32 + 65)
 standing = record {
   one = refl;
   small = omega arith;
@@ -84,7 +84,7 @@ abbrev pub FindsBlindly : ℕ → Seat → Type 0
 FindsBlindly found after = (after.0.takes ≡ true) × (after.0.taken ≡ Take None ∷ [])
 
 -- no step has that, whatever it writes into the word of memory
-pub blind_refused : (f : ℕ → ℕ) → Allows Kept 0 0 (taker_seat, []) 0 f FindsBlindly → ⊥
+pub blind_refused : (f : ℕ → ℕ) → Allows HasHistory 0 0 (taker_seat, []) 0 f FindsBlindly → ⊥
 blind_refused f allows =
     let step = allows table (give ∷ [], 2 ^ 32 + 65, standing) refl refl (omega arith) in
     let history : List Call = step.3.0 in

@@ -5,11 +5,11 @@ use lib.ListN.{get_elem?}
 use Rattle.atomic_table.specs.Table.{Final, Seen}
 use Rattle.rt_values.specs.declared.view.View.{View}
 use Rattle.rt_values.specs.History.{OneHistory}
-use Rattle.rt_values.specs.Inside.Rule.{Kept}
+use Rattle.rt_values.specs.Inside.Rule.{HasHistory}
 use Rattle.rt_values.specs.Object.{waiting}
 
 pub ends : (words : List ℕ) (slots : List (Unit {0})) (id : ℕ) (v : View) (word : ℕ) → v.gives ≡ true → v.takes ≡ true
-    → Final (Seen Kept id v) words slots → get_elem? words 0 ≡ some word
+    → Final (Seen HasHistory id v) words slots → get_elem? words 0 ≡ some word
     → OneHistory v.given v.taken v.last (waiting word)
 ends words slots id v word gives takes f read =
     let kept = f.1.0 in

@@ -10,7 +10,7 @@ use Rattle.rt_values.specs.declared.call.Call.TheVariants.{Give}
 use Rattle.rt_values.specs.declared.view.View.{View}
 use Rattle.rt_values.specs.Object.{waiting}
 use Rattle.rt_values.specs.History.{IsLegal}
-use Rattle.rt_values.specs.Inside.Rule.{AllKnow, Kept, Standing}
+use Rattle.rt_values.specs.Inside.Rule.{AllKnow, HasHistory, HistoryStands}
 use Rattle.rt_values.specs.Inside.Steps.{Seat, after_give, answer_at, give_step}
 use Rattle.rt_values.proofs.Histories.{LeavesWord-push, answered, extends, gives_push, prefix_on, prefix_self}
 use Rattle.rt_values.proofs.Histories.{takes_stay, waits}
@@ -24,7 +24,7 @@ abbrev call_at : ℕ → ℕ → Call
 call_at word found = Give (left_by word - 2 ^ 32) (answer_at found)
 
 module _ (words : List ℕ) (views : List View) (history : List Call) (found id word : ℕ) (v : View)
-    (st : Standing words views history found) (at : get_elem? views id ≡ some v) (may : v.gives ≡ true)
+    (st : HistoryStands words views history found) (at : get_elem? views id ≡ some v) (may : v.gives ≡ true)
     (only : v.takes ≡ false) (small : word < 2 ^ 32) where
   abbrev c : Call
   c = call_at word found
@@ -59,7 +59,7 @@ module _ (words : List ℕ) (views : List View) (history : List Call) (found id 
         last = λ m t. absurd (other (st.one_gives seat id u v there at m may));
       })
 
-  pub gave : Standing (set words 0 (left_by word)) (set views id new) more (left_by word)
+  pub gave : HistoryStands (set words 0 (left_by word)) (set views id new) more (left_by word)
   gave = record {
     one = ap (λ (ws : List ℕ). set ws 0 (left_by word)) st.one;
     small = omega arith;
@@ -72,12 +72,12 @@ module _ (words : List ℕ) (views : List View) (history : List Call) (found id 
 -- what a step that gives owes, where this number was found
 abbrev Gives : State (Unit {0}) View → ℕ → ℕ → ℕ → Seat → ℕ → Type 0
 Gives s slots id word me found =
-    (w : View) × (a : Act (Unit {0})) × Valid s.homes me.1 a × Kept (stepped s 0 (left_by word) id me.1 w a)
+    (w : View) × (a : Act (Unit {0})) × Valid s.homes me.1 a × HasHistory (stepped s 0 (left_by word) id me.1 w a)
     × give_step (step slots 0 (left_by word) 0 none) me found (w, carried_after me.1 a)
 
 -- a step of a giver, which leaves bit 32 and the word
 pub gives_word : (slots id word : ℕ) (me : Seat) → word < 2 ^ 32 → me.0.gives ≡ true → me.0.takes ≡ false
-    → Allows Kept slots id me 0 (λ n. 2 ^ 32 + word) (give_step (step slots 0 (2 ^ 32 + word) 0 none) me)
+    → Allows HasHistory slots id me 0 (λ n. 2 ^ 32 + word) (give_step (step slots 0 (2 ^ 32 + word) 0 none) me)
 gives_word slots id word me small may only s kept homes at fits =
     let history = kept.0 in
     let found = kept.1 in

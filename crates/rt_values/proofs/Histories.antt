@@ -10,8 +10,8 @@ use Rattle.rt_values.specs.declared.call.Given.TheVariants.{Raised, Merged}
 use Rattle.rt_values.specs.declared.call.Call.{Call}
 use Rattle.rt_values.specs.declared.call.Call.TheVariants.{Give, Take}
 use Rattle.rt_values.specs.Object.{IsAnswered, after, waiting}
-use Rattle.rt_values.specs.History.{EndsWith, LeavesWord, gives, takes, is_give, is_take}
-use Rattle.rt_values.specs.Inside.Steps.{Extends, answer_at}
+use Rattle.rt_values.specs.History.{EndsWith, LeavesWord, gives, takes, is_give, is_taker_call}
+use Rattle.rt_values.specs.Inside.Steps.{ExtendsByCall, answer_at}
 
 pub LeavesWord-push : (waits last : Option ℕ) (history : List Call) (c : Call) → LeavesWord waits history last
     → IsAnswered last c → LeavesWord waits (history ++ c ∷ []) (after last c)
@@ -28,12 +28,13 @@ gives_push history word answer = filter-append is_give history (Give word answer
 
 pub takes_push : (history : List Call) (found : Option ℕ) → takes (history ++ Take found ∷ [])
     ≡ takes history ++ Take found ∷ []
-takes_push history found = filter-append is_take history (Take found ∷ [])
+takes_push history found = filter-append is_taker_call history (Take found ∷ [])
 
 -- and those of the other side stay
 pub takes_stay : (history : List Call) (word : ℕ) (answer : Given) → takes (history ++ Give word answer ∷ [])
     ≡ takes history
-takes_stay history word answer = filter-append is_take history (Give word answer ∷ []) ∙ append-nil (takes history)
+takes_stay history word answer =
+    filter-append is_taker_call history (Give word answer ∷ []) ∙ append-nil (takes history)
 
 pub gives_stay : (history : List Call) (found : Option ℕ) → gives (history ++ Take found ∷ []) ≡ gives history
 gives_stay history found = filter-append is_give history (Take found ∷ []) ∙ append-nil (gives history)
@@ -57,7 +58,7 @@ pub prefix_none : (history : List Call) → IsPrefix [] history
 prefix_none history = (history, refl)
 
 -- the history with a call more goes on behind what was seen
-pub extends : (seen history : List Call) (c : Call) → IsPrefix seen history → Extends seen c (history ++ c ∷ [])
+pub extends : (seen history : List Call) (c : Call) → IsPrefix seen history → ExtendsByCall seen c (history ++ c ∷ [])
 extends seen history c p = (p.0, ap (λ (t : List Call). t ++ c ∷ []) (sym p.1))
 
 -- the answer to a give is that of what waits in the word of memory

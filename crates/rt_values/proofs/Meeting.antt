@@ -8,7 +8,7 @@ use Rattle.atomic_table.specs.Table.{Joins, Splits}
 use Rattle.atomic_table.proofs.Lists.{at_set, set_else}
 use Rattle.rt_values.specs.declared.call.Call.{Call}
 use Rattle.rt_values.specs.declared.view.View.{View}
-use Rattle.rt_values.specs.Inside.Rule.{AtMostOne, Kept, Knows, Standing}
+use Rattle.rt_values.specs.Inside.Rule.{AtMostOne, HasHistory, Knows, HistoryStands}
 use Rattle.rt_values.specs.Inside.Steps.{newcomer, spent_view, view_of_both, view_of_giver, view_of_taker}
 use Rattle.rt_values.proofs.Histories.{prefix_none}
 use Rattle.rt_values.proofs.Views.{at_push, know_push, know_set, one_only, one_set}
@@ -29,7 +29,7 @@ newcomer_knows zero u at =
     }
 newcomer_knows (suc seat) u at = absurd (some-ne-none u (sym at))
 
-pub opens : Standing (0 ∷ []) (newcomer ∷ []) [] 0
+pub opens : HistoryStands (0 ∷ []) (newcomer ∷ []) [] 0
 opens = record {
   one = refl;
   small = omega arith;
@@ -41,7 +41,7 @@ opens = record {
 
 -- the seat of the giver is split off
 module _ (words : List ℕ) (views : List View) (history : List Call) (found id : ℕ) (v : View)
-    (st : Standing words views history found) (at : get_elem? views id ≡ some v) (gives : v.gives ≡ true) where
+    (st : HistoryStands words views history found) (at : get_elem? views id ≡ some v) (gives : v.gives ≡ true) where
   abbrev rest : List View
   rest = set views id (view_of_taker v)
 
@@ -62,7 +62,7 @@ module _ (words : List ℕ) (views : List View) (history : List Call) (found id 
           ⊎_elim (λ t. t) (λ t. absurd (false≢true (ap (λ (x : View). x.takes) t.1 ∙ m)))
           (at_push rest (view_of_giver v) u k e)
 
-  pub parted : Standing words (rest ++ view_of_giver v ∷ []) history found
+  pub parted : HistoryStands words (rest ++ view_of_giver v ∷ []) history found
   parted =
       let mine = st.known id v at in
       record {
@@ -92,12 +92,12 @@ module _ (words : List ℕ) (views : List View) (history : List Call) (found id 
         one_takes = parted_takes;
       }
 
-pub parts : (id : ℕ) (v : View) → v.gives ≡ true → Splits Kept id v (view_of_taker v) (view_of_giver v)
+pub parts : (id : ℕ) (v : View) → v.gives ≡ true → Splits HasHistory id v (view_of_taker v) (view_of_giver v)
 parts id v gives s kept at = (kept.0, kept.1, parted s.words s.views kept.0 kept.1 id v kept.2 at gives)
 
 -- the taker's seat takes in the giver's
 module _ (words : List ℕ) (views : List View) (history : List Call) (found id : ℕ) (v : View) (other : ℕ) (w : View)
-    (st : Standing words views history found) (at : get_elem? views id ≡ some v) (away : other ≢ id)
+    (st : HistoryStands words views history found) (at : get_elem? views id ≡ some v) (away : other ≢ id)
     (there : get_elem? views other ≡ some w) (gives : w.gives ≡ true) where
   abbrev both : View
   both = view_of_both v w
@@ -122,7 +122,7 @@ module _ (words : List ℕ) (views : List View) (history : List Call) (found id 
       (λ t. ⊎_elim (λ z. z.0) (λ z. absurd (t.0 (st.one_gives seat other u w z.1 there m gives)))
       (at_set views id seat both u t.1)) (at_set (set views id both) other seat spent_view u e)
 
-  pub met : Standing words all history found
+  pub met : HistoryStands words all history found
   met = record {
     one = st.one;
     small = st.small;
@@ -144,7 +144,7 @@ module _ (words : List ℕ) (views : List View) (history : List Call) (found id 
   }
 
 pub meets : (id : ℕ) (v : View) (other : ℕ) (w : View) → w.gives ≡ true
-    → Joins Kept id v other w (view_of_both v w) spent_view
+    → Joins HasHistory id v other w (view_of_both v w) spent_view
 meets id v other w gives s kept at away there = (
   kept.0,
   kept.1,

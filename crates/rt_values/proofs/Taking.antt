@@ -9,14 +9,14 @@ use Rattle.rt_values.specs.declared.call.Call.TheVariants.{Take}
 use Rattle.rt_values.specs.declared.view.View.{View}
 use Rattle.rt_values.specs.Object.{waiting}
 use Rattle.rt_values.specs.History.{IsLegal}
-use Rattle.rt_values.specs.Inside.Rule.{AllKnow, Kept, Standing}
+use Rattle.rt_values.specs.Inside.Rule.{AllKnow, HasHistory, HistoryStands}
 use Rattle.rt_values.specs.Inside.Steps.{Seat, after_take, take_step}
 use Rattle.rt_values.proofs.Histories.{LeavesWord-push, ends_push, extends, gives_stay, prefix_on, prefix_self}
 use Rattle.rt_values.proofs.Histories.{takes_push}
 use Rattle.rt_values.proofs.Views.{know_set, one_set}
 
 module _ (words : List ℕ) (views : List View) (history : List Call) (found id : ℕ) (v : View)
-    (st : Standing words views history found) (at : get_elem? views id ≡ some v) (may : v.takes ≡ true) where
+    (st : HistoryStands words views history found) (at : get_elem? views id ≡ some v) (may : v.takes ≡ true) where
   abbrev c : Call
   c = Take (waiting found)
 
@@ -48,7 +48,7 @@ module _ (words : List ℕ) (views : List View) (history : List Call) (found id 
         last = λ m t. absurd (other (st.one_takes seat id u v there at t may));
       })
 
-  pub took : Standing (set words 0 0) (set views id new) more 0
+  pub took : HistoryStands (set words 0 0) (set views id new) more 0
   took = record {
     one = ap (λ (ws : List ℕ). set ws 0 0) st.one;
     small = omega arith;
@@ -61,12 +61,12 @@ module _ (words : List ℕ) (views : List View) (history : List Call) (found id 
 -- what a step that takes owes, where this number was found
 abbrev Takes : State (Unit {0}) View → ℕ → ℕ → Seat → ℕ → Type 0
 Takes s slots id me found =
-    (w : View) × (a : Act (Unit {0})) × Valid s.homes me.1 a × Kept (stepped s 0 0 id me.1 w a)
+    (w : View) × (a : Act (Unit {0})) × Valid s.homes me.1 a × HasHistory (stepped s 0 0 id me.1 w a)
     × take_step (step slots 0 0 0 none) me found (w, carried_after me.1 a)
 
 -- a step of a taker, which leaves 0
 pub takes_word : (slots id : ℕ) (me : Seat) → me.0.takes ≡ true
-    → Allows Kept slots id me 0 (λ n. 0) (take_step (step slots 0 0 0 none) me)
+    → Allows HasHistory slots id me 0 (λ n. 0) (take_step (step slots 0 0 0 none) me)
 takes_word slots id me may s kept homes at fits =
     let history = kept.0 in
     let found = kept.1 in

@@ -18,9 +18,9 @@ abbrev pub is_give : Call → Bool
 is_give (Give word answer) = true
 is_give (Take found) = false
 
-abbrev pub is_take : Call → Bool
-is_take (Give word answer) = false
-is_take (Take found) = true
+abbrev pub is_taker_call : Call → Bool
+is_taker_call (Give word answer) = false
+is_taker_call (Take found) = true
 
 -- the calls of the giver, in their order
 abbrev pub gives : List Call → List Call
@@ -28,7 +28,7 @@ gives history = filter is_give history
 
 -- the calls of the taker, in their order
 abbrev pub takes : List Call → List Call
-takes history = filter is_take history
+takes history = filter is_taker_call history
 
 -- the history ends with these calls
 pub record EndsWith (history calls : List Call) : Type 0 where

@@ -4,7 +4,7 @@ ghost use Rattle.rt_values.specs.History.{OneHistory};
 ghost use Rattle.rt_values.specs.Sides.{new_giver, new_taker};
 
 use crate::giver::Giver;
-use crate::rule::{Law, Part};
+use crate::rule::{GiverSplit, Law};
 use crate::taker::Taker;
 use crate::view::View;
 use crate::waiting::waiting;
@@ -35,13 +35,13 @@ pub struct Mailbox {
 
 impl Model for Mailbox {
     ghost use Rattle.atomic_table.specs.Seated.{TableId};
-    ghost use Rattle.rt_values.specs.Inside.Fields.{IsSound};
+    ghost use Rattle.rt_values.specs.Inside.Fields.{IsSoundMailbox};
 
     ghost Value = { TableId };
 
     ghost view = { λ m. m.table.shared.table_id };
 
-    ghost invariant = { λ m. IsSound m.table.shared.table_id };
+    ghost invariant = { λ m. IsSoundMailbox m.table.shared.table_id };
 }
 
 impl Mailbox {
@@ -53,7 +53,7 @@ impl Mailbox {
     {
         let (table, mut seat) = Table::of_words(alloc, &[0u64], &())?;
         let giver = Giver {
-            seat: table.shared.split_seat::<Part>(&mut seat),
+            seat: table.shared.split_seat::<GiverSplit>(&mut seat),
             raised: 0,
             merged: 0,
         };

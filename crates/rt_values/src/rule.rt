@@ -5,10 +5,10 @@ use atomic_table::{Join, Play, Split, TableRule};
 pub(crate) struct Law;
 
 impl TableRule<(), View, ()> for Law {
-    ghost use Rattle.rt_values.specs.Inside.Rule.{Kept};
+    ghost use Rattle.rt_values.specs.Inside.Rule.{HasHistory};
     ghost use Rattle.rt_values.specs.Inside.Steps.{newcomer};
 
-    ghost holds = { λ key. Kept };
+    ghost holds = { λ key. HasHistory };
 
     ghost first = { λ key. newcomer };
 }
@@ -32,9 +32,9 @@ impl Play<(), View> for Take {
 }
 
 // The giver's seat is split off the taker's.
-pub(crate) struct Part;
+pub(crate) struct GiverSplit;
 
-impl Split<View> for Part {
+impl Split<View> for GiverSplit {
     ghost use Rattle.rt_values.specs.Inside.Steps.{view_of_taker, view_of_giver};
 
     ghost left = { view_of_taker };

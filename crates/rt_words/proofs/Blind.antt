@@ -15,7 +15,7 @@ use Rattle.rt_words.specs.declared.call.Call.TheVariants.{Latch, Pend}
 use Rattle.rt_words.specs.declared.view.View.{View}
 use Rattle.rt_words.specs.Object.{IsAnswered}
 use Rattle.rt_words.specs.History.{Entry, LeavesWords, IsLegal, part}
-use Rattle.rt_words.specs.Inside.Rule.{padded_words, Standing, Kept}
+use Rattle.rt_words.specs.Inside.Rule.{padded_words, HistoryStands, HasHistory}
 use Rattle.rt_words.specs.Inside.Seats.{Seat, InUse, Seated}
 use Rattle.rt_words.specs.Inside.Steps.{newcomer}
 use Rattle.rt_words.proofs.Lists.{in_head, in_none, in_cases}
@@ -75,7 +75,7 @@ seated = record {
       part_rest pend [] number (λ e. out (subst (λ (n : ℕ). Contains (0 ∷ []) n) e (in_head 0 [])));
 }
 
-standing : Standing word word views (pend ∷ []) first_seat
+standing : HistoryStands word word views (pend ∷ []) first_seat
 standing = record {
   row =
       record { short = omega arith; low = low; within = λ irq h. h; covers = λ irq h. covers (irq / 32) (irq % 32) h };
@@ -109,7 +109,7 @@ abbrev pub AnswersBlindly : ℕ → Seat → Type 0
 AnswersBlindly found after = (after.0.calls ≡ Latch 0 0 ∷ []) × (after.0.made ≡ 0 ∷ [])
 
 -- no step has that, whatever it writes into the word
-pub blind_refused : (f : ℕ → ℕ) → Allows (Kept word) 0 0 (first_seat, []) 0 f AnswersBlindly → ⊥
+pub blind_refused : (f : ℕ → ℕ) → Allows (HasHistory word) 0 0 (first_seat, []) 0 f AnswersBlindly → ⊥
 blind_refused f allows =
     let left : List ℕ = padded_words (f 1 ∷ []) in
     let step = allows table (pend ∷ [], first_seat, standing) refl refl (omega arith) in

@@ -9,7 +9,7 @@ use Rattle.rt_words.specs.declared.call.Call.{Call}
 use Rattle.rt_words.specs.declared.view.View.{View}
 use Rattle.rt_words.specs.Object.{IsAnswered, after}
 use Rattle.rt_words.specs.History.{Entry, IsLegal, CallsLast, entries}
-use Rattle.rt_words.specs.Inside.Rule.{IsRow, padded_words, Standing}
+use Rattle.rt_words.specs.Inside.Rule.{IsRow, padded_words, HistoryStands}
 use Rattle.rt_words.specs.Inside.Seats.{IsLive, Seated, HaveSeen, AllKnow}
 use Rattle.rt_words.specs.Inside.Steps.{view_after_call}
 use Rattle.rt_words.proofs.Lists.{drop_push}
@@ -19,8 +19,8 @@ use Rattle.rt_words.proofs.Seats.{know_set, seated_first, seated_other}
 
 -- the view of the first seat is the maker's
 pub maker_is : (may words : List ℕ) (views : List View) (history : List Entry) (maker v : View)
-    → Standing may words views history maker → get_elem? views 0 ≡ some v → Standing may words views history v
-maker_is may words views history maker v st at = subst (λ (x : View). Standing may words views history x)
+    → HistoryStands may words views history maker → get_elem? views 0 ≡ some v → HistoryStands may words views history v
+maker_is may words views history maker v st at = subst (λ (x : View). HistoryStands may words views history x)
     (some-injective maker v (sym st.seated.first ∙ at)) st
 
 -- a call of the maker's comes behind the last ones
@@ -39,7 +39,7 @@ last_called history maker c behind is =
     }
 
 module _ (may words left : List ℕ) (views : List View) (history : List Entry) (maker : View) (id : ℕ) (v : View)
-    (c : Call) (st : Standing may words views history maker) (at : get_elem? views id ≡ some v)
+    (c : Call) (st : HistoryStands may words views history maker) (at : get_elem? views id ≡ some v)
     (live : IsLive id v) (answered : IsAnswered (padded_words words) c)
     (leaves : after (padded_words words) c ≡ padded_words left) (row : IsRow may left) where
   abbrev more : List Entry
@@ -58,7 +58,7 @@ module _ (may words left : List ℕ) (views : List View) (history : List Entry) 
   same_may : AllKnow may (set views id new)
   same_may = know_set may views id new st.same_may (st.same_may id v at)
 
-  of_maker : v.line ≡ 255 → id ≡ 0 → Standing may left (set views id new) more new
+  of_maker : v.line ≡ 255 → id ≡ 0 → HistoryStands may left (set views id new) more new
   of_maker is first =
       let mine = maker_is may words views history maker v st (ap (get_elem? views) (sym first) ∙ at) in
       record {
@@ -74,7 +74,7 @@ module _ (may words left : List ℕ) (views : List View) (history : List Entry) 
             (last_called history v c mine.behind (mine.last all));
       }
 
-  of_other : v.line ≢ 255 → Standing may left (set views id new) more maker
+  of_other : v.line ≢ 255 → HistoryStands may left (set views id new) more maker
   of_other other =
       let mine = st.seated.lines id v at other in
       record {
@@ -87,9 +87,9 @@ module _ (may words left : List ℕ) (views : List View) (history : List Entry) 
         last = λ all. absurd (mine.ungathered (all v.line mine.made));
       }
 
-  pub called : (x : View) × Standing may left (set views id new) more x
+  pub called : (x : View) × HistoryStands may left (set views id new) more x
   called = by (ℕ_discrete v.line 255)
     where
-      by : Dec (v.line ≡ 255) → (x : View) × Standing may left (set views id new) more x
+      by : Dec (v.line ≡ 255) → (x : View) × HistoryStands may left (set views id new) more x
       by (yes is) = (new, of_maker is (live is))
       by (no ne) = (maker, of_other ne)

@@ -14,7 +14,7 @@ use Rattle.rt_words.specs.declared.view.View.{View}
 use Rattle.rt_words.specs.History.{Entry}
 use Rattle.rt_words.specs.Account.{raises, merges, latches}
 use Rattle.rt_words.specs.Lines.{Row, Line, numbers}
-use Rattle.rt_words.specs.Inside.Rule.{padded_words, Standing, Kept}
+use Rattle.rt_words.specs.Inside.Rule.{padded_words, HistoryStands, HasHistory}
 use Rattle.rt_words.specs.Ending.{AllGathered, OneHistory, calls_in}
 use Rattle.rt_words.proofs.Lists.{of_map}
 use Rattle.rt_words.proofs.Bits.{blank, blank_long, get_or_padding, zeros}
@@ -78,7 +78,7 @@ line_of row v here there =
 
 -- what the first line knows at the end
 module _ (may words : List ℕ) (views : List View) (history : List Entry) (v : View)
-    (st : Standing may words views history v) (whole : AllGathered v.made v.gathered) where
+    (st : HistoryStands may words views history v) (whole : AllGathered v.made v.gathered) where
   no_maker : ¬ Contains (numbers v.gathered) 255
   no_maker h = let p = of_map (λ (q : Part). q.line) 255 v.gathered h in (st.seated.parts p.0 p.1.0).other p.1.1
 
@@ -105,7 +105,7 @@ module _ (may words : List ℕ) (views : List View) (history : List Entry) (v : 
 
 -- the rule at the end tells one history of what was left
 pub ends : (may words bits : List ℕ) (slots : List (Unit {0})) (id : ℕ) (v : View) (row : Row) (here there : ℕ) → id ≡ 0
-    → Final (Seen (Kept may) id v) words slots → bits ≡ padded_words words → AllGathered v.made v.gathered
+    → Final (Seen (HasHistory may) id v) words slots → bits ≡ padded_words words → AllGathered v.made v.gathered
     → OneHistory (line_of row v here there) bits
 ends may words bits slots id v row here there first f is whole =
     let s = f.0 in

@@ -12,7 +12,7 @@ use Rattle.rt_words.specs.declared.call.Call.TheVariants.{Latch}
 use Rattle.rt_words.specs.declared.view.View.{View}
 use Rattle.rt_words.specs.Object.{IsPending}
 use Rattle.rt_words.specs.History.{Entry}
-use Rattle.rt_words.specs.Inside.Rule.{IsRow, padded_words, Kept}
+use Rattle.rt_words.specs.Inside.Rule.{IsRow, padded_words, HasHistory}
 use Rattle.rt_words.specs.Inside.Seats.{Seat, IsLive}
 use Rattle.rt_words.specs.Inside.Steps.{view_after_call, latch_step, glance_step}
 use Rattle.rt_words.proofs.Bits.{blank, zero_padding, zero_below, zero_pending, get_or_padding, bit_of_word}
@@ -35,7 +35,7 @@ zero_padded words k = zero_padding words (32 - length words) k ∙ ap (λ (n : �
 
 -- what the words, a seat and its caller get where a step of it leaves a word as 0
 module _ (may : List ℕ) (slots k id : ℕ) (me : Seat) (live : IsLive id me.0) (s : State (Unit {0}) View)
-    (kept : Kept may s) (at : get_elem? s.views id ≡ some me.0) where
+    (kept : HasHistory may s) (at : get_elem? s.views id ≡ some me.0) where
   abbrev found : ℕ
   found = get_or s.words k 0
 
@@ -45,7 +45,7 @@ module _ (may : List ℕ) (slots k id : ℕ) (me : Seat) (live : IsLive id me.0)
   abbrev after_it : View
   after_it = view_after_call me.0 more (Latch k found)
 
-  keeps_rule : Kept may (stepped s k 0 id me.1 after_it keeps)
+  keeps_rule : HasHistory may (stepped s k 0 id me.1 after_it keeps)
   keeps_rule =
       let st = kept.2 in
       let goes_on =
@@ -67,30 +67,30 @@ module _ (may : List ℕ) (slots k id : ℕ) (me : Seat) (live : IsLive id me.0)
 
 -- a step of a line that sets a word to 0
 pub latches : (may : List ℕ) (slots id k : ℕ) (me : Seat) → IsLive id me.0
-    → Allows (Kept may) slots id me k (λ n. bit_and n 0) (latch_step (step slots k 0 0 none) me)
+    → Allows (HasHistory may) slots id me k (λ n. bit_and n 0) (latch_step (step slots k 0 0 none) me)
 latches may slots id k me live s kept homes at small = (
   after_it may slots k id me live s kept at,
   keeps,
   tt,
-  subst (λ (z : ℕ). Kept may (stepped s k z id me.1 (after_it may slots k id me live s kept at) keeps))
+  subst (λ (z : ℕ). HasHistory may (stepped s k z id me.1 (after_it may slots k id me live s kept at) keeps))
       (sym (and_zero_r (get_or s.words k 0))) (keeps_rule may slots k id me live s kept at),
   tells may slots k id me live s kept at,
 )
 
 -- a load by a line, which is a latch where it finds 0
 pub glances : (may : List ℕ) (slots id k : ℕ) (me : Seat) → IsLive id me.0
-    → Allows (Kept may) slots id me k (λ n. n) (glance_step (step slots k 0 0 none) me)
+    → Allows (HasHistory may) slots id me k (λ n. n) (glance_step (step slots k 0 0 none) me)
 glances may slots id k me live s kept homes at small = by (ℕ_discrete (get_or s.words k 0) 0)
   where
     by : Dec (get_or s.words k 0 ≡ 0) → (w : View) × (a : Act (Unit {0})) × Valid s.homes me.1 a
-        × Kept may (stepped s k (get_or s.words k 0) id me.1 w a)
+        × HasHistory may (stepped s k (get_or s.words k 0) id me.1 w a)
         × glance_step (step slots k 0 0 none) me (get_or s.words k 0) (w, carried_after me.1 a)
     by (yes none_there) =
         let w : View = after_it may slots k id me live s kept at in (
           w,
           keeps,
           tt,
-          subst (λ (z : ℕ). Kept may (stepped s k z id me.1 w keeps)) (sym none_there)
+          subst (λ (z : ℕ). HasHistory may (stepped s k z id me.1 w keeps)) (sym none_there)
               (keeps_rule may slots k id me live s kept at),
           (
             λ is. subst (λ (z : ℕ). latch_step (step slots k 0 0 none) me z (w, me.1)) is
@@ -102,7 +102,7 @@ glances may slots id k me live s kept homes at small = by (ℕ_discrete (get_or 
       me.0,
       keeps,
       tt,
-      subst (λ (x : List ℕ × List View). Kept may record { words = x.0; homes = s.homes; views = x.1 })
+      subst (λ (x : List ℕ × List View). HasHistory may record { words = x.0; homes = s.homes; views = x.1 })
           (λ i. (sym (set-get_or s.words k 0) i, sym (set_again s.views id me.0 at) i)) kept,
       (λ is. absurd (some_there is), λ other. refl),
     )

@@ -7,7 +7,7 @@ use Rattle.atomic_table.specs.Table.{step, keeps, Allows, Splits, Joins}
 use Rattle.rt_words.specs.declared.call.Call.{Call}
 use Rattle.rt_words.specs.declared.view.View.{View}
 use Rattle.rt_words.specs.History.{Entry, CallsLast, entries}
-use Rattle.rt_words.specs.Inside.Rule.{Kept}
+use Rattle.rt_words.specs.Inside.Rule.{HasHistory}
 use Rattle.rt_words.specs.Inside.Seats.{Seat}
 use Rattle.rt_words.specs.Inside.Steps.{view_after_split, view_of_new, view_after_join, spent_view, look_step}
 use Rattle.rt_words.proofs.Lists.{drop_whole}
@@ -26,7 +26,7 @@ still_last history maker = record {
 }
 
 splits_first : (may : List ℕ) (number : ℕ) (v : View) → number ≢ 255 → ¬ Contains v.made number
-    → Splits (Kept may) 0 v (view_after_split number v) (view_of_new number v)
+    → Splits (HasHistory may) 0 v (view_after_split number v) (view_of_new number v)
 splits_first may number v other new s kept at =
     let st = maker_is may s.words s.views kept.0 kept.1 v kept.2 at in
     let knows = maker_knows may kept.0 s.views v st.seated st.same_may in
@@ -50,13 +50,13 @@ splits_first may number v other new s kept at =
 
 -- the first line makes another, under a number that was not made
 pub splits : (may : List ℕ) (id number : ℕ) (v : View) → id ≡ 0 → number ≢ 255 → ¬ Contains v.made number
-    → Splits (Kept may) id v (view_after_split number v) (view_of_new number v)
+    → Splits (HasHistory may) id v (view_after_split number v) (view_of_new number v)
 splits may id number v is other new =
-    subst (λ (z : ℕ). Splits (Kept may) z v (view_after_split number v) (view_of_new number v)) (sym is)
+    subst (λ (z : ℕ). Splits (HasHistory may) z v (view_after_split number v) (view_of_new number v)) (sym is)
     (splits_first may number v other new)
 
 joins_first : (may : List ℕ) (v : View) (from : ℕ) (w : View) → w.line ≢ 255
-    → Joins (Kept may) 0 v from w (view_after_join v w) spent_view
+    → Joins (HasHistory may) 0 v from w (view_after_join v w) spent_view
 joins_first may v from w other s kept at away found =
     let st = maker_is may s.words s.views kept.0 kept.1 v kept.2 at in
     let new : View = view_after_join v w in (
@@ -80,11 +80,11 @@ joins_first may v from w other s kept at away found =
 
 -- another line's seat is joined into the first one
 pub joins : (may : List ℕ) (id : ℕ) (v : View) (from : ℕ) (w : View) → id ≡ 0 → w.line ≢ 255
-    → Joins (Kept may) id v from w (view_after_join v w) spent_view
-joins may id v from w is other = subst (λ (z : ℕ). Joins (Kept may) z v from w (view_after_join v w) spent_view)
+    → Joins (HasHistory may) id v from w (view_after_join v w) spent_view
+joins may id v from w is other = subst (λ (z : ℕ). Joins (HasHistory may) z v from w (view_after_join v w) spent_view)
     (sym is) (joins_first may v from w other)
 
-looks_first : (may : List ℕ) (slots : ℕ) (me : Seat) → Allows (Kept may) slots 0 me 0 (λ n. n)
+looks_first : (may : List ℕ) (slots : ℕ) (me : Seat) → Allows (HasHistory may) slots 0 me 0 (λ n. n)
     (look_step (step slots 0 0 0 none) me)
 looks_first may slots me s kept homes at small =
     let st = maker_is may s.words s.views kept.0 kept.1 me.0 kept.2 at in
@@ -92,7 +92,7 @@ looks_first may slots me s kept homes at small =
       w,
       keeps,
       tt,
-      subst (λ (ws : List ℕ). Kept may record { words = ws; homes = s.homes; views = set s.views 0 w })
+      subst (λ (ws : List ℕ). HasHistory may record { words = ws; homes = s.homes; views = set s.views 0 w })
           (sym (set-get_or s.words 0 0)) (
             kept.0,
             w,
@@ -118,7 +118,7 @@ looks_first may slots me s kept homes at small =
     )
 
 -- the first seat looks
-pub looks : (may : List ℕ) (slots id : ℕ) (me : Seat) → id ≡ 0 → Allows (Kept may) slots id me 0 (λ n. n)
+pub looks : (may : List ℕ) (slots id : ℕ) (me : Seat) → id ≡ 0 → Allows (HasHistory may) slots id me 0 (λ n. n)
     (look_step (step slots 0 0 0 none) me)
-looks may slots id me is = subst (λ (z : ℕ). Allows (Kept may) slots z me 0 (λ n. n)
+looks may slots id me is = subst (λ (z : ℕ). Allows (HasHistory may) slots z me 0 (λ n. n)
     (look_step (step slots 0 0 0 none) me)) (sym is) (looks_first may slots me)

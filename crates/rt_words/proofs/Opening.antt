@@ -9,7 +9,7 @@ use mathlib.Core.Option.{some, some-injective, some-ne-none}
 use lib.ListN.{get_elem?}
 use Rattle.rt_words.specs.declared.view.View.{View}
 use Rattle.rt_words.specs.Object.{IsPending, pending_bit}
-use Rattle.rt_words.specs.Inside.Rule.{IsRow, padded_words, Standing}
+use Rattle.rt_words.specs.Inside.Rule.{IsRow, padded_words, HistoryStands}
 use Rattle.rt_words.specs.Inside.Seats.{Seated}
 use Rattle.rt_words.specs.Inside.Steps.{newcomer}
 use Rattle.rt_words.proofs.Bits.{blank, blank_long, zeros}
@@ -48,8 +48,9 @@ new_seated may = record {
     none_else (suc seat) v at other = some-ne-none v (sym at)
 
 pub opens : (may words : List ℕ) (n : ℕ) → words ≡ blank n → n ≤ 32 → ((bit : ℕ) → IsPending may bit → bit < 32 * n)
-    → Standing may words (newcomer may ∷ []) [] (newcomer may)
-opens may words n is l covers = subst (λ (ws : List ℕ). Standing may ws (newcomer may ∷ []) [] (newcomer may)) (sym is)
+    → HistoryStands may words (newcomer may ∷ []) [] (newcomer may)
+opens may words n is l covers =
+    subst (λ (ws : List ℕ). HistoryStands may ws (newcomer may ∷ []) [] (newcomer may)) (sym is)
     record {
       row = blank_row may n l covers;
       legal = blank_padded n l;

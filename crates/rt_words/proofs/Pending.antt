@@ -16,9 +16,9 @@ use Rattle.rt_words.specs.declared.call.Call.TheVariants.{Pend}
 use Rattle.rt_words.specs.declared.view.View.{View}
 use Rattle.rt_words.specs.Object.{IsPending, IsAnswered, after}
 use Rattle.rt_words.specs.History.{Entry}
-use Rattle.rt_words.specs.Inside.Rule.{IsRow, padded_words, Kept}
+use Rattle.rt_words.specs.Inside.Rule.{IsRow, padded_words, HasHistory}
 use Rattle.rt_words.specs.Inside.Seats.{Seat, IsLive}
-use Rattle.rt_words.specs.Inside.Steps.{view_after_call, Extends, answer_at, pend_step}
+use Rattle.rt_words.specs.Inside.Steps.{view_after_call, ExtendsByCall, answer_at, pend_step}
 use Rattle.rt_words.proofs.Bits.{blank, set_padding, get_or_padding, with_bit, pend_other}
 use Rattle.rt_words.proofs.Histories.{entry}
 use Rattle.rt_words.proofs.Seeing.{extends}
@@ -89,7 +89,7 @@ pend_padded words irq a l =
 
 -- a step of a line that sets a bit
 pub pends : (may : List ℕ) (slots id irq : ℕ) (me : Seat) → IsLive id me.0 → IsPending may irq
-    → Allows (Kept may) slots id me (irq / 32) (λ n. bit_or n (2 ^ (irq % 32)))
+    → Allows (HasHistory may) slots id me (irq / 32) (λ n. bit_or n (2 ^ (irq % 32)))
     (pend_step (step slots (irq / 32) (2 ^ (irq % 32)) 0 none) me)
 pends may slots id irq me live may_be s kept homes at small =
     let st = kept.2 in
@@ -114,7 +114,7 @@ pends may slots id irq me live may_be s kept homes at small =
             let same : c ≡ Pend (32 * (irq / 32) + bit) (answer_at n bit) =
             ap (λ (x : ℕ × ℕ). Pend x.0 (answer_at n x.1)) (λ i. (whole i, is i)) in (
               ap (λ (x : Call). (view_after_call me.0 more x, me.1)) same,
-              subst (λ (x : Call). Extends me.0.seen me.0.line x more) same
+              subst (λ (x : Call). ExtendsByCall me.0.seen me.0.line x more) same
                   (extends me.0.seen kept.0 me.0.line c (st.seen id me.0 at)),
             ),
       ),
@@ -123,11 +123,12 @@ pends may slots id irq me live may_be s kept homes at small =
 -- the same, at the word and the operand of the code
 pub pends_as : (may : List ℕ) (slots id irq word mask : ℕ) (me : Seat) → word ≡ irq / 32 → mask ≡ 2 ^ (irq % 32)
     → IsLive id me.0 → IsPending may irq
-    → Allows (Kept may) slots id me word (λ n. bit_or n mask) (pend_step (step slots word mask 0 none) me)
+    → Allows (HasHistory may) slots id me word (λ n. bit_or n mask) (pend_step (step slots word mask 0 none) me)
 pends_as may slots id irq word mask me w m live may_be =
-    subst (λ (x : ℕ). Allows (Kept may) slots id me x (λ n. bit_or n mask) (pend_step (step slots x mask 0 none) me))
+    subst (λ (x : ℕ). Allows (HasHistory may) slots id me x (λ n. bit_or n mask)
+    (pend_step (step slots x mask 0 none) me))
     (sym w)
-    (subst (λ (y : ℕ). Allows (Kept may) slots id me (irq / 32) (λ n. bit_or n y)
+    (subst (λ (y : ℕ). Allows (HasHistory may) slots id me (irq / 32) (λ n. bit_or n y)
     (pend_step (step slots (irq / 32) y 0 none) me)) (sym m) (pends may slots id irq me live may_be))
 
 -- the answer, by the test of the bit

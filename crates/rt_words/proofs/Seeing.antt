@@ -6,7 +6,7 @@ use Rattle.rt_words.specs.declared.view.View.{View}
 use Rattle.rt_words.specs.declared.call.Call.{Call}
 use Rattle.rt_words.specs.History.{Entry}
 use Rattle.rt_words.specs.Inside.Seats.{HaveSeen}
-use Rattle.rt_words.specs.Inside.Steps.{Extends}
+use Rattle.rt_words.specs.Inside.Steps.{ExtendsByCall}
 use Rattle.rt_words.proofs.Lists.{at_push}
 use Rattle.rt_words.proofs.Histories.{entry}
 
@@ -42,5 +42,5 @@ seen_push history views w all here seat u at =
 
 -- the history with a call more goes on behind what was seen
 pub extends : (seen history : List Entry) (line : ℕ) (c : Call) → IsPrefix seen history
-    → Extends seen line c (history ++ entry line c ∷ [])
+    → ExtendsByCall seen line c (history ++ entry line c ∷ [])
 extends seen history line c p = (p.0, ap (λ (t : List Entry). t ++ entry line c ∷ []) (sym p.1))

@@ -10,8 +10,8 @@ pub record Row : Type 0 where
   pub may : List ℕ
 
 -- how many words they are
-abbrev pub count : Row → ℕ
-count row = row.table.words
+abbrev pub word_count : Row → ℕ
+word_count row = row.table.words
 
 -- A line: its words, its number, the core whose words it latches, the core whose interrupts it pends, and its calls
 -- with the answers that it got. Of the first line, whose number is 255, also the numbers of the lines that it made,

@@ -7,7 +7,7 @@ ghost use Rattle.atomic_table.specs.Table.{step};
 ghost use Rattle.rt_words.specs.Row.{bit_in_row, word_in_row};
 ghost use Rattle.rt_words.specs.Object.{IsPending};
 ghost use Rattle.rt_words.specs.Account.{IsTally};
-ghost use Rattle.rt_words.specs.Lines.{count, new_line, numbers};
+ghost use Rattle.rt_words.specs.Lines.{word_count, new_line, numbers};
 ghost use Rattle.rt_words.specs.Inside.Seats.{IsLive};
 ghost use Rattle.rt_words.specs.Inside.Steps.{latch_step, view_after_split, view_of_new};
 ghost use Rattle.rt_words.specs.declared.call.Call.{Call};
@@ -76,7 +76,7 @@ fn split_off<N: Numbered>(words: &Words, seat: &mut Seat<(), View>, number: u8) 
 fn latch_word(words: &Words, seat: &mut Seat<(), View>, word: usize) -> u64
     requires table { seat.old.table_id ≡ words.now.table }
     requires live { IsLive seat.old.id seat.old.me.0 }
-    requires word { word < count words.now }
+    requires word { word < word_count words.now }
     ensures id { seat.new.id ≡ seat.old.id }
     ensures table { seat.new.table_id ≡ seat.old.table_id }
     ensures latched { latch_step (step 0 word 0 0 none) seat.old.me result seat.new.me }
@@ -130,7 +130,7 @@ impl Line {
         requires words { self.old.words ≡ words.now }
         requires room { length self.old.calls < 2 ^ 32 - 1 }
         requires core { k < CORE_WORDS }
-        requires word { word_in_row self.old.here k < count words.now }
+        requires word { word_in_row self.old.here k < word_count words.now }
         ensures call { self.new
             ≡ record self.old { calls = self.old.calls ++ Call.Latch (word_in_row self.old.here k) result ∷ [] } }
         ensures may { (bit : ℕ) → bit < 32 → bit_at result bit ≡ 1

@@ -6,10 +6,10 @@ use std::marker::{Brand, PhantomData};
 pub(crate) struct Law;
 
 impl TableRule<(), View, [u32; 32]> for Law {
-    ghost use Rattle.rt_words.specs.Inside.Rule.{Kept};
+    ghost use Rattle.rt_words.specs.Inside.Rule.{HasHistory};
     ghost use Rattle.rt_words.specs.Inside.Steps.{newcomer};
 
-    ghost holds = { Kept };
+    ghost holds = { HasHistory };
 
     ghost first = { newcomer };
 }

@@ -7,7 +7,7 @@ ghost use Rattle.rt_words.specs.Object.{IsPending};
 ghost use Rattle.rt_words.specs.Account.{IsTally};
 ghost use Rattle.rt_words.specs.Inside.Rule.{padded_words};
 ghost use Rattle.rt_words.specs.Ending.{AllGathered, OneHistory};
-ghost use Rattle.rt_words.specs.Lines.{count, new_line};
+ghost use Rattle.rt_words.specs.Lines.{word_count, new_line};
 ghost use Rattle.rt_words.specs.declared.row.TheConstants.{ROW_WORDS};
 
 use crate::line::Line;
@@ -39,13 +39,13 @@ pub struct Words {
 
 impl Model for Words {
     ghost use Rattle.rt_words.specs.Lines.{Row};
-    ghost use Rattle.rt_words.specs.Inside.Fields.{IsSound};
+    ghost use Rattle.rt_words.specs.Inside.Fields.{IsSoundRow};
 
     ghost Value = { Row };
 
     ghost view = { λ w. record { table = w.table.shared.table_id; may = w.table.shared.key } };
 
-    ghost invariant = { λ w. IsSound w.table.shared.table_id w.table.shared.key };
+    ghost invariant = { λ w. IsSoundRow w.table.shared.table_id w.table.shared.key };
 }
 
 impl Words {
@@ -62,7 +62,7 @@ impl Words {
         requires covered { (bit : ℕ) → IsPending may bit → bit < 32 * words }
         requires in_range { (bit : ℕ) → IsPending may bit → bit % 512 < IRQ_NUMBERS }
         requires far { there < 2 }
-        ensures words { IfOk result (λ r. (count r.0 ≡ words) × (r.0.may ≡ may)) }
+        ensures words { IfOk result (λ r. (word_count r.0 ≡ words) × (r.0.may ≡ may)) }
         ensures line { IfOk result (λ r. r.1 ≡ new_line r.0 255 0 there) }
     {
         let zeros = [0u64; 32];
@@ -84,7 +84,7 @@ impl Words {
         requires gathered { AllGathered line.made line.gathered }
         ensures history { OneHistory line result.bits }
         ensures own { IsTally line.here line.there line.calls result.own }
-        ensures behind { (k : ℕ) → count self ≤ k → slice_index result.bits k ≡ 0 }
+        ensures behind { (k : ℕ) → word_count self ≤ k → slice_index result.bits k ≡ 0 }
     {
         let Words { table } = self;
         let Line {

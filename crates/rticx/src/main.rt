@@ -15,7 +15,7 @@ ghost use Rattle.rt_outside.specs.Bytes.{given_since, Took, TookPrefix};
 ghost use Rattle.rt_top.specs.Words.{texts};
 ghost use Rattle.rt_top.specs.Defined.{inputs, IsAnswer};
 ghost use Rattle.rt_topx.specs.declared.command.Command.{Command};
-ghost use Rattle.rt_topx.specs.Words.{IsCommand, Names, usage_line};
+ghost use Rattle.rt_topx.specs.Words.{IsCommand, NamesCommand, usage_line};
 ghost use Rattle.rt_topx.specs.Defined.{IsDue, WroteAll};
 
 use rt_files::{Inputs, exit_code, own_words};
@@ -59,7 +59,7 @@ fn conduct<R: Threads + Sync + Files + Print>(
     out: &mut OutSink<'_, R>,
 ) -> ExitCode
     // With an answer as the exit status, all that is defined for those bytes was written, and nothing else.
-    ensures answered { (c : Command) (status : Status) → Names (texts words.now) c →
+    ensures answered { (c : Command) (status : Status) → NamesCommand (texts words.now) c →
         process.exit_status result ≡ number.exit_status status → IsAnswer status →
         let t = inputs (given_since files.old.first.past files.new.first.past)
         (given_since files.old.second.past files.new.second.past)
@@ -67,7 +67,7 @@ fn conduct<R: Threads + Sync + Files + Print>(
         WroteAll c t status out.old.taken out.new.taken }
 
     // Where no opening, read or write failed, it is the one that is due, or that of want of memory.
-    ensures complete { (c : Command) (due : Status) → Names (texts words.now) c →
+    ensures complete { (c : Command) (due : Status) → NamesCommand (texts words.now) c →
         let t = inputs (given_since files.old.first.past files.new.first.past)
         (given_since files.old.second.past files.new.second.past)
         (given_since files.old.third.past files.new.third.past) in

@@ -8,11 +8,11 @@ use std::alloc::Global;
 #[derive(Drop)]
 pub struct Case {
     name: String,
-    parts: Vec<Part>,
+    parts: Vec<CasePart>,
 }
 
 #[derive(Drop)]
-struct Part {
+struct CasePart {
     name: String,
     text: Vec<u8>,
 }
@@ -45,14 +45,14 @@ impl Case {
 }
 
 /// The index of the part of a name, which is made where there is none.
-fn index_of(alloc: Global, parts: &mut Vec<Part>, name: &str) -> Result<usize, Unread> {
+fn index_of(alloc: Global, parts: &mut Vec<CasePart>, name: &str) -> Result<usize, Unread> {
     for (index, part) in parts.iter().enumerate() {
         if part.name.as_str() == name {
             return Ok(index);
         }
     }
     let index = parts.len();
-    parts.push(Part {
+    parts.push(CasePart {
         name: String::from_str(alloc, name)?,
         text: Vec::new(alloc),
     })?;
@@ -62,7 +62,7 @@ fn index_of(alloc: Global, parts: &mut Vec<Part>, name: &str) -> Result<usize, U
 /// Appends a piece to the part of a name.
 fn extend(
     alloc: Global,
-    parts: &mut Vec<Part>,
+    parts: &mut Vec<CasePart>,
     name: &str,
     piece: Piece<'_>,
 ) -> Result<(), Unread> {

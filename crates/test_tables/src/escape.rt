@@ -4,7 +4,7 @@ use std::alloc::{AllocError, Global};
 
 /// How far an escape has been read.
 #[derive(Clone, Copy)]
-enum State {
+enum EscapeState {
     Plain,
     /// Behind a `\`.
     Escape,
@@ -34,35 +34,35 @@ fn push_escaped(
     out: &mut Vec<u8>,
     byte: u8,
     copy: u32,
-) -> Result<State, AllocError> {
+) -> Result<EscapeState, AllocError> {
     match byte {
         b'n' => out.push(b'\n')?,
         b't' => out.push(b'\t')?,
         b'r' => out.push(b'\r')?,
-        b'x' => return Ok(State::High),
+        b'x' => return Ok(EscapeState::High),
         b'#' => push_number(alloc, out, copy)?,
         b'+' => push_number(alloc, out, copy.saturating_add(1))?,
         other => out.push(other)?,
     }
-    Ok(State::Plain)
+    Ok(EscapeState::Plain)
 }
 
 /// Takes one byte more of a text.
 fn push_next(
     alloc: Global,
     out: &mut Vec<u8>,
-    state: State,
+    state: EscapeState,
     byte: u8,
     copy: u32,
-) -> Result<State, AllocError> {
+) -> Result<EscapeState, AllocError> {
     match (state, byte) {
-        (State::Plain, b'\\') => return Ok(State::Escape),
-        (State::Plain, _) => out.push(byte)?,
-        (State::Escape, _) => return push_escaped(alloc, out, byte, copy),
-        (State::High, _) => return Ok(State::Low(digit(byte).unwrap_or(0))),
-        (State::Low(high), _) => out.push((high << 4) | digit(byte).unwrap_or(0))?,
+        (EscapeState::Plain, b'\\') => return Ok(EscapeState::Escape),
+        (EscapeState::Plain, _) => out.push(byte)?,
+        (EscapeState::Escape, _) => return push_escaped(alloc, out, byte, copy),
+        (EscapeState::High, _) => return Ok(EscapeState::Low(digit(byte).unwrap_or(0))),
+        (EscapeState::Low(high), _) => out.push((high << 4) | digit(byte).unwrap_or(0))?,
     }
-    Ok(State::Plain)
+    Ok(EscapeState::Plain)
 }
 
 /// Appends the copy of this number of a text with escapes.
@@ -72,7 +72,7 @@ pub(crate) fn push_text(
     text: &str,
     copy: u32,
 ) -> Result<(), AllocError> {
-    let mut state = State::Plain;
+    let mut state = EscapeState::Plain;
     for byte in text.bytes() {
         state = push_next(alloc, out, state, byte, copy)?;
     }

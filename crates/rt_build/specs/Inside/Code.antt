@@ -23,29 +23,29 @@ use Rattle.rt_gen_timer.specs.TimerCode.{timer_code}
 use Rattle.rt_build.specs.Entries.{Entries}
 use Rattle.rt_build.specs.Image.{IdleStands}
 use Rattle.rt_build.specs.Built.{part_code}
-use Rattle.rt_build.specs.Order.{Part, OfBody, OfLevel, task_parts, fixed_parts, free_parts, IsPart, AreAbutting}
+use Rattle.rt_build.specs.Order.{CodePart, OfBody, OfLevel, task_parts, fixed_parts, free_parts, IsPart, AreAbutting}
 use Rattle.rt_build.specs.Order.{code_size}
 use Rattle.rt_build.specs.declared.code.Code.{Code}
-use Rattle.rt_build.specs.declared.code.Kind.{Kind}
-use Rattle.rt_build.specs.declared.code.Kind.TheVariants.{Hardware, Software}
+use Rattle.rt_build.specs.declared.code.TaskKind.{TaskKind}
+use Rattle.rt_build.specs.declared.code.TaskKind.TheVariants.{Hardware, Software}
 
 -- code that begins with what was there before
-abbrev pub IsKept : List Line → List Line → Type 0
-IsKept before after = take (length before) after ≡ before
+abbrev pub KeepsCode : List Line → List Line → Type 0
+KeepsCode before after = take (length before) after ≡ before
 
 -- so many lines at most were put after code, and they name only what is declared
 pub record Adds (app : App) (size : ℕ) (before after : List Line) : Type 0 where
-  pub kept : IsKept before after
+  pub kept : KeepsCode before after
   pub named : AllByRecursion (IsNameable (names_of app)) (drop (length before) after)
   pub short : length after ≤ length before + size
 
 -- a part as it is put: it is one of the order, and its lines are determined
-pub record IsPut (app : App) (at : Entries) (part : Part) (from : ℕ) (lines : List Line) : Type 0 where
+pub record IsPut (app : App) (at : Entries) (part : CodePart) (from : ℕ) (lines : List Line) : Type 0 where
   pub is : IsPart app at part from lines
   pub are : lines ≡ part_code app part from
 
 -- after code these parts were put, which begin where these entries say
-abbrev pub AddsParts : App → Entries → List Part → List Line → List Line → Type 0
+abbrev pub AddsParts : App → Entries → List CodePart → List Line → List Line → Type 0
 AddsParts app at parts before after = AreAbutting (IsPut app at) (length before) parts (drop (length before) after)
 
 -- the code is the parts of the application, those whose order is free in this one
@@ -53,12 +53,12 @@ abbrev pub HasParts : App → Entries → List Line → Type 0
 HasParts app at code = AreAbutting (IsPut app at) 0 (fixed_parts app ++ free_parts app) code
 
 -- whether a task is of a kind: one that binds an interrupt, or one that does not
-abbrev pub is_of_kind : Kind → Task → Bool
+abbrev pub is_of_kind : TaskKind → Task → Bool
 is_of_kind Hardware t = not (is_software t)
 is_of_kind Software t = is_software t
 
 -- the greatest size of the body of a task, if the task is of a kind, else 0
-abbrev pub kind_size : App → Kind → Task → ℕ
+abbrev pub kind_size : App → TaskKind → Task → ℕ
 kind_size app kind t = if is_of_kind kind t then body_cost (size_measure app) t.body else 0
 
 -- the code of the dispatcher of a level is at an address
@@ -78,13 +78,13 @@ module _ (app : App) (lines : List Line) where
     pub idle : (more : List Line) (bodies : List BodyRow) → IdleStands app (lines ++ more) bodies entry app.idle
 
   -- the code of the tasks of a kind below a number stands, from these addresses on
-  abbrev pub HasTasksBelow : ℕ → Kind → List ℕ → Type 0
+  abbrev pub HasTasksBelow : ℕ → TaskKind → List ℕ → Type 0
   HasTasksBelow count kind entries =
       (n : ℕ) → n < count → (t : Task) → slice_get app.tasks n ≡ Some t → is_of_kind kind t ≡ true
       → (more : List Line) → DeclaredStands app n (lines ++ more) (slice_index entries n)
 
   -- the code of all tasks of a kind stands, from these addresses on
-  abbrev pub HasTasks : Kind → List ℕ → Type 0
+  abbrev pub HasTasks : TaskKind → List ℕ → Type 0
   HasTasks kind entries = HasTasksBelow (length entries) kind entries
 
   -- the code of the dispatchers is at these addresses, by rising level
@@ -100,7 +100,8 @@ module _ (app : App) (lines : List Line) where
 
 -- The entries differ from earlier ones in that of the task of a number at most, and only if the task is of a kind; then
 -- its code stands there.
-pub record TellsTask (app : App) (kind : Kind) (n : ℕ) (t : Task) (before after : List ℕ) (lines : List Line) : Type 0
+pub record TellsTask (app : App) (kind : TaskKind) (n : ℕ) (t : Task) (before after : List ℕ)
+    (lines : List Line) : Type 0
   where
     pub long : length after ≡ length before
     pub stands : is_of_kind kind t ≡ true → (more : List Line)
@@ -109,17 +110,17 @@ pub record TellsTask (app : App) (kind : Kind) (n : ℕ) (t : Task) (before afte
     pub others : (k : ℕ) → k ≢ n → slice_index after k ≡ slice_index before k
 
 -- the part that the code of a task adds, if the task is of a kind
-abbrev pub part_of_kind : Kind → ℕ → Task → List Part
+abbrev pub part_of_kind : TaskKind → ℕ → Task → List CodePart
 part_of_kind kind n t = if is_of_kind kind t then OfBody (body.Task n) ∷ [] else []
 
 -- after code a task was put, if it is of a kind, and it begins at the address of its number
-abbrev pub AddsTask : App → Kind → ℕ → Task → List ℕ → List Line → List Line → Type 0
+abbrev pub AddsTask : App → TaskKind → ℕ → Task → List ℕ → List Line → List Line → Type 0
 AddsTask app kind n t entries before after =
     (at : Entries) → (is_of_kind kind t ≡ true → at.task n ≡ slice_index entries n)
     → AddsParts app at (part_of_kind kind n t) before after
 
 -- after code the tasks of a kind below a number were put, which begin at these addresses
-abbrev pub AddsTasksBelow : App → ℕ → Kind → List ℕ → List Line → List Line → Type 0
+abbrev pub AddsTasksBelow : App → ℕ → TaskKind → List ℕ → List Line → List Line → Type 0
 AddsTasksBelow app count kind entries before after =
     (at : Entries)
     → ((n : ℕ) → n < count → (t : Task) → slice_get app.tasks n ≡ Some t → is_of_kind kind t ≡ true
@@ -127,7 +128,7 @@ AddsTasksBelow app count kind entries before after =
     → AddsParts app at (task_parts (is_of_kind kind) 0 (take count app.tasks)) before after
 
 -- after code all tasks of a kind were put, which begin at these addresses
-abbrev pub AddsTasks : App → Kind → List ℕ → List Line → List Line → Type 0
+abbrev pub AddsTasks : App → TaskKind → List ℕ → List Line → List Line → Type 0
 AddsTasks app kind entries before after = AddsTasksBelow app (length app.tasks) kind entries before after
 
 -- after code the dispatchers of as many levels were put, which begin at these addresses
@@ -138,7 +139,7 @@ AddsDispatchers app entries before after =
     → AddsParts app at (map OfLevel (take (length entries) (levels app))) before after
 
 -- the entries of tasks of another kind are as they were
-pub record LeavesOthers (app : App) (kind : Kind) (before after : List ℕ) : Type 0 where
+pub record LeavesOthers (app : App) (kind : TaskKind) (before after : List ℕ) : Type 0 where
   pub long : length after ≡ length before
   pub others : (k : ℕ) (t : Task) → slice_get app.tasks k ≡ Some t → is_of_kind kind t ≡ false
       → slice_index after k ≡ slice_index before k

@@ -16,13 +16,13 @@ untimed_services app =
 
 module _ (app : App) (at : Entries) (services : List Service) where
   -- how the interrupt of this index is served, if only these are served
-  abbrev pub handler_of : ℕ → Option Handler
-  handler_of irq = option_map (handler_row app at) (slice_get (filter (λ s. s.irq == irq) services) 0)
+  abbrev pub service_handler : ℕ → Option Handler
+  service_handler irq = option_map (handler_row app at) (slice_get (filter (λ s. s.irq == irq) services) 0)
 
   -- how each declared interrupt is served
   pub record HasHandlers (table : List (Option Handler)) : Type 0 where
     pub long : length table ≡ length app.irqs
-    pub each : (irq : ℕ) → irq < length app.irqs → slice_get table irq ≡ Some (handler_of irq)
+    pub each : (irq : ℕ) → irq < length app.irqs → slice_get table irq ≡ Some (service_handler irq)
 
 -- the row of an interrupt that is served so
 abbrev pub irq_row : IrqDecl → Option Handler → IrqRow

@@ -11,9 +11,9 @@ use Rattle.rt_core.specs.Core.{Core}
 use Rattle.rt_core.specs.Outcome.{Outcome, Trapped, Done}
 
 -- what the code answers, with the core that it leaves, is this outcome
-abbrev pub Comes : Result (Option What) Trap → Core → Outcome → Type 0
-Comes (Ok shown) after outcome = outcome ≡ Done after shown
-Comes (Err trap) after outcome = outcome ≡ Trapped after trap
+abbrev pub IsOutcome : Result (Option What) Trap → Core → Outcome → Type 0
+IsOutcome (Ok shown) after outcome = outcome ≡ Done after shown
+IsOutcome (Err trap) after outcome = outcome ≡ Trapped after trap
 
 -- the effect of an instruction that answered this, and left the processor so
 abbrev pub effect_of : Processor → Result Request Trap → Effect

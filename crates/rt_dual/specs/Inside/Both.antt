@@ -7,32 +7,33 @@ use Rattle.rt_core.specs.Machine.{IsFresh, Machine}
 use Rattle.rt_ids.specs.declared.limits.TheConstants.{IRQ_NUMBERS}
 use Rattle.rt_script.specs.{declared.line.Line.Line, Script.count as length_of}
 use Rattle.rt_words.specs.Ending.{calls_in}
-use Rattle.rt_words.specs.{History.IsLegal, History.part, Lines.Line as Caller, Lines.Row, Lines.count, Lines.new_line}
+use Rattle.rt_words.specs.{History.IsLegal, History.part, Lines.Line as Caller, Lines.Row, Lines.word_count}
+use Rattle.rt_words.specs.{Lines.new_line}
 use Rattle.rt_words.specs.{declared.call.Call.Call, declared.call.Entry.Entry, declared.row.TheConstants.ROW_WORDS}
 use Rattle.rt_listing.specs.{Numbers.HasTypedNumbers, Listing.listing}
 use Rattle.rt_live.specs.{Able.CanGo, Account.account_of, Account.account_text, Account.declared_irqs}
 use Rattle.rt_live.specs.{Account.empty_row, Ready.HasBits, Ready.irqs_of, Shares.HasOwnNames, Shares.own_events}
-use Rattle.rt_live.specs.{Written.Ends, declared.account.AccountRow.AccountRow, declared.share.Share.Share}
+use Rattle.rt_live.specs.{Written.EndsByLine, declared.account.AccountRow.AccountRow, declared.share.Share.Share}
 use Rattle.rt_live.specs.{declared.share.Share.TheVariants.First, declared.share.Share.TheVariants.Second}
-use Rattle.rt_dual.specs.{Course.Place, Course.first_place, Course.second_place, Course.turns, Forwarded.forward}
-use Rattle.rt_dual.specs.{declared.making.Both.Both, declared.making.Side.Side, declared.routes.Table.Table}
+use Rattle.rt_dual.specs.{Course.CorePlace, Course.first_place, Course.second_place, Course.turns, Forwarded.forward}
+use Rattle.rt_dual.specs.{declared.making.Both.Both, declared.making.Side.Side, declared.routes.RouteTable.RouteTable}
 
 -- the text in front of the trace of a core
 abbrev pub front : List ℕ → Image → List ℕ
 front head img = head ++ listing img ++ codes "trace\n"
 
 -- where a table leads a post
-abbrev pub leads_by : Table → ℕ → Option ℕ
+abbrev pub leads_by : RouteTable → ℕ → Option ℕ
 leads_by table irq = slice_index_or table.places.items irq None
 
 -- the line of a core in this place, which has made the lines of these numbers and these calls
-abbrev pub placed_line : Place → Row → List ℕ → List Call → Caller
+abbrev pub placed_line : CorePlace → Row → List ℕ → List Call → Caller
 placed_line place row made calls =
     record (new_line row place.line place.here place.there) { made = made; calls = calls }
 
 -- What is made for a core, before its first event. Its line has made these lines and called nothing. Of its bits those
 -- of its declared interrupts are set, and the rows of its account count nothing.
-pub record IsBefore (place : Place) (made : List ℕ) (share : Share) (head : List ℕ) (row : Row) (img other : Image)
+pub record IsBefore (place : CorePlace) (made : List ℕ) (share : Share) (head : List ℕ) (row : Row) (img other : Image)
     (side : Side) : Type 0 where
   pub may : HasBits place.here row.may (declared_irqs img.names)
   pub bits : AllByRecursion (λ irq. irq < IRQ_NUMBERS) (declared_irqs img.names)
@@ -48,7 +49,7 @@ pub record IsBefore (place : Place) (made : List ℕ) (share : Share) (head : Li
 pub record AreBefore (first second : Image) (both : Both) : Type 0 where
   pub one : IsBefore first_place (254 ∷ []) First (codes "core 1\n") both.words first second both.first
   pub two : IsBefore second_place [] Second (codes "core 2\n") both.words second first both.second
-  pub many : count both.words ≡ ROW_WORDS
+  pub many : word_count both.words ≡ ROW_WORDS
 
 -- a core can do its events of a script on its side
 pub record CanRun (script : List Line) (m : Machine) (side : Side) (row : Row) : Type 0 where
@@ -57,12 +58,12 @@ pub record CanRun (script : List Line) (m : Machine) (side : Side) (row : Row) :
 
 -- a core has done its events of a script, and of its side its line and its text have changed
 pub record HasEnded (script : List Line) (m n : Machine) (old new : Side) : Type 0 where
-  pub ends : Ends (leads_by old.role.routes) (turns (own_events old.role.share script)) true old.line.value
+  pub ends : EndsByLine (leads_by old.role.routes) (turns (own_events old.role.share script)) true old.line.value
       new.line.value m n old.text.bytes.items new.text.bytes.items
   pub rows : new.rows.items ≡ old.rows.items
 
 -- what was made for a core, which has done its events since
-pub record HasRun (place : Place) (made : List ℕ) (share : Share) (head : List ℕ) (row : Row) (other : Image)
+pub record HasRun (place : CorePlace) (made : List ℕ) (share : Share) (head : List ℕ) (row : Row) (other : Image)
     (script : List Line)
     (m n : Machine) (side : Side) : Type 0 where
   pub fresh : IsFresh m

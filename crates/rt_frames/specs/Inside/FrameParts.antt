@@ -4,7 +4,8 @@ use Rattle.rt_app.specs.Tree.{Expression, Spawn, Value, Statement, Block}
 use Rattle.rt_ids.specs.Lists.{greatest}
 use Rattle.rt_app.specs.Variables.{variables_in, variables}
 use Rattle.rt_app.specs.Spawned.{value_spawns, statement_spawns, spawns}
-use Rattle.rt_app.specs.Frame.{depth, spawn_depth, value_depth, statement_depth, block_depth, is_loop, has_loop}
+use Rattle.rt_app.specs.Frame.{expression_depth, spawn_depth, value_depth, statement_depth, block_depth, is_loop}
+use Rattle.rt_app.specs.Frame.{has_loop}
 use Rattle.rt_app.specs.Frame.{statement_locks, locks, spawn_words}
 use Rattle.rt_frames.specs.declared.frame.Parts.{Parts}
 use Rattle.rt_frames.specs.Inside.Saturated.{saturated_number}
@@ -23,7 +24,7 @@ both a b = record {
 abbrev pub expression_parts : Expression → Parts
 expression_parts e = record {
   variables = 0;
-  depth = saturated_number (depth e);
+  depth = saturated_number (expression_depth e);
   has_loop = false;
   locks = 0;
   spawns = 0;

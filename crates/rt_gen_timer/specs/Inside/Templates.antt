@@ -11,8 +11,8 @@ use Rattle.rt_gen_timer.specs.declared.queue.TimerQueue.{TimerQueue}
 use Rattle.rt_gen_timer.specs.declared.slots.TheConstants.{HAND, HOLE}
 use Rattle.rt_gen_timer.specs.declared.template.Column.{Column}
 use Rattle.rt_gen_timer.specs.declared.template.Column.TheVariants as column
-use Rattle.rt_gen_timer.specs.declared.template.Part.{Part}
-use Rattle.rt_gen_timer.specs.declared.template.Part.TheVariants as part
+use Rattle.rt_gen_timer.specs.declared.template.QueuePart.{QueuePart}
+use Rattle.rt_gen_timer.specs.declared.template.QueuePart.TheVariants as part
 use Rattle.rt_gen_timer.specs.declared.template.Template.{Template}
 use Rattle.rt_gen_timer.specs.declared.template.Template.TheVariants as template
 
@@ -65,7 +65,7 @@ abbrev pub fits : Template → Bool
 fits t = list_all (λ d. nat_lt d TIMER_QUEUE_WORDS) (slots_of t)
 
 -- whether those of a part are
-abbrev pub part_fits : Part → Bool
+abbrev pub part_fits : QueuePart → Bool
 part_fits (part.Code templates at) = list_all fits templates.now
 part_fits (part.Enter threshold) = true
 part_fits (part.Leave threshold) = true
@@ -95,7 +95,7 @@ module _ (e : Emitter) where
   code_of at templates = map (λ t. plain (instr_of at t)) templates
 
   -- the lines of a part
-  abbrev pub lines_of : Part → List Line
+  abbrev pub lines_of : QueuePart → List Line
   lines_of (part.Code templates at) = code_of at templates.now
   lines_of (part.Enter threshold) = lines.enter_timer e.queue e.slot threshold ∷ []
   lines_of (part.Leave threshold) = lines.leave_timer e.queue e.slot threshold ∷ []
@@ -104,5 +104,5 @@ module _ (e : Emitter) where
   lines_of (part.Lines others) = others.now
 
   -- the lines of parts, one after the other
-  abbrev pub all_lines : List Part → List Line
+  abbrev pub all_lines : List QueuePart → List Line
   all_lines parts = flat_map lines_of parts

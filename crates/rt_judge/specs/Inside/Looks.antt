@@ -14,18 +14,18 @@ use Rattle.rt_points.specs.declared.rule.Rule.{Rule}
 use Rattle.rt_points.specs.declared.rule.TheConstants.{MOST_OPEN}
 use Rattle.rt_judge.specs.Inside.Finds.{Finds}
 use Rattle.rt_judge.specs.Inside.Visits.{Spot, point_of, spots, spots_of, AreSound}
-use Rattle.rt_judge.specs.Inside.Walks.{Reached, IsWalking, IsWalked, IsSound, reached_in}
+use Rattle.rt_judge.specs.Inside.Walks.{Reached, IsWalking, IsWalked, AllNestingsStand, reached_in}
 use Rattle.rt_judge.specs.declared.findings.Findings.{Findings}
-use Rattle.rt_judge.specs.declared.table.Table.{Table}
+use Rattle.rt_judge.specs.declared.table.NestingTable.{NestingTable}
 use Rattle.rt_judge.specs.declared.walk.Visit.{Visit}
 use Rattle.rt_judge.specs.declared.walk.Visits.{Visits}
 
 -- a walk so far, and what was found on it
-pub record IsLooking (img : Image) (owner : Owner) (starts : List Spot) (opened : List Opened) (table : Table)
+pub record IsLooking (img : Image) (owner : Owner) (starts : List Spot) (opened : List Opened) (table : NestingTable)
     (ws bs : List Visit) (old new : Findings) : Type 0 where
   pub done : List Spot
   pub walking : IsWalking img owner starts (reached_in opened table) done (spots opened ws) (spots opened bs)
-  pub sound : IsSound opened table ws bs
+  pub sound : AllNestingsStand opened table ws bs
   pub size : length table.rows.items ≡ length img.code
   pub finds : (ps : List Point) → Finds img ps old → Finds img (ps ++ map (point_of owner) done) new
 

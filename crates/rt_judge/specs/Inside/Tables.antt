@@ -3,7 +3,7 @@ use Rattle.std.specs.Prelude.{◌≡◌, ◌≢◌, ◌≤◌, ◌<◌, ℕ, zer
 use Rattle.std.specs.BTreeMap.{get}
 use Rattle.std.specs.Ordering.{nat_cmp}
 use Rattle.rt_judge.specs.declared.nesting.Nesting.{Nesting}
-use Rattle.rt_judge.specs.declared.table.Table.{Table}
+use Rattle.rt_judge.specs.declared.table.NestingTable.{NestingTable}
 
 -- the row of an address, or what is kept of it past the rows
 abbrev pub found_by : Option (Option Nesting) → Option Nesting → Option Nesting
@@ -11,7 +11,7 @@ found_by None outside = outside
 found_by (Some row) outside = row
 
 -- the nesting that a table has at an address
-abbrev pub found : Table → ℕ → Option Nesting
+abbrev pub found : NestingTable → ℕ → Option Nesting
 found table address = found_by (slice_get table.rows.items address) (get nat_cmp table.outside address)
 
 -- how many rows have nothing
@@ -21,12 +21,12 @@ empty_rows (None ∷ rows) = suc (empty_rows rows)
 empty_rows (Some nesting ∷ rows) = empty_rows rows
 
 -- a table with so many rows that has nothing
-pub record IsEmptyTable (count : ℕ) (table : Table) : Type 0 where
+pub record IsEmptyTable (count : ℕ) (table : NestingTable) : Type 0 where
   pub none : (address : ℕ) → found table address ≡ None
   pub size : length table.rows.items ≡ count
 
 -- a table with the nesting at a new address
-pub record IsPut (old new : Table) (address : ℕ) (nesting : Nesting) : Type 0 where
+pub record IsPut (old new : NestingTable) (address : ℕ) (nesting : Nesting) : Type 0 where
   pub here : found new address ≡ Some nesting
   pub others : (other : ℕ) → address ≢ other → found new other ≡ found old other
   pub size : length new.rows.items ≡ length old.rows.items

@@ -20,7 +20,7 @@ use Rattle.rt_judge.specs.Inside.Visits.{Spot, point_of, spot_of, spots, AllStan
 use Rattle.rt_judge.specs.declared.walk.Meeting.{Meeting}
 use Rattle.rt_judge.specs.declared.walk.Meeting.TheVariants.{New, Known, Ambiguous}
 use Rattle.rt_judge.specs.declared.nesting.Nesting.{Nesting}
-use Rattle.rt_judge.specs.declared.table.Table.{Table}
+use Rattle.rt_judge.specs.declared.table.NestingTable.{NestingTable}
 use Rattle.rt_judge.specs.declared.walk.Visit.{Visit}
 use Rattle.rt_judge.specs.declared.walk.Walk.{Walk}
 
@@ -120,7 +120,7 @@ pub record IsWalked (img : Image) (owner : Owner) (starts : List Spot) (reached 
       → Contains bs (spot_of q)
 
 -- what a table has, with the nestings in this list
-abbrev pub reached_in : List Opened → Table → Reached
+abbrev pub reached_in : List Opened → NestingTable → Reached
 reached_in opened table address = option_map (inside_of opened) (found table address)
 
 -- what a walk has come to
@@ -136,14 +136,14 @@ abbrev pub behind_in : Walk → List Spot
 behind_in walk = spots walk.nestings.opened.items walk.behind.items
 
 -- the nestings that a table and visits name are there
-pub record IsSound (opened : List Opened) (t : Table) (ws bs : List Visit) : Type 0 where
+pub record AllNestingsStand (opened : List Opened) (t : NestingTable) (ws bs : List Visit) : Type 0 where
   pub table : (address : ℕ) (nesting : Nesting) → found t address ≡ Some nesting → Stands opened nesting
   pub waiting : AllStand opened ws
   pub behind : AllStand opened bs
 
 -- the nestings that a walk names are there
 abbrev pub IsSoundWalk : Walk → Type 0
-IsSoundWalk walk = IsSound walk.nestings.opened.items walk.table walk.waiting.items walk.behind.items
+IsSoundWalk walk = AllNestingsStand walk.nestings.opened.items walk.table walk.waiting.items walk.behind.items
 
 -- a walk with more spots that wait and that another owner goes on with
 pub record IsFollowed (old new : Walk) (ws bs : List Spot) : Type 0 where

@@ -5,7 +5,7 @@ use Rattle.atomic_table.specs.Seated.{TableId}
 use Rattle.rt_app.specs.Tree.{App}
 use Rattle.rt_core.specs.Machine.{Machine}
 use Rattle.rt_lines.specs.Operand.{IsDeclared}
-use Rattle.rt_words.specs.Lines.{Line, Row, count}
+use Rattle.rt_words.specs.Lines.{Line, Row, word_count}
 use Rattle.rt_words.specs.Object.{IsPending}
 use Rattle.rt_words.specs.Row.{bit_in_row}
 use Rattle.rt_words.specs.declared.row.TheConstants.{CORE_WORDS}
@@ -21,7 +21,7 @@ use Rattle.rt_live_inputs.specs.Inside.Going.{CanHappen}
 pub record CanLatch (n : ℕ) (m : Machine) (line : Line) (row : Row) : Type 0 where
   pub words : line.words ≡ row
   pub here : line.here ≡ 0
-  pub many : CORE_WORDS ≤ count row
+  pub many : CORE_WORDS ≤ word_count row
   pub may : (irq : ℕ) → irq < 32 * CORE_WORDS → IsPending row.may (bit_in_row 0 irq) → MayArrive m.image.names irq
   pub room : length line.calls + 16 * n < 2 ^ 32 - 1
 

@@ -12,7 +12,7 @@ use Rattle.rt_inputs.specs.Inputs.{Comes}
 use Rattle.rt_values.specs.Sides.{TakerSide}
 use Rattle.rt_values.specs.declared.call.Call.TheVariants.{Take}
 use Rattle.rt_live_inputs.specs.declared.boxes.BoxKind.{BoxKind as Box}
-use Rattle.rt_live_inputs.specs.Looking.{Found, Turn, box_happenings, happenings_of, looks}
+use Rattle.rt_live_inputs.specs.Looking.{Found, InputTurn, box_happenings, happenings_of, looks}
 use Rattle.rt_live_inputs.specs.Inside.Going.{Goes}
 
 -- a taker that took this
@@ -63,7 +63,7 @@ pub record LooksAtBoxes (app : App) (board : Board) (boxes : List Box) (was is :
   pub goes : Goes app board (flat_map box_happenings (zip boxes waited)) was is old new before after faults faults'
 
 -- these turns were done
-pub record Turns (app : App) (board : Board) (boxes : List Box) (ts : List Turn) (was is : Bool) (line line' : Line)
+pub record Turns (app : App) (board : Board) (boxes : List Box) (ts : List InputTurn) (was is : Bool) (line line' : Line)
     (takers takers' : List TakerSide) (old new : Moment) (before after : List ℕ) (faults faults' : ℕ) : Type 0 where
   pub found : List Found
   pub many : length found ≡ looks ts

@@ -38,9 +38,9 @@ told (Ok front) = Ok (Some front)
 told (Err w) = Err (fault_of w)
 
 -- the same, where a line feed ends the line
-abbrev pub step : Option Front → Option (List ℕ) → Result (Option Front) Fault
-step s None = Err Form
-step s (Some line) = told (take s line)
+abbrev pub reader_step : Option Front → Option (List ℕ) → Result (Option Front) Fault
+reader_step s None = Err Form
+reader_step s (Some line) = told (take s line)
 
 -- no line is missing
 abbrev pub is_whole : Option Front → Bool
@@ -52,7 +52,7 @@ listing_reader = record {
   most = IMAGE_BYTES;
   lines = fed_lines;
   start = None;
-  step = λ s line. step s (ended (parts 10 line));
+  step = λ s line. reader_step s (ended (parts 10 line));
   missing = λ s. if is_whole s then None else Some Form;
 }
 

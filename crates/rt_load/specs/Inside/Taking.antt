@@ -3,7 +3,7 @@ use Rattle.std.specs.Prelude.{ℕ, ◌^◌, ◌==◌, ◌&&◌, ◌||◌, nat_le
 use Rattle.std.specs.Prelude.{codes, List, [], ◌∷◌, ◌++◌, length, is_none, Option, Result, Ok, Err}
 use Rattle.std.specs.List.{list_any}
 use Rattle.rt_ids.specs.Lists.{is_empty}
-use Rattle.rt_ids.specs.Names.{Names, irq_of, task_of, resource_of, no_names, with_irq, with_task, with_resource}
+use Rattle.rt_ids.specs.Names.{Names, irq_of, task_index, resource_of, no_names, with_irq, with_task, with_resource}
 use Rattle.rt_ids.specs.Word.{is_identifier, is_word}
 use Rattle.rt_ids.specs.declared.cell.CellRow.{CellRow}
 use Rattle.rt_ids.specs.declared.limits.TheConstants.{IRQS, TASKS, SHARED, NAME_BYTES, CODE_SIZE, LEAST_BITS}
@@ -105,7 +105,7 @@ may_add_irq front name =
 
 -- a task more may be declared by this name
 abbrev pub is_new_task : Names → List ℕ → Bool
-is_new_task names name = may_declare name && is_none (task_of names name) && nat_lt (length names.tasks) TASKS
+is_new_task names name = may_declare name && is_none (task_index names name) && nat_lt (length names.tasks) TASKS
 
 -- a body of a task of this name may come next
 abbrev pub may_add_body : Front → List ℕ → Bool

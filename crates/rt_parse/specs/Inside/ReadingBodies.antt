@@ -8,7 +8,7 @@ use Rattle.rt_ast.specs.Tree.{Body, Task, Block}
 use Rattle.rt_grammar.specs.Limits.{at_most}
 use Rattle.rt_grammar.specs.Simple.{Counted}
 use Rattle.rt_grammar.specs.Options.{Owner, OfTask, Options}
-use Rattle.rt_grammar.specs.Bodies.{body_of}
+use Rattle.rt_grammar.specs.Bodies.{body_with}
 use Rattle.rt_parse.specs.Inside.Reading.{Reader, ◌>>=◌, begins_with, repeat_at, limited_word_at, word_at, sign_at}
 use Rattle.rt_parse.specs.Inside.Reading.{limited_name_at, name_at}
 use Rattle.rt_parse.specs.Inside.ReadingStatement.{block_at}
@@ -24,7 +24,7 @@ thread_at owner text tokens = do
   at ← word_at text tokens
   o ← options_at owner at.1
   b ← body_block_at o.1
-  Ok (Some (body_of o.0 b.0.0 at.0), b.1)
+  Ok (Some (body_with o.0 b.0.0 at.0), b.1)
 
 -- `init` or `idle`, if its word comes next
 unfoldable pub thread_body_at : Owner → List ℕ → Reader (Option Body)
@@ -65,7 +65,7 @@ task_is name o args block =
       priority = o.priority;
       capacity = o.capacity;
       args = args;
-      body = body_of o block name.at;
+      body = body_with o block name.at;
     }
 
 -- a task's arguments and its block, after its options

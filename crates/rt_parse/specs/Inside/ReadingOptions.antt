@@ -72,20 +72,20 @@ local_list_at o tokens = do
   Ok (record o { local = Some xs.0 }, xs.1)
 
 -- whether an option may come here, and comes next
-abbrev pub takes : Bool → List ℕ → Token → Bool
-takes allowed text t = allowed && is_this_word text t
+abbrev pub option_comes : Bool → List ℕ → Token → Bool
+option_comes allowed text t = allowed && is_this_word text t
 
 -- one more option, after these
 unfoldable pub option_at : Owner → Options → Reader Options
 option_at owner o tokens =
-    if begins_with (takes (is_task owner && is_none o.binds) (codes "binds")) tokens then binds_at o tokens
-    else if begins_with (takes (is_task owner && is_none o.priority) (codes "priority")) tokens
+    if begins_with (option_comes (is_task owner && is_none o.binds) (codes "binds")) tokens then binds_at o tokens
+    else if begins_with (option_comes (is_task owner && is_none o.priority) (codes "priority")) tokens
     then priority_at o tokens
-    else if begins_with (takes (is_task owner && is_none o.capacity) (codes "capacity")) tokens
+    else if begins_with (option_comes (is_task owner && is_none o.capacity) (codes "capacity")) tokens
     then capacity_at o tokens
-    else if begins_with (takes (not (is_init owner) && is_none o.shared) (codes "shared")) tokens
+    else if begins_with (option_comes (not (is_init owner) && is_none o.shared) (codes "shared")) tokens
     then shared_list_at o tokens
-    else if begins_with (takes (is_none o.local) (codes "local")) tokens then local_list_at o tokens
+    else if begins_with (option_comes (is_none o.local) (codes "local")) tokens then local_list_at o tokens
     else Err (fault_found_at tokens)
 
 -- the options from their parenthesis on

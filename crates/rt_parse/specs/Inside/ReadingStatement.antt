@@ -5,7 +5,7 @@ use Rattle.rt_ids.specs.declared.limit.Limit.TheVariants as limit
 use Rattle.rt_lex.specs.Token.{Token, is_this_word, is_this_sign}
 use Rattle.rt_ast.specs.Tree.{Statement, Block}
 use Rattle.rt_grammar.specs.Simple.{Counted}
-use Rattle.rt_grammar.specs.Statement.{block_of}
+use Rattle.rt_grammar.specs.Statement.{joined_block}
 use Rattle.rt_parse.specs.Inside.Reading.{Reader, ◌>>=◌, begins_with, fault_found_at, repeat_at, limited_sign_at}
 use Rattle.rt_parse.specs.Inside.Reading.{sign_at}
 use Rattle.rt_parse.specs.Inside.ReadingExpression.{is_name}
@@ -53,7 +53,7 @@ braced_block_at block inside room tokens = do
   a ← sign_at (codes "{") tokens
   all ← repeat_at is_inside (one_more_at block inside) (length a.1) ([], room) a.1
   b ← sign_at (codes "}") all.1
-  Ok ((block_of all.0.0, all.0.1), b.1)
+  Ok ((joined_block all.0.0, all.0.1), b.1)
 
 -- where no more blocks may be opened
 unfoldable pub closed_block_at : Reader (Counted Block)

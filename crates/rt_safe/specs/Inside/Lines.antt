@@ -6,15 +6,15 @@ use Rattle.rt_code.specs.declared.instr.Instr.{Instr}
 use Rattle.rt_code.specs.declared.instr.Instr.TheVariants as instr
 use Rattle.rt_code.specs.declared.instr.Note.{Note}
 use Rattle.rt_code.specs.declared.instr.Note.TheVariants as note
-use Rattle.rt_points.specs.declared.point.Kind.{Kind}
-use Rattle.rt_points.specs.declared.point.Kind.TheVariants.{Mark, Raise, Mask}
+use Rattle.rt_points.specs.declared.point.SectionKind.{SectionKind}
+use Rattle.rt_points.specs.declared.point.SectionKind.TheVariants.{Mark, Raise, Mask}
 use Rattle.rt_points.specs.declared.point.Opened.{Opened}
 use Rattle.rt_points.specs.declared.point.Owner.TheVariants.{Starting, Thread, Handling}
 use Rattle.rt_points.specs.Point.{Point}
 use Rattle.rt_points.specs.Rules.{closing_instr, IsUnsaved, written_slot}
 
 -- the instruction that opens a section of a kind
-abbrev pub opening_instr : Kind → Instr
+abbrev pub opening_instr : SectionKind → Instr
 opening_instr Mark = instr.Mark
 opening_instr (Raise slot value) = instr.Raise slot value
 opening_instr (Mask slot) = instr.Mask slot
@@ -41,9 +41,10 @@ pub data ActsOnSections (p : Point) (i : Instr) (told : Option Note) : Type 0 wh
   Simply : is_simple i ≡ true → told ≡ None → IsUnsaved p.inside (written_slot i) → ActsOnSections p i told
   -- the thread begins anew
   Anew : (to : ℕ) → i ≡ instr.Jump to → told ≡ Some (note.End body.Idle) → p.owner ≡ Thread → ActsOnSections p i told
-  Opens : (x : Section) → (kind : Kind) → i ≡ opening_instr kind → told ≡ Some (note.Enter x) → ActsOnSections p i told
+  Opens : (x : Section) → (kind : SectionKind) → i ≡ opening_instr kind → told ≡ Some (note.Enter x)
+      → ActsOnSections p i told
   -- the innermost section closes
-  Closes : (x : Section) → (kind : Kind) → (outer : List Opened)
+  Closes : (x : Section) → (kind : SectionKind) → (outer : List Opened)
       → p.inside ≡ record { section = x; kind = kind } ∷ outer → i ≡ closing_instr kind → told ≡ Some (note.Leave x)
       → ActsOnSections p i told
   EndsInit : i ≡ instr.Serve → told ≡ Some (note.End body.Init) → p.owner ≡ Starting → p.inside ≡ []

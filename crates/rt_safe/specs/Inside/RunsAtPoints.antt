@@ -5,8 +5,8 @@ use Rattle.rt_ids.specs.Operation.{number_of}
 use Rattle.rt_code.specs.Image.{Image}
 use Rattle.rt_code.specs.declared.image.Handler.{Handler}
 use Rattle.rt_core.specs.Core.{Context, Core}
-use Rattle.rt_points.specs.declared.point.Kind.{Kind}
-use Rattle.rt_points.specs.declared.point.Kind.TheVariants.{Mark, Raise, Mask}
+use Rattle.rt_points.specs.declared.point.SectionKind.{SectionKind}
+use Rattle.rt_points.specs.declared.point.SectionKind.TheVariants.{Mark, Raise, Mask}
 use Rattle.rt_points.specs.declared.point.Opened.{Opened}
 use Rattle.rt_points.specs.declared.point.Owner.{Owner}
 use Rattle.rt_points.specs.declared.point.Owner.TheVariants.{Starting, Handling}
@@ -20,12 +20,12 @@ is_starting Starting = true
 is_starting owner = false
 
 -- BASEPRI after the opening of a section of this kind, from what it was before
-abbrev pub base_by : Kind → ℕ → ℕ
+abbrev pub base_by : SectionKind → ℕ → ℕ
 base_by (Raise slot value) before = value
 base_by kind before = before
 
 -- PRIMASK after the opening of a section of this kind, from what it was before
-abbrev pub mask_by : Kind → Bool → Bool
+abbrev pub mask_by : SectionKind → Bool → Bool
 mask_by (Mask slot) before = true
 mask_by kind before = before
 
@@ -45,7 +45,7 @@ base_under [] = 0
 base_under (q ∷ qs) = base_inside q.inside (base_under qs)
 
 -- a section of this kind keeps in its slot what its mask was
-abbrev pub KeepsMask : List ℕ → Kind → ℕ → Bool → Type 0
+abbrev pub KeepsMask : List ℕ → SectionKind → ℕ → Bool → Type 0
 KeepsMask slots Mark base mask = Unit {0}
 KeepsMask slots (Raise slot value) base mask = (slot < length slots) × (slice_index slots slot ≡ base)
 KeepsMask slots (Mask slot) base mask = (slot < length slots) × (slice_index slots slot ≡ number_of mask)

@@ -5,7 +5,7 @@ use Rattle.rt_ids.specs.Operation.{number_of}
 use Rattle.rt_ids.specs.Priority.{hardware}
 use Rattle.rt_app.specs.Tree.{App}
 use Rattle.rt_app.specs.Ceiling.{ceiling}
-use Rattle.rt_code.specs.Owning.{Kind, Marked, Raised, Masked, OpenSection}
+use Rattle.rt_code.specs.Owning.{SectionKind, Marked, Raised, Masked, OpenSection}
 use Rattle.rt_laws.specs.State.{Role, Init}
 use Rattle.rt_sim.specs.Inside.Coupling.{Part}
 
@@ -15,12 +15,12 @@ is_init Init = true
 is_init role = false
 
 -- BASEPRI after the opening of a section of this kind: the priority value of its ceiling, or as it was
-abbrev pub base_by : Kind → ℕ → ℕ → ℕ
+abbrev pub base_by : SectionKind → ℕ → ℕ → ℕ
 base_by (Raised slot) value before = value
 base_by kind value before = before
 
 -- PRIMASK after the opening of a section of this kind: set, or as it was
-abbrev pub mask_by : Kind → Bool → Bool
+abbrev pub mask_by : SectionKind → Bool → Bool
 mask_by (Masked slot) before = true
 mask_by kind before = before
 
@@ -56,7 +56,7 @@ module _ (app : App) where
   mask_of p ps = mask_inside p.held (mask_under p.role ps)
 
   -- a section of this kind keeps this BASEPRI or this PRIMASK in its slot
-  abbrev pub SavesBy : List ℕ → Kind → ℕ → Bool → Type 0
+  abbrev pub SavesBy : List ℕ → SectionKind → ℕ → Bool → Type 0
   SavesBy slots Marked base mask = Unit {0}
   SavesBy slots (Raised slot) base mask = (slot < length slots) × (slice_index slots slot ≡ base)
   SavesBy slots (Masked slot) base mask = (slot < length slots) × (slice_index slots slot ≡ number_of mask)

@@ -52,9 +52,9 @@ pub record Coupling : Type 0 where
   pub values : Values
 
 -- the interrupt that a job handles
-abbrev pub irq_of : Role → ℕ
-irq_of (Serving irq) = irq
-irq_of role = 0
+abbrev pub handled_irq : Role → ℕ
+handled_irq (Serving irq) = irq
+handled_irq role = 0
 
 -- the sections alone, innermost first
 abbrev pub sections_of : List OpenSection → List Section

@@ -35,12 +35,12 @@ module _ (app : App) (img : Image) (thread : ℕ) where
   Owns p h = owns (storage app) (who p) p.held h
 
   -- whether a job may read what a location holds, with its open sections
-  abbrev pub Reads : Part → Location → Bool
-  Reads p h = reads (storage app) (who p) p.held h
+  abbrev pub PartReads : Part → Location → Bool
+  PartReads p h = reads (storage app) (who p) p.held h
 
   -- what the first owns the other does not read
   abbrev pub OwnedIsUnread : Part → Part → Type 0
-  OwnedIsUnread p q = (h : Location) → Owns p h ≡ true → Reads q h ≡ true → ⊥
+  OwnedIsUnread p q = (h : Location) → Owns p h ≡ true → PartReads q h ≡ true → ⊥
 
   -- what either of two jobs owns the other does not read
   abbrev pub AreApart : Part → Part → Type 0

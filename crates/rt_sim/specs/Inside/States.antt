@@ -4,7 +4,7 @@ use Rattle.rt_ids.specs.Priority.{hardware}
 use Rattle.rt_code.specs.Stack.{words_of}
 use Rattle.rt_core.specs.Core.{Core, Context}
 use Rattle.rt_laws.specs.State.{State}
-use Rattle.rt_sim.specs.Inside.Coupling.{Part, Coupling, irq_of, jobs_of}
+use Rattle.rt_sim.specs.Inside.Coupling.{Part, Coupling, handled_irq, jobs_of}
 
 -- the contexts of the active handlers: the first is of this interrupt and this priority value, and each has what it
 -- interrupted
@@ -12,11 +12,11 @@ abbrev pub contexts : ℕ → ℕ → ℕ → List Part → List Context
 contexts bits irq value [] = []
 contexts bits irq value (q ∷ ps) =
     record { irq = irq; value = value; address = q.address; slots = q.slots; caller = q.caller }
-    ∷ contexts bits (irq_of q.role) (hardware bits q.priority) ps
+    ∷ contexts bits (handled_irq q.role) (hardware bits q.priority) ps
 
 -- the contexts of a running job on others
 abbrev pub contexts_of : ℕ → Part → List Part → List Context
-contexts_of bits p ps = contexts bits (irq_of p.role) (hardware bits p.priority) ps
+contexts_of bits p ps = contexts bits (handled_irq p.role) (hardware bits p.priority) ps
 
 -- the core, with so many priority bits
 abbrev pub core_of : ℕ → Coupling → Core

@@ -4,7 +4,7 @@ use Rattle.std.specs.Global.{Global}
 use Rattle.std.specs.List.{AllByRecursion}
 use Rattle.rt_ids.specs.declared.limits.TheConstants.{SCRIPT_EVENTS}
 use Rattle.rt_ids.specs.declared.memory.NoMemory.{NoMemory}
-use Rattle.rt_count.specs.Joining.{joined_summary, IsWithin}
+use Rattle.rt_count.specs.Joining.{joined_summary, CountsAtMost}
 use Rattle.rt_count.specs.declared.summary.Summary.{Summary}
 use Rattle.rt_soak.specs.declared.run.Run.{Run}
 use Rattle.rt_soak.specs.declared.soaking.TheConstants.{MOST_RUNS}
@@ -16,27 +16,27 @@ summary_with_runs s runs = fold (λ before run. joined_summary before run.summar
 -- one run, with no more of each thing than a script has events
 pub record IsSmall (run : Run) : Type 0 where
   pub one : run.summary.runs ≡ 1
-  pub within : IsWithin SCRIPT_EVENTS run.summary
+  pub within : CountsAtMost SCRIPT_EVENTS run.summary
 
 -- so many runs have no more of each thing than so many scripts have events
 abbrev pub IsBounded : Summary → Type 0
-IsBounded s = IsWithin (s.runs * SCRIPT_EVENTS) s
+IsBounded s = CountsAtMost (s.runs * SCRIPT_EVENTS) s
 
 -- what a worker answers: its runs, where it did not want memory
-abbrev pub Part : Type 0
-Part = Result (Vec Run Global) NoMemory
+abbrev pub WorkerRuns : Type 0
+WorkerRuns = Result (Vec Run Global) NoMemory
 
 -- the runs of a worker, and none where it wanted memory
-abbrev pub runs_in : Part → List Run
+abbrev pub runs_in : WorkerRuns → List Run
 runs_in (Ok runs) = runs.items
 runs_in (Err e) = []
 
 -- a worker did not want memory
-abbrev pub IsThere : Part → Type 0
+abbrev pub IsThere : WorkerRuns → Type 0
 IsThere (Ok runs) = Unit {0}
 IsThere (Err e) = ⊥
 
 -- the runs of a worker are no more than those of all may be
-abbrev pub AreFew : Part → Type 0
+abbrev pub AreFew : WorkerRuns → Type 0
 AreFew (Ok runs) = (length runs.items ≤ MOST_RUNS) × AllByRecursion IsSmall runs.items
 AreFew (Err e) = Unit {0}

@@ -20,7 +20,8 @@ use Rattle.rt_trace.specs.declared.reader.TraceReader.{TraceReader}
 use Rattle.rt_trace.specs.declared.refusal.TraceRefused.{TraceRefused}
 
 -- no line is wrong, and the items that the lines tell were judged
-pub record Goes (app : App) (names : Names) (ls : List (List ℕ)) (reader : TraceReader) (judge : Judge) : Type 0 where
+pub record IsJudgedSoFar (app : App) (names : Names) (ls : List (List ℕ)) (reader : TraceReader)
+    (judge : Judge) : Type 0 where
   pub items : List Item
   pub few : length items ≤ length ls
   pub read : HasRead names ls items reader
@@ -33,9 +34,9 @@ Refuses names ls refusal =
     → IsTraceRefused names text refusal
 
 -- no line is wrong, or the first that is is refused so
-abbrev pub Stands : App → Names → List (List ℕ) → TraceReader → Judge → Option TraceRefused → Type 0
-Stands app names ls reader judge None = Goes app names ls reader judge
-Stands app names ls reader judge (Some refusal) = Refuses names ls refusal
+abbrev pub AuditStands : App → Names → List (List ℕ) → TraceReader → Judge → Option TraceRefused → Type 0
+AuditStands app names ls reader judge None = IsJudgedSoFar app names ls reader judge
+AuditStands app names ls reader judge (Some refusal) = Refuses names ls refusal
 
 -- These lines came of a trace of the chosen application.
 pub record HasAudited (chosen : Option App) (names : Names) (machine : Machine) (reader : TraceReader) (judge : Judge)
@@ -43,7 +44,7 @@ pub record HasAudited (chosen : Option App) (names : Names) (machine : Machine) 
   pub follows : IsMachine machine
   pub chose : chosen ≡ Some (app_of machine.code.now.app.now)
   pub named : names ≡ names_of (app_of machine.code.now.app.now)
-  pub stands : Stands (app_of machine.code.now.app.now) names ls reader judge refused
+  pub stands : AuditStands (app_of machine.code.now.app.now) names ls reader judge refused
 
 -- The text is that of a trace of so many items, and this is the verdict on it.
 pub record IsJudgedText (app : App) (text : List ℕ) (verdict : Verdict) (count : ℕ) : Type 0 where

@@ -7,7 +7,7 @@ use Rattle.rt_outside.specs.Bytes.{Past}
 use Rattle.rt_outside.specs.Faults.{Rose}
 use Rattle.rt_top.specs.Ends.{IsKept}
 use Rattle.rt_top.specs.Reads.{IsReadWithin}
-use Rattle.rt_top.specs.Kinds.{Kind, most_bytes, IsOfKind, IsRefusedBy}
+use Rattle.rt_top.specs.Kinds.{TextKind, most_bytes, IsOfKind, IsRefusedBy}
 use Rattle.rt_top.specs.declared.reply.Reply.{Reply}
 use Rattle.rt_top.specs.declared.reply.Reply.TheVariants as reply
 
@@ -45,14 +45,14 @@ pub data Stops (limit : ℕ) (Does : ℕ → Use → Type 0) : Status → Type 0
   at_fault : Does limit Failed → Stops limit Does status.Read
 
 -- no text of the kind was read: the one that came is refused, or the program stops
-pub data IsNotRead (kind : Kind) (first gave : List ℕ) (Does : ℕ → Use → Type 0) : Reply → Type 0 where
+pub data IsNotRead (kind : TextKind) (first gave : List ℕ) (Does : ℕ → Use → Type 0) : Reply → Type 0 where
   refusal : (ended : Status) (line : Vec ℕ Global) → Does (most_bytes kind) Whole
       → IsRefusedBy kind first gave ended line.items → IsNotRead kind first gave Does (reply.Write ended line)
   stop : (ended : Status) → Stops (most_bytes kind) Does ended → IsNotRead kind first gave Does (reply.Stop ended)
 
 -- The sources were read for texts of these kinds: each up to the first from which no text of its kind was read, and
 -- with the reply to that, if there is one. Those behind it were not come to, nor any that the command has no text in.
-abbrev pub AreRead : List Kind → List ℕ → Sources → Option Reply → Type 0
+abbrev pub AreRead : List TextKind → List ℕ → Sources → Option Reply → Type 0
 AreRead [] first sources end = AreUnread sources × (end ≡ None)
 AreRead (kind ∷ kinds) first No end = ⊥
 AreRead (kind ∷ kinds) first (Then gave Does more) end =
@@ -60,7 +60,8 @@ AreRead (kind ∷ kinds) first (Then gave Does more) end =
     ⊎ ((r : Reply) × (end ≡ Some r) × IsNotRead kind first gave Does r × AreUnread more)
 
 -- One text of the kind was read from the source, of which this is so; or none was.
-abbrev pub Reads : {T : Type 0} → Kind → List ℕ → List ℕ → (ℕ → Use → Type 0) → (T → Type 0) → Result T Reply → Type 0
+abbrev pub Reads : {T : Type 0} → TextKind → List ℕ → List ℕ → (ℕ → Use → Type 0) → (T → Type 0) → Result T Reply
+    → Type 0
 Reads kind first gave Does Is (Ok x) = Does (most_bytes kind) Whole × Is x
 Reads kind first gave Does Is (Err r) = IsNotRead kind first gave Does r
 

@@ -5,7 +5,7 @@ use Rattle.rt_values.specs.Account.{raised_count, merged_count, found_count}
 use Rattle.rt_values.specs.Inside.Steps.{Seat}
 
 -- a mailbox has one word of memory
-pub record IsSound (table : TableId) : Type 0 where
+pub record IsSoundMailbox (table : TableId) : Type 0 where
   pub no_slots : table.slots ≡ 0
   pub one : table.words ≡ 1
 

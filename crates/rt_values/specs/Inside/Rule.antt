@@ -28,7 +28,7 @@ AtMostOne may views = (i j : ℕ) (v w : View) → get_elem? views i ≡ some v 
     → may v ≡ true → may w ≡ true → i ≡ j
 
 -- a legal history leaves what waits in the word of memory, whose bits above bit 32 are 0
-pub record Standing (words : List ℕ) (views : List View) (history : List Call) (word : ℕ) : Type 0 where
+pub record HistoryStands (words : List ℕ) (views : List View) (history : List Call) (word : ℕ) : Type 0 where
   pub one : words ≡ word ∷ []
   pub small : word < 2 ^ 33
   pub legal : IsLegal history (waiting word)
@@ -37,5 +37,5 @@ pub record Standing (words : List ℕ) (views : List View) (history : List Call)
   pub one_takes : AtMostOne (λ v. v.takes) views
 
 -- there is one such history
-abbrev pub Kept : State (Unit {0}) View → Type 0
-Kept s = (history : List Call) × (word : ℕ) × Standing s.words s.views history word
+abbrev pub HasHistory : State (Unit {0}) View → Type 0
+HasHistory s = (history : List Call) × (word : ℕ) × HistoryStands s.words s.views history word

@@ -33,8 +33,8 @@ abbrev pub spent_view : View
 spent_view = record { gives = false; takes = false; given = []; taken = []; seen = []; last = [] }
 
 -- all that had been seen, what came in between, and this call last
-abbrev pub Extends : List Call → Call → List Call → Type 0
-Extends old call new = (between : List Call) × (new ≡ (old ++ between) ++ call ∷ [])
+abbrev pub ExtendsByCall : List Call → Call → List Call → Type 0
+ExtendsByCall old call new = (between : List Call) × (new ≡ (old ++ between) ++ call ∷ [])
 
 -- Merged where a word waited in the word of memory that was found
 abbrev pub answer_at : ℕ → Given
@@ -53,10 +53,10 @@ after_take v seen call = record v { taken = v.taken ++ call ∷ []; seen = seen;
 abbrev pub give_step : Step (Unit {0}) → Seat → ℕ → Seat → Type 0
 give_step s me found after = (seen : List Call)
     × (after ≡ (after_give me.0 seen (Give (s.first - 2 ^ 32) (answer_at found)), me.1))
-    × Extends me.0.seen (Give (s.first - 2 ^ 32) (answer_at found)) seen × (found < 2 ^ 33)
+    × ExtendsByCall me.0.seen (Give (s.first - 2 ^ 32) (answer_at found)) seen × (found < 2 ^ 33)
 
 -- a step that takes what waits
 abbrev pub take_step : Step (Unit {0}) → Seat → ℕ → Seat → Type 0
 take_step s me found after = (seen : List Call)
     × (after ≡ (after_take me.0 seen (Take (waiting found)), me.1))
-    × Extends me.0.seen (Take (waiting found)) seen × (found < 2 ^ 33)
+    × ExtendsByCall me.0.seen (Take (waiting found)) seen × (found < 2 ^ 33)

@@ -7,7 +7,7 @@ use Rattle.rt_words.specs.Object.{IsPending}
 use Rattle.rt_words.specs.Inside.Seats.{Seat, IsLive}
 
 -- a row has 1 to 32 words, with each bit that may be pended
-pub record IsSound (table : TableId) (may : List ℕ) : Type 0 where
+pub record IsSoundRow (table : TableId) (may : List ℕ) : Type 0 where
   pub no_slots : table.slots ≡ 0
   pub some : 1 ≤ table.words
   pub most : table.words ≤ 32

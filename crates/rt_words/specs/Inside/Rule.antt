@@ -20,7 +20,7 @@ padded_words words = words ++ replicate (32 - length words) 0
 
 -- A legal history leaves the words as they are, its parts are the seats' calls, and each seat has seen a beginning of
 -- it. Once every line is gathered, only the maker, the first line, calls: what it has called since comes last.
-pub record Standing (may words : List ℕ) (views : List View) (history : List Entry) (maker : View) : Type 0 where
+pub record HistoryStands (may words : List ℕ) (views : List View) (history : List Entry) (maker : View) : Type 0 where
   pub row : IsRow may words
   pub legal : IsLegal history (padded_words words)
   pub seated : Seated history views maker
@@ -30,5 +30,5 @@ pub record Standing (may words : List ℕ) (views : List View) (history : List E
   pub last : AllGathered maker.made maker.gathered → CallsLast history 255 (drop maker.since maker.calls)
 
 -- there is one such history
-abbrev pub Kept : List ℕ → State (Unit {0}) View → Type 0
-Kept may s = (history : List Entry) × (maker : View) × Standing may s.words s.views history maker
+abbrev pub HasHistory : List ℕ → State (Unit {0}) View → Type 0
+HasHistory may s = (history : List Entry) × (maker : View) × HistoryStands may s.words s.views history maker

@@ -27,8 +27,8 @@ abbrev pub view_after_call : View → List Entry → Call → View
 view_after_call v seen call = record v { calls = v.calls ++ call ∷ []; seen = seen }
 
 -- all that had been seen, what came in between, and this call last
-abbrev pub Extends : List Entry → ℕ → Call → List Entry → Type 0
-Extends old line call new =
+abbrev pub ExtendsByCall : List Entry → ℕ → Call → List Entry → Type 0
+ExtendsByCall old line call new =
     (between : List Entry) × (new ≡ (old ++ between) ++ record { line = line; call = call } ∷ [])
 
 -- Merged where the bit was set in the word that was found
@@ -39,12 +39,12 @@ answer_at found bit = if bit_at found bit == 1 then Merged else Raised
 abbrev pub pend_step : Step (Unit {0}) → Seat → ℕ → Seat → Type 0
 pend_step s me found after = (seen : List Entry) × ((bit : ℕ) → bit < 32 → s.first ≡ 2 ^ bit
     → (after ≡ (view_after_call me.0 seen (Pend (32 * s.word + bit) (answer_at found bit)), me.1))
-    × Extends me.0.seen me.0.line (Pend (32 * s.word + bit) (answer_at found bit)) seen)
+    × ExtendsByCall me.0.seen me.0.line (Pend (32 * s.word + bit) (answer_at found bit)) seen)
 
 -- a step that latches a word, in which only bits that may be pended were set
 abbrev pub latch_step : Step (Unit {0}) → Seat → ℕ → Seat → Type 0
 latch_step s me found after = (seen : List Entry) × (after ≡ (view_after_call me.0 seen (Latch s.word found), me.1))
-    × Extends me.0.seen me.0.line (Latch s.word found) seen × (found < 2 ^ 32)
+    × ExtendsByCall me.0.seen me.0.line (Latch s.word found) seen × (found < 2 ^ 32)
     × ((bit : ℕ) → bit < 32 → bit_at found bit ≡ 1 → IsPending me.0.may (32 * s.word + bit))
 
 -- a load before a latch: where it finds 0 it is itself the latch, else the seat knows what it knew

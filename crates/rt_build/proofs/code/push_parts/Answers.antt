@@ -10,7 +10,7 @@ use Rattle.rt_gen_queue.specs.Line.{Line}
 use Rattle.rt_build.specs.Entries.{Entries}
 use Rattle.rt_build.specs.Order.{OfBody}
 use Rattle.rt_build.specs.Inside.Code.{kind_size, HasTasks, LeavesOthers}
-use Rattle.rt_build.specs.declared.code.Kind.TheVariants.{Hardware, Software}
+use Rattle.rt_build.specs.declared.code.TaskKind.TheVariants.{Hardware, Software}
 use Rattle.rt_build.proofs.Grown.{thread_kept, thread_made, tasks_kept, tasks_left, hardware_apart, kinds_sum}
 use Rattle.rt_build.proofs.Grown.{dispatchers_kept}
 use Rattle.rt_build.proofs.Grown.{adds_then, all_named, adds_behind, kept_then, written}

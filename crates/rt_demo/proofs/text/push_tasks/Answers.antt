@@ -1,9 +1,9 @@
-use Rattle.rt_demo.specs.Demo.{task}
+use Rattle.rt_demo.specs.Demo.{demo_task}
 use Rattle.rt_demo.proofs.Numbering.{none_below, one_more}
 use Rattle.rt_demo.proofs.text.push_tasks.Goals as goal
 
 pub loop-k-init : goal.loop-k-init
-loop-k-init c = none_below task c.args.out.now.items
+loop-k-init c = none_below demo_task c.args.out.now.items
 
 pub loop-k-preserved : goal.loop-k-preserved
-loop-k-preserved c = one_more task c.loop-k.k c.args.out.now.items _ _ c.loop-k.invariant c.in_ok-push_task.ensures
+loop-k-preserved c = one_more demo_task c.loop-k.k c.args.out.now.items _ _ c.loop-k.invariant c.in_ok-push_task.ensures

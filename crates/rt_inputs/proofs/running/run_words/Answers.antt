@@ -3,7 +3,7 @@ use Rattle.rt_ids.specs.Naming.{IsDeclared}
 use Rattle.rt_lemmas.proofs.Results.{on_err_from}
 use Rattle.rt_app.specs.View.{app_of}
 use Rattle.rt_code.specs.Image.{Image}
-use Rattle.rt_given.specs.Words.{behind, given_words, next_word}
+use Rattle.rt_given.specs.Words.{next_source, given_words, next_word}
 use Rattle.rt_given.proofs.Sources.{after_one, source_after}
 use Rattle.rt_inputs.specs.Going.{moves_at}
 use Rattle.rt_inputs.specs.Script.{given_requests}
@@ -67,7 +67,7 @@ loop-done-preserved g c =
           (moment c.run_word.new.core c.run_word.new.registers) _ _ _ c.args.held.now.items _
           c.run_word.new.held.items c.loop-done.invariant.run c.in_ok-run_word.ensures.ok;
       source =
-          c.next-word.ensures.behind ∙ ap behind c.loop-done.invariant.source ∙ sym (after_one done first)
+          c.next-word.ensures.behind ∙ ap next_source c.loop-done.invariant.source ∙ sym (after_one done first)
           ∙ ap (λ n. source_after n first) (sym step);
       quiet = c.in_ok-run_word.ensures.quiet ∙ c.loop-done.invariant.quiet;
     }

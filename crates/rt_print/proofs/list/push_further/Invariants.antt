@@ -4,4 +4,4 @@ use Rattle.rt_ast.specs.CanonicalExpression.{further}
 use Rattle.rt_print.proofs.list.push_further.Given as goal
 
 abbrev pub invariant-loop-item : goal.invariant-loop-item
-invariant-loop-item g l = l.out.items ≡ l.fn.out.items ++ further g.T.Item.text (take l.item-index l.items)
+invariant-loop-item g l = l.out.items ≡ l.fn.out.items ++ further g.T.ListItem.text (take l.item-index l.items)

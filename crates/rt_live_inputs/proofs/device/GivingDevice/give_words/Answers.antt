@@ -1,5 +1,5 @@
 use Rattle.std.proofs.Common.{◌≡◌, ℕ, suc, ◌+◌, [], ◌∷◌, ◌++◌, List, refl, ap, sym, subst, ◌∙◌, arith}
-use Rattle.rt_given.specs.Words.{behind, given_words, next_word}
+use Rattle.rt_given.specs.Words.{next_source, given_words, next_word}
 use Rattle.rt_given.proofs.Sources.{after_one, no_word, one_word_more, source_after, words_long}
 use Rattle.rt_live_inputs.specs.Giving.{Gave}
 use Rattle.rt_live_inputs.proofs.Giving.{calls_length, gave_none, gave_on, gave_one}
@@ -40,6 +40,6 @@ loop-done-preserved g c =
           (gave_on (given_words done first) (word ∷ []) c.args.self.now device _ c.loop-done.invariant.gave
           (gave_one device c.give.new.self word c.give.result c.give.ensures.call));
       source =
-          c.next-word.ensures.behind ∙ ap behind c.loop-done.invariant.source ∙ sym (after_one done first)
+          c.next-word.ensures.behind ∙ ap next_source c.loop-done.invariant.source ∙ sym (after_one done first)
           ∙ ap (λ n. source_after n first) (sym step);
     }

@@ -1,5 +1,5 @@
 use Rattle.std.proofs.Common.{◌≡◌, ◌<◌, true, sym, subst, ap, ◌∙◌, List, ℕ, length, None, Result, Bor}
-use Rattle.rt_ids.specs.Names.{task_of, with_task}
+use Rattle.rt_ids.specs.Names.{task_index, with_task}
 use Rattle.rt_ids.specs.declared.limits.TheConstants.{TASKS}
 use Rattle.rt_lines.specs.Parts.{words_of}
 use Rattle.rt_lines.specs.Answers.{and_make}
@@ -22,7 +22,7 @@ add_task-requires-clause-unknown c =
     let may : may_add_body c.args.self.now c.in-Ok.body.0.now ≡ true = sym c.may_add_body.ensures
     ∙ c.if-not-may_add_body.false in
     let new = task_new c.args.self.now c.in-Ok.body.0.now may in
-    subst (λ (front : Front). task_of front.image.names c.in-Ok.body.0.now ≡ None) (sym c.self.view_is) new.unknown
+    subst (λ (front : Front). task_index front.image.names c.in-Ok.body.0.now ≡ None) (sym c.self.view_is) new.unknown
 
 pub add_task-requires-clause-room : goal.add_task-requires-clause-room
 add_task-requires-clause-room c =

@@ -9,7 +9,7 @@ use Rattle.rt_words.specs.Object.{IsPending}
 use Rattle.rt_words.specs.Row.{bit_in_row}
 use Rattle.rt_words.specs.Lines.{Row, Line}
 use Rattle.rt_words.specs.History.{Entry}
-use Rattle.rt_words.specs.Inside.Steps.{view_after_call, Extends, answer_at}
+use Rattle.rt_words.specs.Inside.Steps.{view_after_call, ExtendsByCall, answer_at}
 use Rattle.rt_words.proofs.Pending.{pends_as, answer_merged, answer_raised}
 use Rattle.rt_words.proofs.Tallies.{after_merged, after_raised}
 use Rattle.rt_words.proofs.line.Line.pend.Goals as goal
@@ -42,7 +42,7 @@ told : (word bit found : ℕ) (me me' : Me (Unit {0}) View) (mask : ℕ) (answer
     → mask ≡ 2 ^ (bit % 32) → word ≡ bit / 32
     → ((b : ℕ) → b < 32 → mask ≡ 2 ^ b
     → (me' ≡ (view_after_call me.0 seen (Pend (32 * word + b) (answer_at found b)), me.1))
-    × Extends me.0.seen me.0.line (Pend (32 * word + b) (answer_at found b)) seen)
+    × ExtendsByCall me.0.seen me.0.line (Pend (32 * word + b) (answer_at found b)) seen)
     → answer_at found (bit % 32) ≡ answer → me' ≡ (view_after_call me.0 seen (Pend bit answer), me.1)
 told word bit found me me' mask answer seen m w tell is =
     let whole : 32 * word + bit % 32 ≡ bit = omega arith in

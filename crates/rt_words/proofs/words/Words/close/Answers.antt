@@ -1,7 +1,7 @@
 use Rattle.std.proofs.Common.{sym, ap, ◌∙◌, subst, arith}
 use Rattle.std.specs.Mem.Slots.{slots_items, slots_counts}
 use Rattle.rt_words.specs.Account.{IsTally}
-use Rattle.rt_words.specs.Lines.{Line, count}
+use Rattle.rt_words.specs.Lines.{Line, word_count}
 use Rattle.rt_words.specs.Ending.{AllGathered, OneHistory}
 use Rattle.rt_words.proofs.Closing.{ends, ends_behind}
 use Rattle.rt_words.proofs.words.Words.close.Goals as goal
@@ -25,5 +25,5 @@ pub returns-clause-behind : goal.returns-clause-behind
 returns-clause-behind c = λ k l.
     let long = (slots_counts c.close_with.result.words).0 in
     let words = c.close_with.ensures.counts.0 in
-    let same = ap count c.self.view_is in
+    let same = ap word_count c.self.view_is in
     ends_behind (slots_items c.close_with.result.words) c.bits_in-bits.result k c.bits_in-bits.ensures (omega arith)

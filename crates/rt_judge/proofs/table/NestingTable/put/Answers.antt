@@ -3,7 +3,7 @@ use Rattle.std.specs.BTreeMap.{get}
 use Rattle.std.specs.Ordering.{nat_cmp}
 use Rattle.rt_judge.specs.Inside.Tables.{found_by}
 use Rattle.rt_judge.proofs.Tables.{row_here, row_apart, row_past, one_fewer, is_apart}
-use Rattle.rt_judge.proofs.table.Table.put.Goals as goal
+use Rattle.rt_judge.proofs.table.NestingTable.put.Goals as goal
 
 pub returns-then-index-len : goal.returns-then-index-len
 returns-then-index-len c =
