@@ -17,23 +17,27 @@ use Rattle.rt_app.specs.Sending.{capacity_of}
 abbrev pub whats : List Item → List What
 whats items = map (λ item. item.what) items
 
--- whether an item is `ok` of this task, and so on
+-- whether an item is `ok` of this task: a message took a place
 abbrev pub is_ok : ℕ → What → Bool
 is_ok t (what.Placed u) = u == t
 is_ok t w = false
 
+-- whether it is `ready`: a message waits for its dispatcher
 abbrev pub is_ready : ℕ → What → Bool
 is_ready t (what.Ready u) = u == t
 is_ready t w = false
 
+-- whether it is `start`: a message is being worked on
 abbrev pub is_start : ℕ → What → Bool
 is_start t (what.Start u args) = u == t
 is_start t w = false
 
+-- whether it is `free`: a message gave its place back
 abbrev pub is_free : ℕ → What → Bool
 is_free t (what.Free u) = u == t
 is_free t w = false
 
+-- whether it is `arm`: a message waits for its instant
 abbrev pub is_arm : ℕ → What → Bool
 is_arm t (what.Arm u instant) = u == t
 is_arm t w = false

@@ -42,5 +42,6 @@ plain_line (Counts d irq n local first) = []
 plain_line (Draws d irq n local seed) = []
 plain_line line = asked_line line
 
+-- the lines of the script that ask for no words, in order: the script of the row without mailboxes
 abbrev pub plain : List GivenLine → List Line
 plain script = flat_map plain_line script

@@ -4,16 +4,19 @@ use Rattle.rt_values.specs.declared.call.Given.TheVariants.{Raised, Merged}
 use Rattle.rt_values.specs.declared.call.Call.{Call}
 use Rattle.rt_values.specs.declared.call.Call.TheVariants.{Give, Take}
 
+-- whether the call gave where no word waited, and so raised the request
 abbrev pub raises : Call → Bool
 raises (Give word Raised) = true
 raises (Give word Merged) = false
 raises (Take found) = false
 
+-- whether the call gave where a word waited, so that its word took the place of that one
 abbrev pub merges : Call → Bool
 merges (Give word Raised) = false
 merges (Give word Merged) = true
 merges (Take found) = false
 
+-- whether the call took a word
 abbrev pub finds : Call → Bool
 finds (Give word answer) = false
 finds (Take None) = false

@@ -14,10 +14,12 @@ LeavesWord waits (call ∷ calls) last = IsAnswered waits call × LeavesWord (af
 abbrev pub IsLegal : List Call → Option ℕ → Type 0
 IsLegal history last = LeavesWord None history last
 
+-- whether the call is one of the giver's
 abbrev pub is_give : Call → Bool
 is_give (Give word answer) = true
 is_give (Take found) = false
 
+-- whether the call is one of the taker's
 abbrev pub is_taker_call : Call → Bool
 is_taker_call (Give word answer) = false
 is_taker_call (Take found) = true
