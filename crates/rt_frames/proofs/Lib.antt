@@ -12,3 +12,4 @@ pub mod Sections
 pub mod Within
 pub mod Listed
 pub mod NoPend
+pub mod Reaching

@@ -135,7 +135,7 @@ lock_at p priority outer c d cost within cs e f =
 outermost : (priority p : ℕ) → can p priority 0 ≡ nat_lt priority p
 outermost priority p = grind (arith, nat_tests)
 
-any_at : {X : Type 0} (test : X → Bool) (xs : List X) (n : ℕ) (x : X) → slice_get xs n ≡ Some x → test x ≡ true
+pub any_at : {X : Type 0} (test : X → Bool) (xs : List X) (n : ℕ) (x : X) → slice_get xs n ≡ Some x → test x ≡ true
     → list_any test xs ≡ true
 any_at test [] n x at h = cc
 any_at test (y ∷ xs) zero x at h = let same : test y ≡ true = cc in or_left (test y) (list_any test xs) same

@@ -22,7 +22,7 @@ pub shared_at_is : (app : App) (r : ℕ) → r < length app.shared → shared_ce
     ≡ ceiling app (section.Res r)
 shared_at_is app r h = get_or-map-range_with_len (resource_ceiling app) 0 (length app.shared) r r 0 h (omega arith)
 
-free_row : (app : App) (n k : ℕ) (ts : List Task) (t : Task) → slice_get ts k ≡ Some t → is_software t ≡ true
+pub free_row : (app : App) (n k : ℕ) (ts : List Task) (t : Task) → slice_get ts k ≡ Some t → is_software t ≡ true
     → slice_get (free_ceilings app n ts) k ≡ Some (Some (free_ceiling app (n + k)))
 free_row app n k [] t at soft = cc
 free_row app n zero (u ∷ ts) t at soft =

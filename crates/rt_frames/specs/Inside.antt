@@ -5,3 +5,4 @@ pub mod FrameParts
 pub mod Needs
 pub mod Waits
 pub mod Bounded
+pub mod Reached

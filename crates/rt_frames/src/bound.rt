@@ -4,7 +4,7 @@ ghost use Rattle.std.specs.Prelude.{◌≡◌, ◌≤◌, ◌∷◌, [], ◌++�
 ghost use Rattle.rt_ids.specs.declared.limits.TheConstants.{TASKS};
 ghost use Rattle.rt_app.specs.View.{body_of, task_of, app_of};
 ghost use Rattle.rt_app.specs.Bodies.{thread_members, task_members, members};
-ghost use Rattle.rt_app.specs.Ceiling.{ceilings};
+ghost use Rattle.rt_app.specs.Ceiling as tables;
 ghost use Rattle.rt_app.specs.Level.{is_armed};
 ghost use Rattle.rt_app.specs.Stack as stack;
 ghost use Rattle.rt_app.specs.Bounds as bounds;
@@ -96,6 +96,8 @@ fn push_wait(
 ) -> Result<(), NoMemory>
     requires few { length (app_of app.now).tasks ≤ TASKS }
     requires armed { HasFlags armed.now (is_armed (app_of app.now)) }
+    requires ceilings { ceilings.now ≡ tables.ceilings (app_of app.now) }
+    requires sound { IsSound (app_of app.now) }
     ensures { let priorities = (if has_handler then priority ∷ [] else []) in
         let own = map (wait_of (app_of app.now) measure.now ceilings.now) priorities in
         OnOk result (waits.new.items ≡ waits.old.items ++ own) }
@@ -120,6 +122,8 @@ fn waits_of(
 ) -> Result<Vec<Wait>, NoMemory>
     requires few { length (app_of app.now).tasks ≤ TASKS }
     requires armed { HasFlags armed.now (is_armed (app_of app.now)) }
+    requires ceilings { ceilings.now ≡ tables.ceilings (app_of app.now) }
+    requires sound { IsSound (app_of app.now) }
     requires handled { HasFlags handlers.now (stack.has_handler (app_of app.now)) }
     ensures { let all = app_of app.now in
         IfOk result (λ waits. waits.items ≡ map (wait_of all measure.now ceilings.now) (stack.handler_priorities all)) }
@@ -144,7 +148,7 @@ fn waits_of(
 pub fn bounds(alloc: Global, app: &App, ceil: &Ceilings) -> Result<Bounds, NoMemory>
     requires limits { KeepsLimits (app_of app.now) }
     requires sound { IsSound (app_of app.now) }
-    requires ceilings { ceil.now ≡ ceilings (app_of app.now) }
+    requires ceilings { ceil.now ≡ tables.ceilings (app_of app.now) }
     ensures { IfOk result (λ b. b ≡ bounds.bounds (app_of app.now)) }
 {
     let armed = armed_flags(app);

@@ -1,11 +1,16 @@
 // The waiting bounds.
 
-ghost use Rattle.std.specs.Prelude.{◌≡◌, ◌≤◌, ◌==◌, length, find, if◌then◌else◌};
-ghost use Rattle.rt_ids.specs.Lists.{or_zero};
+ghost use Rattle.std.specs.Prelude.{◌≡◌, ◌≤◌, ◌<◌, ◌==◌, length, find, slice_get, if◌then◌else◌};
+ghost use Rattle.std.specs.Prelude.{Some, IsSome, true};
+ghost use Rattle.rt_ids.specs.Lists.{or_zero, then_from};
 ghost use Rattle.rt_app.specs.View.{spawn_of, value_of, statement_of, block_of, task_of, app_of};
+ghost use Rattle.rt_app.specs.declared.costs.TheConstants.{PRIORITIES};
 ghost use Rattle.rt_app.specs.Level as level;
 ghost use Rattle.rt_app.specs.BodyCost as cost;
+ghost use Rattle.rt_app.specs.Acceptance.{IsSound};
 ghost use Rattle.rt_app.specs.Bodies.{task_priority};
+ghost use Rattle.rt_app.specs.Ceiling as tables;
+ghost use Rattle.rt_frames.specs.Inside.Reached as reach;
 ghost use Rattle.rt_frames.specs.Inside.Waits as waiting;
 ghost use Rattle.rt_ids.specs.declared.limits.TheConstants.{TASKS};
 ghost use Rattle.rt_frames.specs.Inside.Flags.{HasFlags};
@@ -20,56 +25,66 @@ use rt_app::costs::{
 use rt_app::{App, Ceilings, ReadyCeiling, Spawn, Stmt, Task, Value};
 use rt_ids::{ResId, TaskId};
 
-/// The ceiling of a resource, and 0 where there is none.
+/// The ceiling of a resource that is declared.
 fn shared_ceiling(ceilings: &Ceilings, resource: ResId) -> u8
+    requires { resource < length ceilings.now.shared }
     ensures { result ≡ waiting.shared_ceiling ceilings.now resource }
 {
     match ceilings.shared.get(usize::from(resource.0)) {
-        None => 0,
+        None => unreachable!(),
         Some(ceiling) => *ceiling,
     }
 }
 
-/// The ceiling of the free places of a task, and 0 where there is none.
+/// The ceiling of the free places of a software task.
 fn free_at(ceilings: &Ceilings, task: usize) -> u8
+    requires { IsSome (then_from (slice_get ceilings.now.free task) (λ c. c)) }
     ensures { result ≡ waiting.free_at ceilings.now task }
 {
     match ceilings.free.get(task) {
-        None => 0,
-        Some(ceiling) => ceiling.unwrap_or(0),
+        None => unreachable!(),
+        Some(None) => unreachable!(),
+        Some(Some(ceiling)) => *ceiling,
     }
 }
 
-/// The ceiling of the first of these ready queues that is of this level, and 0 where there is none.
+/// The ceiling of the first of these ready queues that is of this level, which one is.
 fn ready_in(queues: &[ReadyCeiling], level: u8) -> u8
+    requires { IsSome (find (λ r. r.level == level) queues.now) }
     ensures { result ≡ waiting.ceiling_or_zero (find (λ r. r.level == level) queues.now) }
 {
     match queues.iter().find(|queue| queue.level == level) {
-        None => 0,
+        None => unreachable!(),
         Some(queue) => queue.ceiling,
     }
 }
 
-/// The ceiling of the ready queue of a level, and 0 where there is none.
+/// The ceiling of the ready queue of a level of software tasks.
 fn ready_at(ceilings: &Ceilings, level: u8) -> u8
+    requires { IsSome (find (λ r. r.level == level) ceilings.now.ready) }
     ensures { result ≡ waiting.ready_at ceilings.now level }
 {
     ready_in(&ceilings.ready, level)
 }
 
-/// The ceiling of the timer queue, and 0 where there is none.
+/// The ceiling of the timer queue, where there is a monotonic.
 fn timer_at(ceilings: &Ceilings) -> u8
+    requires { IsSome ceilings.now.timer }
     ensures { result ≡ or_zero ceilings.now.timer }
 {
-    ceilings.timer.unwrap_or(0)
+    match ceilings.timer {
+        None => unreachable!(),
+        Some(ceiling) => ceiling,
+    }
 }
 
-/// The priority of a task, and 0 where there is none.
+/// The priority of a task that is declared.
 fn task_priority(app: &App, task: TaskId) -> u8
+    requires { task < length (app_of app.now).tasks }
     ensures { result ≡ task_priority (app_of app.now) task }
 {
     match app.task(task) {
-        None => 0,
+        None => unreachable!(),
         Some(task) => task.priority,
     }
 }
@@ -97,6 +112,8 @@ fn handle_section(measure: &Measure) -> u32
 
 /// The greatest cost of a section of a spawn that counts.
 fn spawn_wait(app: &App, ceilings: &Ceilings, measure: &Measure, priority: u8, spawn: &Spawn) -> u32
+    requires ceilings { ceilings.now ≡ tables.ceilings (app_of app.now) }
+    requires reached { reach.IsSpawnReached (app_of app.now) (spawn_of spawn.now) }
     ensures { result ≡ waiting.spawn_wait (app_of app.now) measure.now ceilings.now priority (spawn_of spawn.now) }
 {
     match spawn {
@@ -123,6 +140,8 @@ fn spawn_wait(app: &App, ceilings: &Ceilings, measure: &Measure, priority: u8, s
 
 /// The greatest cost of a section that counts, of a value that a variable is bound to.
 fn value_wait(app: &App, ceilings: &Ceilings, measure: &Measure, priority: u8, value: &Value) -> u32
+    requires ceilings { ceilings.now ≡ tables.ceilings (app_of app.now) }
+    requires reached { reach.IsValueReached (app_of app.now) (value_of value.now) }
     ensures { result ≡ waiting.value_wait (app_of app.now) measure.now ceilings.now priority (value_of value.now) }
 {
     match value {
@@ -141,6 +160,8 @@ fn statement_wait(
     priority: u8,
     stmt: &Stmt,
 ) -> u32
+    requires ceilings { ceilings.now ≡ tables.ceilings (app_of app.now) }
+    requires reached { reach.IsStatementReached (app_of app.now) (statement_of stmt.now) }
     ensures { let s = statement_of stmt.now in
         result ≡ waiting.statement_wait (app_of app.now) measure.now ceilings.now priority s }
 {
@@ -176,6 +197,8 @@ fn block_wait(
     priority: u8,
     stmts: &[Stmt],
 ) -> u32
+    requires ceilings { ceilings.now ≡ tables.ceilings (app_of app.now) }
+    requires reached { reach.IsBlockReached (app_of app.now) (block_of stmts.now) }
     ensures { let b = block_of stmts.now in
         result ≡ waiting.block_wait (app_of app.now) measure.now ceilings.now priority b }
 {
@@ -188,6 +211,8 @@ fn block_wait(
 
 /// The greatest cost of a section of `idle` that counts.
 fn idle_wait(app: &App, ceilings: &Ceilings, measure: &Measure, priority: u8) -> u32
+    requires ceilings { ceilings.now ≡ tables.ceilings (app_of app.now) }
+    requires sound { IsSound (app_of app.now) }
     ensures { let all = app_of app.now in
         result ≡ waiting.idle_wait all measure.now ceilings.now priority all.idle }
 {
@@ -213,7 +238,10 @@ fn dispatcher_section(app: &App, level: u8) -> u32
 
 /// The greatest cost of a section of a software task's dispatcher that counts.
 fn dispatcher_wait(app: &App, ceilings: &Ceilings, priority: u8, number: usize, task: &Task) -> u32
-    requires { length (app_of app.now).tasks ≤ TASKS }
+    requires few { length (app_of app.now).tasks ≤ TASKS }
+    requires ceilings { ceilings.now ≡ tables.ceilings (app_of app.now) }
+    requires task { slice_get (app_of app.now).tasks number ≡ Some (task_of task.now) }
+    requires software { level.is_software (task_of task.now) ≡ true }
     ensures { result ≡ waiting.dispatcher_wait (app_of app.now) ceilings.now priority number (task_of task.now) }
 {
     let ready = ready_at(ceilings, task.priority);
@@ -231,6 +259,9 @@ fn task_wait(
     task: &Task,
 ) -> u32
     requires few { length (app_of app.now).tasks ≤ TASKS }
+    requires ceilings { ceilings.now ≡ tables.ceilings (app_of app.now) }
+    requires sound { IsSound (app_of app.now) }
+    requires task { slice_get (app_of app.now).tasks number ≡ Some (task_of task.now) }
     ensures { result ≡ waiting.task_wait (app_of app.now) measure.now ceilings.now priority number (task_of task.now) }
 {
     if priority <= task.priority {
@@ -247,6 +278,8 @@ fn task_wait(
 /// The greatest cost of a section of the tasks that counts.
 fn tasks_wait(app: &App, ceilings: &Ceilings, measure: &Measure, priority: u8) -> u32
     requires few { length (app_of app.now).tasks ≤ TASKS }
+    requires ceilings { ceilings.now ≡ tables.ceilings (app_of app.now) }
+    requires sound { IsSound (app_of app.now) }
     ensures { let all = app_of app.now in
         result ≡ waiting.tasks_wait all measure.now ceilings.now priority 0 all.tasks }
 {
@@ -260,6 +293,8 @@ fn tasks_wait(app: &App, ceilings: &Ceilings, measure: &Measure, priority: u8) -
 
 /// The cost of the section of a task's ready queue, where the task can be armed and the section counts.
 fn move_wait(ceilings: &Ceilings, priority: u8, task: &Task, is_armed: bool) -> u32
+    requires { let t = task_of task.now in let ready = ceilings.now.ready in
+        level.is_software t ≡ true → t.priority < PRIORITIES → IsSome (find (λ r. r.level == t.priority) ready) }
     ensures { let t = task_of task.now in
         let own = waiting.if_reaches priority (waiting.ready_at ceilings.now t.priority) READY_COST in
         result ≡ (if level.is_software t then (if is_armed then own else 0) else 0) }
@@ -275,6 +310,8 @@ fn move_wait(ceilings: &Ceilings, priority: u8, task: &Task, is_armed: bool) -> 
 fn moves_wait(app: &App, ceilings: &Ceilings, armed: &Flags, priority: u8) -> u32
     requires few { length (app_of app.now).tasks ≤ TASKS }
     requires armed { HasFlags armed.now (level.is_armed (app_of app.now)) }
+    requires ceilings { ceilings.now ≡ tables.ceilings (app_of app.now) }
+    requires sound { IsSound (app_of app.now) }
     ensures { let all = app_of app.now in result ≡ waiting.moves_wait all ceilings.now priority 0 all.tasks }
 {
     let mut most: u32 = 0;
@@ -289,6 +326,8 @@ fn moves_wait(app: &App, ceilings: &Ceilings, armed: &Flags, priority: u8) -> u3
 fn timer_wait(app: &App, ceilings: &Ceilings, measure: &Measure, armed: &Flags, priority: u8) -> u32
     requires few { length (app_of app.now).tasks ≤ TASKS }
     requires armed { HasFlags armed.now (level.is_armed (app_of app.now)) }
+    requires ceilings { ceilings.now ≡ tables.ceilings (app_of app.now) }
+    requires sound { IsSound (app_of app.now) }
     ensures { result ≡ waiting.timer_wait (app_of app.now) measure.now ceilings.now priority app.now.mono }
 {
     match &app.mono {
@@ -314,6 +353,8 @@ pub(crate) fn wait_within(
 ) -> u32
     requires few { length (app_of app.now).tasks ≤ TASKS }
     requires armed { HasFlags armed.now (level.is_armed (app_of app.now)) }
+    requires ceilings { ceilings.now ≡ tables.ceilings (app_of app.now) }
+    requires sound { IsSound (app_of app.now) }
     ensures { result ≡ waiting.wait_within (app_of app.now) measure.now ceilings.now priority }
 {
     let idle = idle_wait(app, ceilings, measure, priority);

@@ -7,13 +7,13 @@ use Rattle.rt_gen_queue.proofs.Vocabulary.{block_of, ceiling, eqb-true, false, f
 use Rattle.rt_gen_queue.proofs.Vocabulary.{length}
 use Rattle.rt_gen_queue.proofs.Vocabulary.{length-append, map, mapped_at, member_at, next_address, option_map, plain}
 use Rattle.rt_gen_queue.proofs.Vocabulary.{range_with_len, refl, set-append_seam, slice_get, slice_get_read, slice_set}
-use Rattle.rt_gen_queue.proofs.Vocabulary.{statements_in, subst, suc, sym, task_of, true, zero, ℕ, ◌++◌, ◌+◌, ◌<◌, ◌==◌}
+use Rattle.rt_gen_queue.proofs.Vocabulary.{subst, suc, sym, task_of, true, zero, ℕ, ◌++◌, ◌+◌, ◌<◌, ◌==◌}
 use Rattle.rt_gen_queue.proofs.Vocabulary.{◌^◌, ◌∙◌, ◌∷◌, ◌≡◌, ◌≢◌, ◌≤◌}
 use Rattle.std.proofs.lemmas.{Bool.eqb-false, Option.slice_get-map, Simd.map-map}
 use Rattle.rt_lemmas.proofs.{Lists.all_map, Membership.all_from_members}
 use Rattle.rt_ids.specs.declared.ids.BodyId.TheVariants as body
 use Rattle.rt_ids.specs.declared.ids.Section.TheVariants as section
-use Rattle.rt_app.specs.{Limits.statements_of, View.body_of, View.statement_of, declared.stmt.Stmt.Stmt}
+use Rattle.rt_app.specs.{View.body_of, View.statement_of, declared.stmt.Stmt.Stmt}
 use Rattle.rt_app.specs.Tree as tree
 use Rattle.rt_app.specs.declared.app.App as code
 use Rattle.rt_app.specs.declared.app.Task as row
@@ -86,17 +86,6 @@ two_emitted c b q r first second e f = rw (f, e) (simp (behind_at, longer, appen
 -- lines and none after them
 pub appends_none : (code : Made) → Appends code code []
 appends_none code = ap (λ (xs : List Line). record code { lines = xs }) (sym (append-nil code.lines))
-
-at_within : (xs : List Stmt) (i : ℕ) (x : Stmt) → i < length xs
-    → statements_in (statement_of (get_or xs i x)) ≤ statements_of (block_of xs)
-at_within [] i x within = absurd (omega arith)
-at_within (y ∷ xs) zero x within = omega arith
-at_within (y ∷ xs) (suc i) x within = omega (arith, at_within xs i x (omega arith))
-
--- a statement of a block is no longer than the block
-pub statement_within : (xs : List Stmt) (i : ℕ) (x : Stmt) → i < length xs → x ≡ get_or xs i x
-    → statements_in (statement_of x) ≤ statements_of (block_of xs)
-statement_within xs i x within is = omega (arith, at_within xs i x within, ap (λ y. statements_in (statement_of y)) is)
 
 -- the jump over a second block stands among the lines of the first
 pub first_within : (c : Context) (a b : Made) (over : ℕ) (block : List Line) → over ≡ length a.lines + 1 + length block

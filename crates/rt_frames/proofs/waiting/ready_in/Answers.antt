@@ -1,4 +1,4 @@
-use Rattle.std.proofs.Common.{rules, tests, ◌==◌, ap, sym, ◌∙◌}
+use Rattle.std.proofs.Common.{rules, tests, ◌≡◌, ◌==◌, true, false, IsSome, ap, subst, sym, ◌∙◌}
 use Rattle.std.specs.Option.{option_map}
 use Rattle.std.proofs.lemmas.Iterator.{YieldsList-from_slice}
 use Rattle.std.proofs.lemmas.Iterator.Search.{find_from_yields_List}
@@ -6,15 +6,16 @@ use Rattle.rt_app.specs.declared.ceilings.ReadyCeiling.{ReadyCeiling}
 use Rattle.rt_frames.specs.Inside.Waits.{ceiling_or_zero}
 use Rattle.rt_frames.proofs.waiting.ready_in.Goals as goal
 
-pub returns-in-None : goal.returns-in-None
-returns-in-None c =
+pub unreachable-requires : goal.unreachable-requires
+unreachable-requires c =
     let test = λ (q : ReadyCeiling). q.level == c.args.level in
     let found = find_from_yields_List test _ _ c.find.result c.find.ensures.ran
     (YieldsList-from_slice c.args.queues.now cc) (λ x b q k. search (rules, tests)) in
-    ap ceiling_or_zero (sym (ap (option_map (λ x. x.now)) c.in-None.is) ∙ found)
+    absurd (let some : false ≡ true =
+    subst IsSome (sym found ∙ ap (option_map (λ x. x.now)) c.in-None.is) c.requires in cc)
 
-pub returns-in-Some : goal.returns-in-Some
-returns-in-Some c =
+pub returns : goal.returns
+returns c =
     let test = λ (q : ReadyCeiling). q.level == c.args.level in
     let found = find_from_yields_List test _ _ c.find.result c.find.ensures.ran
     (YieldsList-from_slice c.args.queues.now cc) (λ x b q k. search (rules, tests)) in

@@ -3,9 +3,10 @@ use Rattle.rt_gen_queue.proofs.Vocabulary.{length-append, next_address, refl, se
 use Rattle.rt_gen_queue.proofs.Vocabulary.{take_more, ℕ, ◌+◌, ◌∙◌}
 use Rattle.rt_lemmas.proofs.Results.{on_ok_weaker}
 use Rattle.rt_app.specs.declared.stmt.Stmt.{Stmt}
+use Rattle.rt_frames.proofs.Reaching.{statement_within}
 use Rattle.rt_frames.proofs.Views.{branch_at, locked_at, repeat_at}
 use Rattle.rt_gen_body.proofs.Generated.{behind_at, behind_four, behind_loop, block_code-append, first_within}
-use Rattle.rt_gen_body.proofs.Generated.{fourth_seam, no_second, some_second, statement_within, two_emitted}
+use Rattle.rt_gen_body.proofs.Generated.{fourth_seam, no_second, some_second, two_emitted}
 use Rattle.rt_gen_body.proofs.generator.Generator.+block.Goals as goal
 use Rattle.rt_gen_body.specs.{BlockCode.block_code, BlockCode.one_code, Inside.Generating.context}
 
