@@ -27,7 +27,7 @@ use Rattle.rt_live_inputs.specs.Boxes.{boxes}
 use Rattle.rt_live_inputs.specs.Histories.{AreHistories}
 use Rattle.rt_live_inputs.specs.Looking.{Found}
 use Rattle.rt_live_inputs.specs.Output.{HasWritten, HasWrittenPart, IsLiveText, happened, live_text}
-use Rattle.rt_live_inputs.specs.Inside.Going.{Goes, Puts}
+use Rattle.rt_live_inputs.specs.Inside.Going.{CameOf, Puts}
 use Rattle.rt_live_inputs.proofs.Texts.{Comes_of, comes_of}
 
 -- of what is not written nothing depends
@@ -40,7 +40,7 @@ puts_other false false bytes others x y f g same puts = puts
 
 -- where no fault came all steps were done
 all_steps : (app : App) (board : Board) (hs : List Happening) (p q : Bool) (a b : Moment) (x y : List ℕ) (f g : ℕ)
-    → a.machine.steps ≡ 0 → Goes app board hs p q a b x y f g → q ≡ true
+    → a.machine.steps ≡ 0 → CameOf app board hs p q a b x y f g → q ≡ true
     → b.machine.steps ≡ steps (events_of hs)
 all_steps app board hs true true a b x y f g none goes went = omega (
   arith,
@@ -138,7 +138,7 @@ module _ (app : App) (board : Board) (m : Machine) (words : List ℕ) (fresh : I
         )
 
     pub run_came : (n : Machine) (words' : List ℕ) (p q r s : Bool) (v x y z t : List ℕ) (f g h i j : ℕ)
-        → Puts front true p v x f g → Goes app board hs p q start (moment n words') x y g h
+        → Puts front true p v x f g → CameOf app board hs p q start (moment n words') x y g h
         → Puts (total_text n.steps) q r y z h i → Puts account r s z t i j → Came s n v t f j
     run_came n words' p q r s v x y z t f g h i j one two three four =
         came s n v t f j

@@ -18,7 +18,7 @@ use Rattle.rt_inputs.specs.Inside.Ran.{Cut, Ran}
 use Rattle.rt_inputs.proofs.Advancing.{goes_on as ran_on, moves_on, nothing_yet, text_split}
 use Rattle.rt_inputs.proofs.Known.{still_can, time_led}
 use Rattle.rt_inputs.proofs.Moved.{events_come, happened_more}
-use Rattle.rt_live_inputs.specs.Inside.Going.{CanHappen, Goes, IsOne, Stops}
+use Rattle.rt_live_inputs.specs.Inside.Going.{CanHappen, CameOf, IsOne, StopsIn}
 
 pub ticks-append : (es fs : List Event) → ticks (es ++ fs) ≡ ticks es + ticks fs
 ticks-append [] fs = let e : ticks fs ≡ 0 + ticks fs = omega arith in e
@@ -36,7 +36,7 @@ module _ (app : App) (board : Board) where
 
   -- a fault where one thing alone happens
   pub cut_stops : (hs : List Happening) (a : Moment) (m : Machine) (x y h : List ℕ) → h ≡ [] → IsOne hs
-      → Cut app board hs a m x y h → Stops app board hs a m x y
+      → Cut app board hs a m x y h → StopsIn app board hs a m x y
   cut_stops hs a m x y h empty one cut =
       let last : Happening = Comes cut.ends.last in
       let none : cut.ends.earlier ≡ [] =
@@ -64,7 +64,7 @@ module _ (app : App) (board : Board) where
 
   -- a fault where its lines go out
   pub ran_stops : (hs : List Happening) (a b : Moment) (x y z h k : List ℕ) → h ≡ [] → IsOne hs
-      → Ran app board hs a b x y h k → TookPrefix y z k → Stops app board hs a b.machine x z
+      → Ran app board hs a b x y h k → TookPrefix y z k → StopsIn app board hs a b.machine x z
   ran_stops hs a b x y z h k empty one run part =
       let took : TookPrefix x z (text_at app board a (one.0 ∷ [])) =
       subst (λ (t : List Happening). TookPrefix x z (text_at app board a t)) one.1
@@ -98,7 +98,7 @@ module _ (app : App) (board : Board) where
   }
 
   stops_behind : (hs gs : List Happening) (a b : Moment) (m : Machine) (x y z : List ℕ)
-      → Ran app board hs a b x y [] [] → Stops app board gs b m y z → Stops app board (hs ++ gs) a m x z
+      → Ran app board hs a b x y [] [] → StopsIn app board gs b m y z → StopsIn app board (hs ++ gs) a m x z
   stops_behind hs gs a b m x y z run stop =
       let own : List Happening = stop.told ++ stop.last ∷ [] in
       let took = ran_took hs a b x y run in
@@ -123,8 +123,8 @@ module _ (app : App) (board : Board) where
             (least_on x y z (text_at app board a hs) (text_at app board b stop.told) took stop.lines);
       }
 
-  stops_before : (hs gs : List Happening) (a : Moment) (m : Machine) (x y : List ℕ) → Stops app board hs a m x y
-      → Stops app board (hs ++ gs) a m x y
+  stops_before : (hs gs : List Happening) (a : Moment) (m : Machine) (x y : List ℕ) → StopsIn app board hs a m x y
+      → StopsIn app board (hs ++ gs) a m x y
   stops_before hs gs a m x y stop = record {
     told = stop.told;
     last = stop.last;
@@ -136,20 +136,20 @@ module _ (app : App) (board : Board) where
     lines = stop.lines;
   }
 
-  pub goes_none : (went : Bool) (a : Moment) (x : List ℕ) (f : ℕ) → Goes app board [] went went a a x x f f
+  pub goes_none : (went : Bool) (a : Moment) (x : List ℕ) (f : ℕ) → CameOf app board [] went went a a x x f f
   goes_none true a x f = (nothing_yet app board a x [], refl)
   goes_none false a x f = (refl, refl, refl)
 
   pub goes_on : (hs gs : List Happening) (u v w : Bool) (a b c : Moment) (x y z : List ℕ) (f g h : ℕ)
-      → Goes app board hs u v a b x y f g → Goes app board gs v w b c y z g h
-      → Goes app board (hs ++ gs) u w a c x z f h
+      → CameOf app board hs u v a b x y f g → CameOf app board gs v w b c y z g h
+      → CameOf app board (hs ++ gs) u w a c x z f h
   goes_on hs gs true true true a b c x y z f g h p q = (ran_on app board hs gs a b c x y z [] [] [] p.0 q.0, q.1 ∙ p.1)
   goes_on hs gs true true false a b c x y z f g h p q =
       (stops_behind hs gs a b c.machine x y z p.0 q.0, subst (λ n. Rose n h) p.1 q.1)
   goes_on hs gs true false true a b c x y z f g h p q = absurd q
   goes_on hs gs true false false a b c x y z f g h p q = (
-    subst (λ (m : Machine). Stops app board (hs ++ gs) a m x z) (sym q.0)
-        (subst (Stops app board (hs ++ gs) a b.machine x) (sym q.1)
+    subst (λ (m : Machine). StopsIn app board (hs ++ gs) a m x z) (sym q.0)
+        (subst (StopsIn app board (hs ++ gs) a b.machine x) (sym q.1)
         (stops_before hs gs a b.machine x y p.0)),
     subst (Rose f) (sym q.2) p.1,
   )
@@ -159,9 +159,9 @@ module _ (app : App) (board : Board) where
 
   -- by the same of equal lists
   pub goes_same : (hs gs : List Happening) (u w : Bool) (a b : Moment) (x y : List ℕ) (f g : ℕ) → hs ≡ gs
-      → Goes app board hs u w a b x y f g → Goes app board gs u w a b x y f g
+      → CameOf app board hs u w a b x y f g → CameOf app board gs u w a b x y f g
   goes_same hs gs u w a b x y f g is goes =
-      subst (λ (t : List Happening). Goes app board t u w a b x y f g) is goes
+      subst (λ (t : List Happening). CameOf app board t u w a b x y f g) is goes
 
   -- what was done of what happens, with its steps and ticks
   record Led (hs : List Happening) (a b : Machine) : Type 0 where
@@ -185,7 +185,7 @@ module _ (app : App) (board : Board) where
       }
 
   led : (hs : List Happening) (u w : Bool) (a b : Moment) (x y : List ℕ) (f g : ℕ)
-      → Goes app board hs u w a b x y f g → Led hs a.machine b.machine
+      → CameOf app board hs u w a b x y f g → Led hs a.machine b.machine
   led hs true true a b x y f g p = led_by hs hs [] a b.machine (sym (append-nil hs)) p.0.leads.machine
   led hs true false a b x y f g p =
       led_by hs (p.0.told ++ p.0.last ∷ []) p.0.rest a b.machine
@@ -200,7 +200,7 @@ module _ (app : App) (board : Board) where
       }))
 
   module _ (hs : List Happening) (u w : Bool) (a b : Moment) (x y : List ℕ) (f g : ℕ)
-      (goes : Goes app board hs u w a b x y f g) where
+      (goes : CameOf app board hs u w a b x y f g) where
     pub same_image : b.machine.image ≡ a.machine.image
     same_image = (led hs u w a b x y f g goes).leads.image
 

@@ -1,6 +1,6 @@
 -- What devices give by a mailbox has 32 bits, so that the runs are good.
-use Rattle.std.proofs.Common.{ℕ, zero, suc, ◌^◌, ◌<◌, List, [], ◌∷◌, ◌++◌, map, flat_map, replicate, zip, Option}
-use Rattle.std.proofs.Common.{Some, None, IfSome}
+use Rattle.std.proofs.Common.{ℕ, zero, suc, List, [], ◌∷◌, ◌++◌, map, flat_map, replicate, zip, Option}
+use Rattle.std.proofs.Common.{Some, None}
 use Rattle.std.specs.List.{AllByRecursion}
 use Rattle.rt_lemmas.proofs.Membership.{all_append}
 use Rattle.rt_ids.specs.Event.{Event, Arrive, Tick}
@@ -15,6 +15,7 @@ use Rattle.rt_live_inputs.specs.declared.boxes.BoxKind.{BoxKind as Box}
 use Rattle.rt_live_inputs.specs.Looking.{Found, Happens, Looks, InputTurn, box_happenings, happenings_of, line_turns}
 use Rattle.rt_live_inputs.specs.Looking.{look_happenings, own_steps, step_turns, turns}
 use Rattle.rt_live_inputs.specs.Histories.{IsWhole}
+use Rattle.rt_live_inputs.specs.Inside.Turning.{IsFoundWord}
 use Rattle.rt_live_inputs.specs.Laws.{LiveRunsAreGood}
 use Rattle.rt_live.specs.Interleaving.{look_arrivals}
 
@@ -29,18 +30,15 @@ no_words_of : (events : List Event) → AreWords (map Comes events)
 no_words_of [] = tt
 no_words_of (event ∷ events) = no_words_of events
 
-abbrev IsSmall : Option ℕ → Type 0
-IsSmall word = IfSome word (λ w. w < 2 ^ 32)
-
 -- what waited in mailboxes
-box_words : (all : List Box) (waited : List (Option ℕ)) → AllByRecursion IsSmall waited
+box_words : (all : List Box) (waited : List (Option ℕ)) → AllByRecursion IsFoundWord waited
     → AreWords (flat_map box_happenings (zip all waited))
 box_words [] waited small = tt
 box_words (box ∷ all) [] small = tt
 box_words (box ∷ all) (None ∷ waited) small = box_words all waited small.1
 box_words (box ∷ all) (Some word ∷ waited) small = (small.0, box_words all waited small.1)
 
-look_words : (all : List Box) (one : Found) → AllByRecursion IsSmall one.waited → AreWords (look_happenings all one)
+look_words : (all : List Box) (one : Found) → AllByRecursion IsFoundWord one.waited → AreWords (look_happenings all one)
 look_words all one small =
     both_words (map Comes (look_arrivals one.row)) (flat_map box_happenings (zip all one.waited))
     (no_words_of (look_arrivals one.row)) (box_words all one.waited small)

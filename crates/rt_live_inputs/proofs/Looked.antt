@@ -30,8 +30,8 @@ use Rattle.rt_values.specs.Sides.{TakerSide}
 use Rattle.rt_live_inputs.specs.declared.boxes.BoxKind.{BoxKind as Box}
 use Rattle.rt_live_inputs.specs.Looking.{Found, Looks, box_happenings, look_happenings}
 use Rattle.rt_live_inputs.specs.Inside.Able.{CanLatch, CanTake}
-use Rattle.rt_live_inputs.specs.Inside.Going.{CanHappen, Goes}
-use Rattle.rt_live_inputs.specs.Inside.Turning.{IsSmall, LooksAtBoxes, LooksAtRow, Turns, took, took_one}
+use Rattle.rt_live_inputs.specs.Inside.Going.{CanHappen, CameOf}
+use Rattle.rt_live_inputs.specs.Inside.Turning.{IsFoundWord, LooksAtBoxes, LooksAtRow, Turns, took, took_one}
 use Rattle.rt_live_inputs.proofs.Going.{can_then, goes_none, goes_on, goes_same, same_image}
 
 -- interrupts that arrive
@@ -81,7 +81,7 @@ pub record RowSoFar (k : ℕ) (app : App) (board : Board) (u w : Bool) (line l :
   pub many : length found ≡ k
   pub declared : FindsDeclared a.machine.image.names found
   pub line_is : l ≡ record line { calls = line.calls ++ look_calls found }
-  pub goes : Goes app board (map Comes (look_arrivals found)) u w a b x y f g
+  pub goes : CameOf app board (map Comes (look_arrivals found)) u w a b x y f g
 
 pub row_none : (app : App) (board : Board) (u : Bool) (line : Line) (a : Moment) (x : List ℕ) (f : ℕ)
     → RowSoFar 0 app board u u line line a a x x f f
@@ -129,7 +129,7 @@ module _ {k : ℕ} {app : App} {board : Board} {u v : Bool} {line l : Line} {a b
       row_bits = subst (λ (img : Image). BitsMayArrive img.names k word) (sym row_image) bits
 
       pub row_more : (m : Line) → m ≡ line_with l (Latch (word_in_row l.here k) word ∷ []) → {w : Bool} {c : Moment}
-          {z : List ℕ} {h : ℕ} → Goes app board (come (arrivals k word)) v w b c y z g h
+          {z : List ℕ} {h : ℕ} → CameOf app board (come (arrivals k word)) v w b c y z g h
           → RowSoFar (k + 1) app board u w line m a c x z f h
       row_more m call {w} {c} {z} {h} goes = record {
         found = row.found ++ word ∷ [];
@@ -234,9 +234,9 @@ pub record BoxesSoFar (n : ℕ) (app : App) (board : Board) (kinds : List Box) (
     (a b : Moment) (x y : List ℕ) (f g : ℕ) : Type 0 where
   pub waited : List (Option ℕ)
   pub many : length waited ≡ n
-  pub small : AllByRecursion IsSmall waited
+  pub small : AllByRecursion IsFoundWord waited
   pub takers_are : ts' ≡ took ts waited
-  pub goes : Goes app board (flat_map box_happenings (zip kinds waited)) u w a b x y f g
+  pub goes : CameOf app board (flat_map box_happenings (zip kinds waited)) u w a b x y f g
 
 pub boxes_none : (app : App) (board : Board) (kinds : List Box) (u : Bool) (ts : List TakerSide) (a : Moment)
     (x : List ℕ) (f : ℕ) → BoxesSoFar 0 app board kinds u u ts ts a a x x f f
@@ -265,17 +265,17 @@ module _ {n : ℕ} {app : App} {board : Board} {kinds : List Box} {u v : Bool} {
       ∙ took_at ts far.waited d
       ∙ ap (λ k. get_or ts k d) far.many
 
-  boxes_on : (found : Option ℕ) (kind : Box) {ts'' : List TakerSide} → IsSmall found
+  boxes_on : (found : Option ℕ) (kind : Box) {ts'' : List TakerSide} → IsFoundWord found
       → n < length ts → n < length kinds → kind ≡ get_or kinds n kind
       → ((d : TakerSide) → ts'' ≡ slice_set ts' n (took_one (get_or ts' n d) found)) → {w : Bool} {c : Moment}
-      {z : List ℕ} {h : ℕ} → Goes app board (box_happenings (kind, found)) v w b c y z g h
+      {z : List ℕ} {h : ℕ} → CameOf app board (box_happenings (kind, found)) v w b c y z g h
       → BoxesSoFar (n + 1) app board kinds u w ts ts'' a c x z f h
   boxes_on found kind {ts''} small within below is call {w} {c} {z} {h} goes =
       let d : TakerSide = some_taker ts n within in
       record {
         waited = far.waited ++ found ∷ [];
         many = omega (arith, far.many, length-append far.waited (found ∷ []));
-        small = all_append IsSmall far.waited (found ∷ []) far.small (small, tt);
+        small = all_append IsFoundWord far.waited (found ∷ []) far.small (small, tt);
         takers_are =
             call d
             ∙ ap (λ (t : List TakerSide). slice_set t n (took_one (get_or t n d) found)) far.takers_are
@@ -292,7 +292,7 @@ module _ {n : ℕ} {app : App} {board : Board} {kinds : List Box} {u v : Bool} {
       }
 
   -- a mailbox more, in which a word waited or none
-  module _ (found : Option ℕ) (small : IsSmall found) (k : ℕ) (at : k ≡ n) (kind : Box) (within : n < length ts)
+  module _ (found : Option ℕ) (small : IsFoundWord found) (k : ℕ) (at : k ≡ n) (kind : Box) (within : n < length ts)
       (below : n < length kinds) (is : kind ≡ get_or kinds n kind) {ts'' : List TakerSide}
       (call : (d : TakerSide) → ts'' ≡ slice_set ts' k (took_one (get_or ts' k d) found)) where
     call_here : (waits : Option ℕ) → found ≡ waits → (d : TakerSide)
@@ -302,14 +302,14 @@ module _ {n : ℕ} {app : App} {board : Board} {kinds : List Box} {u v : Bool} {
         ∙ ap (λ (w : Option ℕ). slice_set ts' n (took_one (get_or ts' n d) w)) same
 
     pub boxes_some : (word : ℕ) → found ≡ Some word → {w : Bool} {c : Moment} {z : List ℕ} {h : ℕ}
-        → Goes app board (given_request kind.irq kind.local word) v w b c y z g h
+        → CameOf app board (given_request kind.irq kind.local word) v w b c y z g h
         → BoxesSoFar (n + 1) app board kinds u w ts ts'' a c x z f h
     boxes_some word same goes =
-        boxes_on (Some word) kind (subst IsSmall same small) within below is (call_here (Some word) same) goes
+        boxes_on (Some word) kind (subst IsFoundWord same small) within below is (call_here (Some word) same) goes
 
     pub boxes_skip : found ≡ None → BoxesSoFar (n + 1) app board kinds u v ts ts'' a b x y f g
     boxes_skip same =
-        boxes_on None kind (subst IsSmall same small) within below is (call_here None same)
+        boxes_on None kind (subst IsFoundWord same small) within below is (call_here None same)
         (goes_none app board v b y g)
 
   pub boxes_all : n ≡ length kinds → LooksAtBoxes app board kinds u v ts ts' a b x y f g

@@ -18,15 +18,11 @@ use Rattle.rt_live_inputs.specs.Inside.Able.{AllGave}
 use Rattle.rt_live_inputs.specs.Inside.Making.{AreGivers, HaveTaken, gathered_all, gathered_one}
 use Rattle.rt_live_inputs.specs.Inside.Turning.{took, took_all, took_one}
 use Rattle.rt_live_inputs.proofs.Made.{givers_long}
+use Rattle.rt_live_inputs.proofs.Turning.{took_long}
 
 -- a taker with these calls more
 abbrev taken_by : TakerSide → List Call → TakerSide
 taken_by t calls = record t { calls = t.calls ++ calls; last = t.last ++ calls }
-
-took_long : (ts : List TakerSide) (ws : List (Option ℕ)) → length (took ts ws) ≡ length ts
-took_long [] ws = refl
-took_long (t ∷ ts) [] = refl
-took_long (t ∷ ts) (w ∷ ws) = ap suc (took_long ts ws)
 
 took_index : (ts : List TakerSide) (ws : List (Option ℕ)) (k : ℕ) (d : TakerSide) → k < length ts
     → length ws ≡ length ts → get_or (took ts ws) k d ≡ took_one (get_or ts k d) (unwrap_or (slice_get ws k) None)

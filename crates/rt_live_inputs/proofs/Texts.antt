@@ -11,7 +11,7 @@ use Rattle.rt_inputs.specs.Inputs.{Happening}
 use Rattle.rt_inputs.specs.Going.{Moment, MovesLead, moves_at, registers_after, text_at}
 use Rattle.rt_inputs.specs.Inside.Ran.{Ran}
 use Rattle.rt_inputs.proofs.Advancing.{text_split}
-use Rattle.rt_live_inputs.specs.Inside.Going.{Goes, Puts, Stops}
+use Rattle.rt_live_inputs.specs.Inside.Going.{CameOf, Puts, StopsIn}
 
 module _ (app : App) (board : Board) (hs : List Happening) (a : Moment) (front tail : List ℕ) where
   -- all of it
@@ -47,7 +47,7 @@ lines_part app board a m done rest leads =
 module _ (app : App) (board : Board) (hs : List Happening) (a b : Moment) (front : List ℕ) (v x : List ℕ) (f g : ℕ)
     (first : Took v x front) (same : g ≡ f) where
   -- a fault where things happen
-  happens_cut : (tail y : List ℕ) (h : ℕ) → Stops app board hs a b.machine x y → Rose g h
+  happens_cut : (tail y : List ℕ) (h : ℕ) → StopsIn app board hs a b.machine x y → Rose g h
       → Comes_of app board hs a front tail false b.machine v y f h
   happens_cut tail y h stop rose =
       let done : List Happening = stop.told ++ stop.last ∷ [] in
@@ -146,7 +146,7 @@ module _ (app : App) (board : Board) (hs : List Happening) (a b : Moment) (front
 
   -- whatever came of the parts
   pub comes_of : (p q r s : Bool) (v x y z t : List ℕ) (f g h i j : ℕ) → Puts front true p v x f g
-      → Goes app board hs p q a b x y g h → Puts total q r y z h i → Puts account r s z t i j
+      → CameOf app board hs p q a b x y g h → Puts total q r y z h i → Puts account r s z t i j
       → Comes_of app board hs a front (total ++ account) s b.machine v t f j
   comes_of true true true true v x y z t f g h i j one two three four =
       all_taken app board hs a b front v x f g one.0 one.1 y h two.0 two.1 total account z t i j three.0 three.1 four.0

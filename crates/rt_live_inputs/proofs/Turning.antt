@@ -29,7 +29,7 @@ use Rattle.rt_live_inputs.specs.declared.boxes.BoxKind.{BoxKind as Box}
 use Rattle.rt_live_inputs.specs.Looking.{Found, Happens, Looks, InputTurn, box_happenings, happenings_of, look_happenings}
 use Rattle.rt_live_inputs.specs.Looking.{looks}
 use Rattle.rt_live_inputs.specs.Inside.Able.{CanLatch, CanTake, CanTurn}
-use Rattle.rt_live_inputs.specs.Inside.Going.{Goes}
+use Rattle.rt_live_inputs.specs.Inside.Going.{CameOf}
 use Rattle.rt_live_inputs.specs.Inside.Turning.{IsLook, Turns, took, took_all}
 use Rattle.rt_live_inputs.proofs.Going.{can_then, goes_none, goes_on, goes_same, same_image, ticks-append}
 use Rattle.rt_live_inputs.proofs.Looked.{box_steps, box_ticks, come, no_steps, no_ticks}
@@ -97,7 +97,7 @@ module _ {app : App} {board : Board} {boxes : List Box} where
 
   -- what happens without a look
   pub turns_happen : (hs : List Happening) {u w : Bool} {l : Line} {ts : List TakerSide} {a b : Moment} {x y : List ℕ}
-      {f g : ℕ} → Goes app board hs u w a b x y f g
+      {f g : ℕ} → CameOf app board hs u w a b x y f g
       → Turns app board boxes (map Happens hs) u w l l ts ts a b x y f g
   turns_happen hs {u} {w} {l} {ts} {a} {b} {x} {y} {f} {g} goes = record {
     found = [];
@@ -248,14 +248,14 @@ pub boxes_stay : (ts : List TakerSide) (found : List Found)
 boxes_stay ts [] = refl
 boxes_stay ts (one ∷ found) = boxes_stay (took ts one.waited) found ∙ boxes_kept ts one.waited
 
-one_long : (ts : List TakerSide) (ws : List (Option ℕ)) → length (took ts ws) ≡ length ts
-one_long [] ws = refl
-one_long (t ∷ ts) [] = refl
-one_long (t ∷ ts) (w ∷ ws) = ap suc (one_long ts ws)
+pub took_long : (ts : List TakerSide) (ws : List (Option ℕ)) → length (took ts ws) ≡ length ts
+took_long [] ws = refl
+took_long (t ∷ ts) [] = refl
+took_long (t ∷ ts) (w ∷ ws) = ap suc (took_long ts ws)
 
 pub takers_long : (ts : List TakerSide) (found : List Found) → length (took_all ts found) ≡ length ts
 takers_long ts [] = refl
-takers_long ts (one ∷ found) = takers_long (took ts one.waited) found ∙ one_long ts one.waited
+takers_long ts (one ∷ found) = takers_long (took ts one.waited) found ∙ took_long ts one.waited
 
 pub whole_rows : {P : Found → Type 0} (found : List Found) → ((one : Found) → P one → IsWholeLook one.row)
     → AllByRecursion P found → AllByRecursion IsWholeLook (rows found)

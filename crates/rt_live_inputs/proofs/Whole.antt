@@ -31,7 +31,7 @@ use Rattle.rt_live_inputs.specs.Looking.{Found, Looks, happenings_of, line_turns
 use Rattle.rt_live_inputs.specs.Output.{HasWritten, HasWrittenPart, happened}
 use Rattle.rt_live_inputs.specs.declared.boxes.BoxKind.{BoxKind as Box}
 use Rattle.rt_live_inputs.specs.Account.{rows_of}
-use Rattle.rt_live_inputs.specs.Inside.Going.{CanHappen, Goes, Puts}
+use Rattle.rt_live_inputs.specs.Inside.Going.{CanHappen, CameOf, Puts}
 use Rattle.rt_live_inputs.specs.Inside.Making.{HasGone, HasRoomFor, HaveHistories, HaveTaken, with_takers}
 use Rattle.rt_live_inputs.specs.Inside.Turning.{IsLook}
 use Rattle.rt_live_inputs.proofs.Declared.{run_declared}
@@ -149,7 +149,7 @@ module _ (app : App) (board : Board) (script : List GivenLine) (m n : Machine) (
       all_came =
           run_came app board m words fresh none script gone.found are declared rows told_rows front n words' p q r s v x y
           z t f g h i j first
-          (subst (λ (ks : List Box). Goes app board (happenings_of ks (turns script) gone.found) p q (moment m words)
+          (subst (λ (ks : List Box). CameOf app board (happenings_of ks (turns script) gone.found) p q (moment m words)
           (moment n words') x y g h) kinds_are gone.goes) third last
 
       pub ran_all : s ≡ true → HasWritten app board script front m n v t × (j ≡ f)

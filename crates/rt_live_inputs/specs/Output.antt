@@ -44,7 +44,7 @@ pub record IsLiveText (app : App) (img : Image) (board : Board) (script : List G
       ++ account_text img.names (rows_of img.names (boxes script) are.entries are.calls)
 
 -- behind the bytes that stand in front a beginning of such a text was taken, or a beginning of these
-pub record TookPart (app : App) (img : Image) (board : Board) (script : List GivenLine) (front before after : List ℕ)
+pub record TookStart (app : App) (img : Image) (board : Board) (script : List GivenLine) (front before after : List ℕ)
     : Type 0 where
   pub bytes : List ℕ
   pub is : IsLiveText app img board script bytes
@@ -64,7 +64,7 @@ pub record HasWritten (app : App) (board : Board) (script : List GivenLine) (fro
 -- came, or all.
 pub record HasWrittenPart (app : App) (board : Board) (script : List GivenLine) (front : List ℕ) (old new : Machine)
     (before after : List ℕ) : Type 0 where
-  pub part : TookPart app old.image board script front before after
+  pub part : TookStart app old.image board script front before after
   pub told : List Happening
   pub last : List Happening
   pub rest : List Happening

@@ -6,7 +6,7 @@ ghost use Rattle.rt_script.specs.Script.{HasNames};
 ghost use Rattle.rt_given.specs.Given.{asked_line, count_of};
 ghost use Rattle.rt_inputs.specs.Inside.Ran.{Ran, moment};
 ghost use Rattle.rt_inputs.specs.Script.{line_happenings};
-ghost use Rattle.rt_live_inputs.specs.Inside.Going.{CanHappen, Goes, IsOne, Stops};
+ghost use Rattle.rt_live_inputs.specs.Inside.Going.{CanHappen, CameOf, IsOne, StopsIn};
 
 use rt_app::App;
 use rt_board::Board;
@@ -41,7 +41,7 @@ fn put_now<K: Sink>(
     requires one { IsOne (line_happenings line.now) }
     ensures ok { OnOk result (Ran (app_of app.now) board.now (line_happenings line.now)
         (moment core.old registers.old) (moment core.new registers.new) (K.taken out.old) (K.taken out.new) [] []) }
-    ensures err { OnErr result (Stops (app_of app.now) board.now (line_happenings line.now)
+    ensures err { OnErr result (StopsIn (app_of app.now) board.now (line_happenings line.now)
         (moment core.old registers.old) core.new (K.taken out.old) (K.taken out.new)) }
     ensures cause { HasCause (K.faults out.old) (K.faults out.new) result }
     ensures quiet { OnOk result (K.faults out.new ≡ K.faults out.old) }
@@ -63,7 +63,7 @@ pub(crate) fn happen<K: Sink>(
     requires can { CanHappen (count_of line.now) (app_of app.now) board.now core.old }
     requires declared { HasNames core.old.image.names (asked_line line.now) }
     requires one { IsOne (line_happenings line.now) }
-    ensures { Goes (app_of app.now) board.now (line_happenings line.now) going.old.went going.new.went
+    ensures { CameOf (app_of app.now) board.now (line_happenings line.now) going.old.went going.new.went
         (moment core.old going.old.registers) (moment core.new going.new.registers)
         (K.taken out.old) (K.taken out.new) (K.faults out.old) (K.faults out.new) }
 {

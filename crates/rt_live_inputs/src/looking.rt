@@ -12,8 +12,8 @@ ghost use Rattle.rt_inputs.specs.Script.{given_request};
 ghost use Rattle.rt_values.specs.Sides.{TakerSide};
 ghost use Rattle.rt_live_inputs.specs.Looking.{Looks};
 ghost use Rattle.rt_live_inputs.specs.Inside.Able.{CanLatch, CanTake, CanTurn};
-ghost use Rattle.rt_live_inputs.specs.Inside.Going.{CanHappen, Goes};
-ghost use Rattle.rt_live_inputs.specs.Inside.Turning.{IsSmall, LooksAtBoxes, LooksAtRow, Turns, took_one};
+ghost use Rattle.rt_live_inputs.specs.Inside.Going.{CanHappen, CameOf};
+ghost use Rattle.rt_live_inputs.specs.Inside.Turning.{IsFoundWord, LooksAtBoxes, LooksAtRow, Turns, took_one};
 
 use crate::boxes::BoxKind;
 use crate::happening::{Going, happen};
@@ -41,7 +41,7 @@ fn arrive_word<K: Sink>(
 )
     requires can { CanHappen 1 (app_of app.now) board.now core.old }
     requires may { BitsMayArrive core.old.image.names word found }
-    ensures { Goes (app_of app.now) board.now (map Comes (map Arrive (arrivals word found)))
+    ensures { CameOf (app_of app.now) board.now (map Comes (map Arrive (arrivals word found)))
         going.old.went going.new.went (moment core.old going.old.registers) (moment core.new going.new.registers)
         (K.taken out.old) (K.taken out.new) (K.faults out.old) (K.faults out.new) }
 {
@@ -94,7 +94,7 @@ fn arrive_with<K: Sink>(
 )
     requires can { CanHappen 1 (app_of app.now) board.now core.old }
     requires declared { IsDeclared core.old.image.names kind.now.irq }
-    ensures { Goes (app_of app.now) board.now (given_request kind.now.irq kind.now.local word)
+    ensures { CameOf (app_of app.now) board.now (given_request kind.now.irq kind.now.local word)
         going.old.went going.new.went (moment core.old going.old.registers) (moment core.new going.new.registers)
         (K.taken out.old) (K.taken out.new) (K.faults out.old) (K.faults out.new) }
 {
@@ -113,7 +113,7 @@ fn take_at(boxes: &[Mailbox], takers: &mut [Taker], k: usize) -> Option<u32>
     requires room { (t : TakerSide) → length (slice_index_or takers.old k t).calls < 2 ^ 32 - 1 }
     ensures call { (t : TakerSide) →
         takers.new ≡ slice_set takers.old k (took_one (slice_index_or takers.old k t) result) }
-    ensures small { IsSmall result }
+    ensures small { IsFoundWord result }
 {
     takers[k].take(&boxes[k])
 }

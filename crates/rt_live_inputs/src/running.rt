@@ -15,7 +15,7 @@ ghost use Rattle.rt_inputs.specs.Inside.Placed.{CanRun};
 ghost use Rattle.rt_live_inputs.specs.Boxes.{boxes, plain};
 ghost use Rattle.rt_live_inputs.specs.Inside.Making.{AreGivers};
 ghost use Rattle.rt_live_inputs.specs.declared.making.TheConstants.{MOST_BOXES};
-ghost use Rattle.rt_live_inputs.specs.Output.{HasWritten, HasWrittenPart, IsLiveText, TookPart};
+ghost use Rattle.rt_live_inputs.specs.Output.{HasWritten, HasWrittenPart, IsLiveText, TookStart};
 
 use crate::closing::close_boxes;
 use crate::ending::{go, put_front, put_rows, put_total};
@@ -62,7 +62,7 @@ pub fn live<R: Threads + Sync, K: Sink + Send, G: Gate + Sync>(
 
     // At a fault a beginning was taken of a text that could have been written.
     ensures part { IsErrOf result LiveFail.Fault →
-        TookPart (app_of app.now) core.old.image board.now script.now front.now (K.taken out.old) (K.taken out.new) }
+        TookStart (app_of app.now) core.old.image board.now script.now front.now (K.taken out.old) (K.taken out.new) }
     ensures none { IsErrOf result LiveFail.NoMemory → Took (K.taken out.old) (K.taken out.new) [] }
     ensures fault { IsErrOf result LiveFail.Fault → Rose (K.faults out.old) (K.faults out.new) }
     ensures quiet { ¬ IsErrOf result LiveFail.Fault → K.faults out.new ≡ K.faults out.old }

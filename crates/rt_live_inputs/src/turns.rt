@@ -7,7 +7,7 @@ ghost use Rattle.rt_inputs.specs.Inside.Ran.{moment};
 ghost use Rattle.rt_inputs.specs.Script.{line_happenings};
 ghost use Rattle.rt_live_inputs.specs.Looking.{Looks, line_turns, step_turns};
 ghost use Rattle.rt_live_inputs.specs.Inside.Able.{CanTurn};
-ghost use Rattle.rt_live_inputs.specs.Inside.Going.{CanHappen, Goes, IsOne};
+ghost use Rattle.rt_live_inputs.specs.Inside.Going.{CanHappen, CameOf, IsOne};
 ghost use Rattle.rt_live_inputs.specs.Inside.Turning.{Turns};
 
 use crate::boxes::BoxKind;
@@ -67,7 +67,7 @@ fn often<K: Sink>(
     requires one { count_of line.now ≡ 1 }
     requires declared { HasNames core.old.image.names (asked_line line.now) }
     requires alone { IsOne (line_happenings line.now) }
-    ensures { Goes (app_of app.now) board.now (flat_map (λ h. h) (replicate times (line_happenings line.now)))
+    ensures { CameOf (app_of app.now) board.now (flat_map (λ h. h) (replicate times (line_happenings line.now)))
         going.old.went going.new.went (moment core.old going.old.registers) (moment core.new going.new.registers)
         (K.taken out.old) (K.taken out.new) (K.faults out.old) (K.faults out.new) }
 {

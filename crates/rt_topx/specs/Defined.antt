@@ -9,13 +9,13 @@ use Rattle.rt_topx.specs.declared.command.Command.{Command}
 use Rattle.rt_topx.specs.declared.command.Command.TheVariants as command
 use Rattle.rt_topx.specs.Words.{NamesCommand}
 use Rattle.rt_topx.specs.Kinds.{TextKind, kinds_of, IsRefusedAmong}
-use Rattle.rt_topx.specs.Outputs.{IsRun, IsAudited, IsLive}
+use Rattle.rt_topx.specs.Outputs.{IsRun, IsAudited, IsLiveBeside}
 
 -- with this status these bytes are the output for texts of their kinds
 abbrev pub IsOutputOf : Command → Inputs → Status → List ℕ → Type 0
 IsOutputOf command.Run t ended bytes = (ended ≡ status.Done) × IsRun t.first t.second t.third bytes
 IsOutputOf command.Audit t ended bytes = IsAudited t.first t.second t.third ended bytes
-IsOutputOf command.Live t ended bytes = (ended ≡ status.Done) × IsLive t.first t.second t.third bytes
+IsOutputOf command.Live t ended bytes = (ended ≡ status.Done) × IsLiveBeside t.first t.second t.third bytes
 
 -- One of the first texts of the command, so many, is refused with this status and line.
 abbrev pub IsRefusedWithin : ℕ → Command → Inputs → Status → List ℕ → Type 0

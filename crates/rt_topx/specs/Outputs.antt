@@ -73,7 +73,7 @@ pub record IsAudited (text beside more : List ℕ) (ended : Status) (bytes : Lis
 -- write beside the devices of the script: a trace with the words that they gave, and the account of every request of
 -- every device. What the image does under the script's own lines with what its looks found is a run of Baker's machine
 -- beside devices.
-pub record IsLive (text beside more bytes : List ℕ) : Type 0 where
+pub record IsLiveBeside (text beside more bytes : List ℕ) : Type 0 where
   pub app : App
   pub image : Image
   pub is : IsGoodImage text app image

@@ -24,7 +24,7 @@ pub record CanHappen (n : ℕ) (app : App) (board : Board) (m : Machine) : Type 
 module _ (app : App) (board : Board) where
   -- A fault came in the lines of the last of what was done. The lines of what came before it were taken, and of its
   -- own a beginning, not all.
-  pub record Stops (happens : List Happening) (old : Moment) (new : Machine) (before after : List ℕ) : Type 0 where
+  pub record StopsIn (happens : List Happening) (old : Moment) (new : Machine) (before after : List ℕ) : Type 0 where
     pub told : List Happening
     pub last : Happening
     pub rest : List Happening
@@ -34,14 +34,14 @@ module _ (app : App) (board : Board) where
     pub lines : TookAtLeast before after (text_at app board old told)
 
   -- what came of a run that went before, or did not, and goes on, or does not, with the counts of faults
-  abbrev pub Goes : List Happening → Bool → Bool → Moment → Moment → List ℕ → List ℕ → ℕ → ℕ → Type 0
-  Goes happens true true old new before after faults faults' =
+  abbrev pub CameOf : List Happening → Bool → Bool → Moment → Moment → List ℕ → List ℕ → ℕ → ℕ → Type 0
+  CameOf happens true true old new before after faults faults' =
       Ran app board happens old new before after [] [] × (faults' ≡ faults)
-  Goes happens true false old new before after faults faults' =
-      Stops happens old new.machine before after × Rose faults faults'
-  Goes happens false false old new before after faults faults' =
+  CameOf happens true false old new before after faults faults' =
+      StopsIn happens old new.machine before after × Rose faults faults'
+  CameOf happens false false old new before after faults faults' =
       (new.machine ≡ old.machine) × (after ≡ before) × (faults' ≡ faults)
-  Goes happens false true old new before after faults faults' = ⊥
+  CameOf happens false true old new before after faults faults' = ⊥
 
 -- bytes were written, where no fault had come
 abbrev pub Puts : List ℕ → Bool → Bool → List ℕ → List ℕ → ℕ → ℕ → Type 0

@@ -19,7 +19,7 @@ use Rattle.rt_live_inputs.specs.Boxes.{words_through}
 use Rattle.rt_live_inputs.specs.Giving.{word_given, words_in}
 use Rattle.rt_live_inputs.specs.Histories.{box_calls}
 use Rattle.rt_live_inputs.specs.Looking.{Found, happenings_of, last_found, looks, turns}
-use Rattle.rt_live_inputs.specs.Inside.Going.{Goes}
+use Rattle.rt_live_inputs.specs.Inside.Going.{CameOf}
 use Rattle.rt_live_inputs.specs.Inside.Turning.{IsLook}
 use Rattle.rt_live_inputs.specs.declared.boxes.BoxKind.{BoxKind as Box}
 use Rattle.rt_live_inputs.specs.declared.device.GivingDevice.{GivingDevice}
@@ -92,4 +92,4 @@ pub record HasGone (app : App) (board : Board) (script : List GivenLine) (boxes 
   pub each : AllByRecursion (IsLook old.machine.image.names (length boxes)) found
   pub latched : line.calls ≡ flat_map look_calls (map (λ one. one.row) found)
   pub taken : HaveTaken script found 0 boxes takers
-  pub goes : Goes app board (happenings_of boxes (turns script) found) was is old new before after faults faults'
+  pub goes : CameOf app board (happenings_of boxes (turns script) found) was is old new before after faults faults'
