@@ -7,7 +7,9 @@ use Rattle.std.proofs.lemmas.Option.{IfSome_then}
 use Rattle.std.specs.Str.Parse.{digits_value}
 use Rattle.std.specs.Borrow.{Bor}
 use Rattle.rt_top.specs.Words.{texts, Command, Run, Check, Fmt, Build, Audit, Live, Soak, Demo, Deepest, Times, Verify}
-use Rattle.rt_top.specs.Words.{Pair, NamesCommand, IsCommand, IsNumber}
+use Rattle.rt_top.specs.Words.{Pair, NamesCommand, IsNumber}
+use Rattle.rt_top.specs.Defined.{IsCommand}
+use Rattle.rt_top.specs.Rtic.{rtic_program}
 use Rattle.rt_top.specs.Inside.Meant.{command_word}
 use Rattle.rt_top.specs.declared.command.Command as code
 use Rattle.rt_top.specs.declared.command.Command.TheVariants as command
@@ -99,7 +101,7 @@ module _ (words : List (List ℕ)) (app a b c : List ℕ) (is : words ≡ codes 
       )
 
   no_other : ((n k w : ℕ) → IsNumber 0 (2 ^ 64 - 1) a n → IsNumber 1 10000 b k → IsNumber 1 64 c w → ⊥)
-      → IsCommand words → ⊥
+      → IsCommand rtic_program words → ⊥
   no_other none (e, named) =
       let names = names_it words e named in
       let so = ap command_named is in
@@ -108,10 +110,10 @@ module _ (words : List (List ℕ)) (app a b c : List ℕ) (is : words ≡ codes 
       none _ _ _ numbers.0 numbers.1 numbers.2
 
   pub soak_none : IfNone r ((n k w : ℕ) → IsNumber 0 (2 ^ 64 - 1) a n → IsNumber 1 10000 b k → IsNumber 1 64 c w
-      → ⊥) → IfNone r (IsCommand words → ⊥)
+      → ⊥) → IfNone r (IsCommand rtic_program words → ⊥)
   soak_none = by r
     where
       by : (r : Option code.Command) → IfNone r ((n k w : ℕ) → IsNumber 0 (2 ^ 64 - 1) a n → IsNumber 1 10000 b k
-          → IsNumber 1 64 c w → ⊥) → IfNone r (IsCommand words → ⊥)
+          → IsNumber 1 64 c w → ⊥) → IfNone r (IsCommand rtic_program words → ⊥)
       by None none = no_other none
       by (Some x) none = tt

@@ -5,9 +5,8 @@ use Rattle.rt_ids.specs.declared.status.Status.TheVariants as status
 use Rattle.rt_app.specs.Tree.{App}
 use Rattle.rt_build.specs.Accepted.{IsApplication}
 use Rattle.rt_outside.specs.Bytes.{Past}
-use Rattle.rt_top.specs.Words.{Command}
-use Rattle.rt_top.specs.Kinds.{TextKind, Application, kinds_of, most_bytes, IsOfKind, IsRefusedBy}
-use Rattle.rt_top.specs.Defined.{Inputs, IsOutputOf}
+use Rattle.rt_top.specs.Program.{Program, Inputs}
+use Rattle.rt_top.specs.Kinds.{Application, kinds_of}
 use Rattle.rt_top.specs.Ends.{IsKept}
 use Rattle.rt_top.specs.SecondRefusal.{RefusesOver}
 use Rattle.rt_top.specs.Inside.Decides.{Tells, EndsAs, Finishes, IsReplyTo, Answers, AnswersOne, EndsBy, Conducts}
@@ -27,14 +26,14 @@ pub kept : {S : Type 0} {past : S → Past} {left : S → Option (List ℕ)} {fa
 kept = record { gave_none = refl; has_all = refl; no_fault = refl }
 
 -- a text of the kind was read, and is refused
-pub refusal_reads : (k : TextKind) (first gave : List ℕ) (Does : ℕ → Use → Type 0) → Does (most_bytes k) Whole
-    → Does (most_bytes k) Left → (told : Status) (P : List ℕ → Type 0)
-    → ((line : List ℕ) → P line → IsRefusedBy k first gave told line) → (r : Reply) → Tells told P r
-    → IsNotRead k first gave Does r
-refusal_reads k first gave Does whole left told P means (reply.Write ended text) (is, p) =
-    refusal ended text whole (subst (λ s. IsRefusedBy k first gave s text.items) (sym is) (means text.items p))
-refusal_reads k first gave Does whole left told P means (reply.Stop ended) is =
-    stop ended (subst (Stops (most_bytes k) Does) (sym is) (for_memory left))
+pub refusal_reads : (p : Program) (k : p.Kind) (over : p.Over) (gave : List ℕ) (Does : ℕ → Use → Type 0)
+    → Does (p.most_bytes k) Whole → Does (p.most_bytes k) Left → (told : Status) (P : List ℕ → Type 0)
+    → ((line : List ℕ) → P line → p.IsRefusedBy k over gave told line) → (r : Reply) → Tells told P r
+    → IsNotRead p k over gave Does r
+refusal_reads p k over gave Does whole left told P means (reply.Write ended text) (is, q) =
+    refusal ended text whole (subst (λ s. p.IsRefusedBy k over gave s text.items) (sym is) (means text.items q))
+refusal_reads p k over gave Does whole left told P means (reply.Stop ended) is =
+    stop ended (subst (Stops (p.most_bytes k) Does) (sym is) (for_memory left))
 
 -- so is one over the application of the first
 pub refused_over : {R : Type 0} {IsRefused : App → List ℕ → R → Type 0} {Says : R → List ℕ → Type 0}
@@ -42,49 +41,49 @@ pub refused_over : {R : Type 0} {IsRefused : App → List ℕ → R → Type 0} 
     → RefusesOver IsRefused Says text more line
 refused_over app is r refused says = record { app = app; of_text = is; refusal = r; refused = refused; says = says }
 
-module _ {c : Command} {k : TextKind} {kinds : List TextKind} {t : Inputs} {gave : List ℕ} {Does : ℕ → Use → Type 0}
-    {more : Sources} where
-  pub refused_answers : {r : Reply} → AreUnread more → IsNotRead k t.first gave Does r
-      → Answers c (k ∷ kinds) t (Then gave Does more) r
+module _ {p : Program} {c : p.Command} {k : p.Kind} {kinds : List p.Kind} {t : Inputs} {gave : List ℕ}
+    {Does : ℕ → Use → Type 0} {more : Sources} where
+  pub refused_answers : {r : Reply} → AreUnread more → IsNotRead p k (p.over t) gave Does r
+      → Answers p c (k ∷ kinds) t (Then gave Does more) r
   refused_answers {r = r} unread is = record { end = Some r; read = inr (r, refl, is, unread); replies = refl }
 
   -- the texts behind one that was read
-  pub conducts_behind : {before after : List ℕ} {fb fa : ℕ} {result : Status} → Does (most_bytes k) Whole
-      → IsOfKind k t.first gave → Conducts c kinds t more before after fb fa result
-      → Conducts c (k ∷ kinds) t (Then gave Does more) before after fb fa result
+  pub conducts_behind : {before after : List ℕ} {fb fa : ℕ} {result : Status} → Does (p.most_bytes k) Whole
+      → p.IsOfKind k (p.over t) gave → Conducts p c kinds t more before after fb fa result
+      → Conducts p c (k ∷ kinds) t (Then gave Does more) before after fb fa result
   conducts_behind whole is h = record { end = h.end; read = inl (whole, is, h.read); ends = h.ends; heard = h.heard }
 
-module _ {c : Command} {t : Inputs} where
+module _ {p : Program} {c : p.Command} {t : Inputs} where
   -- all texts were read
-  pub replies_answers : {sources : Sources} {r : Reply} → AreUnread sources → Replies (IsOutputOf c t) r
-      → Answers c [] t sources r
+  pub replies_answers : {sources : Sources} {r : Reply} → AreUnread sources → Replies (p.IsOutputOf c t) r
+      → Answers p c [] t sources r
   replies_answers unread is = record { end = None; read = (unread, refl); replies = is }
 
   -- one text is left to be read, of the first of these sources
-  module _ {k : TextKind} {gave : List ℕ} {Does : ℕ → Use → Type 0} {more : Sources} where
-    pub one_answers : {r : Reply} → AreUnread more → AnswersOne c k t gave Does r
-        → Answers c (k ∷ []) t (Then gave Does more) r
+  module _ {k : p.Kind} {gave : List ℕ} {Does : ℕ → Use → Type 0} {more : Sources} where
+    pub one_answers : {r : Reply} → AreUnread more → AnswersOne p c k t gave Does r
+        → Answers p c (k ∷ []) t (Then gave Does more) r
     one_answers unread (inl (whole, is, replies)) =
         record { end = None; read = inl (whole, is, (unread, refl)); replies = replies }
     one_answers unread (inr none) = refused_answers unread none
 
     pub one_conducts : {before after : List ℕ} {fb fa : ℕ} {result : Status} → AreUnread more
-        → ConductsOne c k t gave Does before after fb fa result → (fa ≡ fb) ⊎ (result ≡ status.Write)
-        → Conducts c (k ∷ []) t (Then gave Does more) before after fb fa result
+        → ConductsOne p c k t gave Does before after fb fa result → (fa ≡ fb) ⊎ (result ≡ status.Write)
+        → Conducts p c (k ∷ []) t (Then gave Does more) before after fb fa result
     one_conducts unread (inl (whole, is, ends)) heard =
         record { end = None; read = inl (whole, is, (unread, refl)); ends = ends; heard = heard }
     one_conducts unread (inr (r, none, ends)) heard =
         record { end = Some r; read = inr (r, refl, none, unread); ends = ends; heard = heard }
 
   -- a reply was finished
-  pub finished : {kinds : List TextKind} {sources : Sources} {r : Reply} {before after : List ℕ} {fb fa : ℕ}
-      {result : Status} → Answers c kinds t sources r → Finishes before after fb fa r result
-      → (fa ≡ fb) ⊎ (result ≡ status.Write) → Conducts c kinds t sources before after fb fa result
+  pub finished : {kinds : List p.Kind} {sources : Sources} {r : Reply} {before after : List ℕ} {fb fa : ℕ}
+      {result : Status} → Answers p c kinds t sources r → Finishes before after fb fa r result
+      → (fa ≡ fb) ⊎ (result ≡ status.Write) → Conducts p c kinds t sources before after fb fa result
   finished {r = r} {before = before} {after = after} {fb = fb} {fa = fa} {result = result} a done heard =
       record { end = a.end; read = a.read; ends = ends a.end r a.replies done; heard = heard }
     where
-      ends : (end : Option Reply) (r : Reply) → IsReplyTo c t end r → Finishes before after fb fa r result
-          → EndsBy c t end before after fb fa result
+      ends : (end : Option Reply) (r : Reply) → IsReplyTo p c t end r → Finishes before after fb fa r result
+          → EndsBy p c t end before after fb fa result
       ends None (reply.Write ended text) w wrote = inl (ended, text.items, w, wrote)
       ends None (reply.Stop ended) is (told, none) = inr (told ∙ is, none)
       ends (Some q) r is done = subst (λ (x : Reply). Finishes before after fb fa x result) is done

@@ -11,7 +11,8 @@ use Rattle.rt_script.specs.Text.{IsScriptText}
 use Rattle.rt_script.specs.declared.line.Line.{Line}
 use Rattle.rt_top.specs.Words.{Run, Live, Pair}
 use Rattle.rt_top.specs.Outputs.{IsGoodOf, IsGoodImage, IsListed}
-use Rattle.rt_top.specs.Defined.{Inputs, IsOutputOf}
+use Rattle.rt_top.specs.Program.{Inputs}
+use Rattle.rt_top.specs.Rtic.{IsOutputOf}
 use Rattle.rt_top.specs.Inside.Decides.{Lists}
 use Rattle.rt_top.specs.Inside.Started.{ShowsRun, ShowsLive, ShowsPair}
 use Rattle.rt_top.proofs.Happening.{runs_well, run_happens, live_happens, first_happens, second_happens}

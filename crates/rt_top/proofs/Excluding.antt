@@ -1,5 +1,5 @@
--- A text is refused or is read, not both, and the status that is due is one.
-use Rattle.std.proofs.Common.{◌≡◌, ◌⊎◌, ℕ, true, List, [], ◌∷◌, inl, inr, refl, sym, ap, subst, ◌∙◌, arith}
+-- A text is refused or is read, not both, and each command has one output or one status: so `rtic` is lawful.
+use Rattle.std.proofs.Common.{◌≡◌, ℕ, true, List, inl, inr, refl, sym, ap, subst, ◌∙◌, arith}
 use Rattle.rt_ids.specs.Names.{Names}
 use Rattle.rt_ids.specs.declared.status.Status.{Status}
 use Rattle.rt_ids.specs.declared.status.Status.TheVariants as status
@@ -40,13 +40,16 @@ use Rattle.rt_trace.proofs.Stepping.{one_trace}
 use Rattle.rt_top.specs.Words.{Command, Run, Check, Fmt, Build, Audit, Live, Soak, Demo, Deepest, Times, Verify, Pair}
 use Rattle.rt_top.specs.Refusal.{RefusesText, RefusesApplication}
 use Rattle.rt_top.specs.SecondRefusal.{RefusesOver, SaysScript, SaysTrace, SaysLimits}
-use Rattle.rt_top.specs.Kinds.{TextKind, kinds_of, IsOfKind, IsRefusedBy, IsRefusedAmong}
+use Rattle.rt_top.specs.Kinds.{TextKind, kinds_of, IsOfKind, IsRefusedBy}
 use Rattle.rt_top.specs.Kinds as kind
 use Rattle.rt_top.specs.Outputs.{Says, IsAudited, TellsDeepest, TellsTimes}
 use Rattle.rt_top.specs.Outputs as outputs
 use Rattle.rt_top.specs.Verified.{SaysImage, TellsImage}
 use Rattle.rt_top.specs.Verified as verified
-use Rattle.rt_top.specs.Defined.{Inputs, IsOutputOf, Defined, refused, output}
+use Rattle.rt_top.specs.Program.{Inputs, each_of}
+use Rattle.rt_top.specs.Rtic.{IsOutputOf, rtic_program}
+use Rattle.rt_top.proofs.CommandWords.{one_command}
+use Rattle.rt_top.proofs.Due.{AreDue, due_as, SaysWhether, whether_once, AreOfKinds, IsLawful}
 
 -- What is read is refused by no line.
 
@@ -104,31 +107,6 @@ trace_read names more line shown (in_trace.UnknownName n) is met says =
     (read_one_way (trace.trace_reader names)).not_both more is.reached n trace_wrong.Name is.read met
 trace_read names more line shown in_trace.NoMemory is met says = says
 
--- a status with which a command replies; the others say why the program stopped, or that there is no command
-abbrev pub IsReplied : Status → Type 0
-IsReplied status.Usage = ⊥
-IsReplied status.Read = ⊥
-IsReplied status.Write = ⊥
-IsReplied status.Memory = ⊥
-IsReplied other = Unit {0}
-
--- two statuses of what is due: commands reply with them, and they are one
-abbrev pub AreDue : Status → Status → Type 0
-AreDue a b = IsReplied a × (a ≡ b)
-
-pub due_as : (told a b : Status) → IsReplied told → a ≡ told → b ≡ told → AreDue a b
-due_as told a b replied is other = (subst IsReplied (sym is) replied, is ∙ sym other)
-
--- the status says whether this is so
-abbrev pub SaysWhether : Type 0 → Status → Type 0
-SaysWhether P ended = ((ended ≡ status.Done) × P) ⊎ ((ended ≡ status.No) × ¬ P)
-
-pub whether_once : (P : Type 0) (a b : Status) → SaysWhether P a → SaysWhether P b → AreDue a b
-whether_once P a b (inl (is, p)) (inl (other, q)) = due_as status.Done a b tt is other
-whether_once P a b (inl (is, p)) (inr (other, not)) = absurd (not p)
-whether_once P a b (inr (is, not)) (inl (other, q)) = absurd (not q)
-whether_once P a b (inr (is, not)) (inr (other, none)) = due_as status.No a b tt is other
-
 judged_so : (app : App) (shown : Trace) (v : Verdict) (ended : Status) (bytes : List ℕ) → IsVerdict app shown v
     → Says shown v ended bytes → SaysWhether (IsRight app shown) ended
 judged_so app shown judged.Yes ended bytes is s = inl (s.0, is)
@@ -172,7 +150,7 @@ image_read text line image (in_image.UnknownName n) is met says = listings.read_
 image_read text line image in_image.NoMemory is met says = says
 
 -- A text is of its kind or is refused, not both.
-pub one_of_each : (k : TextKind) (first text : List ℕ) (ended : Status) (line : List ℕ) → IsOfKind k first text
+one_of_each : (k : TextKind) (first text : List ℕ) (ended : Status) (line : List ℕ) → IsOfKind k first text
     → IsRefusedBy k first text ended line → ⊥
 one_of_each kind.Tree first text ended line (a, is) (told, r) = tree_passes text line a is r
 one_of_each kind.Application first text ended line (app, is) (told, r) = application_passes text line app is r
@@ -200,34 +178,9 @@ one_refusal kind.Trace first text a b x y r s = due_as status.Text a b tt r.0 s.
 one_refusal kind.Limits first text a b x y r s = due_as status.Text a b tt r.0 s.0
 one_refusal kind.Listing first text a b x y r s = due_as status.Text a b tt r.0 s.0
 
--- each text is of its kind
-abbrev AreOfKinds : List TextKind → List ℕ → List (List ℕ) → Type 0
-AreOfKinds [] first texts = Unit {0}
-AreOfKinds (k ∷ kinds) first [] = ⊥
-AreOfKinds (k ∷ kinds) first (text ∷ texts) = IsOfKind k first text × AreOfKinds kinds first texts
-
--- then none is refused
-none_refused : (kinds : List TextKind) (first : List ℕ) (texts : List (List ℕ)) (ended : Status) (line : List ℕ)
-    → AreOfKinds kinds first texts → IsRefusedAmong kinds first texts ended line → ⊥
-none_refused [] first texts ended line are r = r
-none_refused (k ∷ kinds) first [] ended line are r = r
-none_refused (k ∷ kinds) first (text ∷ texts) ended line are (inl r) = one_of_each k first text ended line are.0 r
-none_refused (k ∷ kinds) first (text ∷ texts) ended line are (inr r) =
-    none_refused kinds first texts ended line are.1 r.1
-
--- and the first that is has one status
-one_among : (kinds : List TextKind) (first : List ℕ) (texts : List (List ℕ)) (a b : Status) (x y : List ℕ)
-    → IsRefusedAmong kinds first texts a x → IsRefusedAmong kinds first texts b y → AreDue a b
-one_among [] first texts a b x y r s = absurd r
-one_among (k ∷ kinds) first [] a b x y r s = absurd r
-one_among (k ∷ kinds) first (text ∷ texts) a b x y (inl r) (inl s) = one_refusal k first text a b x y r s
-one_among (k ∷ kinds) first (text ∷ texts) a b x y (inl r) (inr s) = absurd (one_of_each k first text a x s.0 r)
-one_among (k ∷ kinds) first (text ∷ texts) a b x y (inr r) (inl s) = absurd (one_of_each k first text b y r.0 s)
-one_among (k ∷ kinds) first (text ∷ texts) a b x y (inr r) (inr s) = one_among kinds first texts a b x y r.1 s.1
-
 -- where there is an output each text is of its kind
 all_read : (c : Command) (t : Inputs) (ended : Status) (bytes : List ℕ) → IsOutputOf c t ended bytes
-    → AreOfKinds (kinds_of c) t.first (t.first ∷ t.second ∷ t.third ∷ [])
+    → AreOfKinds rtic_program (kinds_of c) t.first (each_of t)
 all_read Run t ended bytes (is, w) = ((w.app, w.is.of_text), ((w.app, w.is.of_text, w.script, w.read), tt))
 all_read Check t ended bytes (is, (app, accepted, says)) = ((app, accepted), tt)
 all_read Fmt t ended bytes (is, (a, spelled, says)) = ((a, spelled), tt)
@@ -268,21 +221,11 @@ one_output Pair t a b x y w v = due_as status.Done a b tt w.0 v.0
 one_output (Soak number count workers) t a b x y w v = due_as status.Done a b tt w.0 v.0
 one_output (Demo n) t a b x y w v = due_as status.Done a b tt w.0 v.0
 
--- what is due has one status, with which commands reply
-both_due : (c : Command) (t : Inputs) (a b : Status) (x y : List ℕ) → Defined c t a x → Defined c t b y → AreDue a b
-both_due c t a b x y (refused one line r) (refused other line' s) =
-    one_among (kinds_of c) t.first (t.first ∷ t.second ∷ t.third ∷ []) one other line line' r s
-both_due c t a b x y (refused one line r) (output other bytes w) =
-    absurd (none_refused (kinds_of c) t.first (t.first ∷ t.second ∷ t.third ∷ []) one line (all_read c t other bytes w)
-    r)
-both_due c t a b x y (output one bytes w) (refused other line s) =
-    absurd (none_refused (kinds_of c) t.first (t.first ∷ t.second ∷ t.third ∷ []) other line (all_read c t one bytes w)
-    s)
-both_due c t a b x y (output one bytes w) (output other bytes' v) = one_output c t one other bytes bytes' w v
-
-pub one_due : (c : Command) (t : Inputs) (a b : Status) (x y : List ℕ) → Defined c t a x → Defined c t b y → a ≡ b
-one_due c t a b x y d e = (both_due c t a b x y d e).1
-
-pub replied : (c : Command) (t : Inputs) (ended : Status) (bytes : List ℕ) → Defined c t ended bytes
-    → IsReplied ended
-replied c t ended bytes d = (both_due c t ended ended bytes bytes d d).0
+pub lawful : IsLawful rtic_program
+lawful = record {
+  one_command = one_command;
+  one_of_each = one_of_each;
+  one_refusal = one_refusal;
+  all_read = all_read;
+  one_output = one_output;
+}

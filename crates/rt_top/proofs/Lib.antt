@@ -1,10 +1,11 @@
 -- The lemmas of this crate, a file each. The folders beside them have the proofs of functions, by file and name.
-mod Clauses
+pub mod Due
+pub mod Clauses
 pub mod Conducting
 pub mod Texts
 pub mod CommandWords
 mod Deciding
-mod Ending
+pub mod Ending
 pub mod Excluding
 pub mod Using
 pub mod Giving

@@ -10,6 +10,7 @@ use Rattle.rt_app.specs.View.{app_of}
 use Rattle.rt_app.specs.declared.app.App as code
 use Rattle.rt_outside.specs.Bytes.{Past, HasGiven, IsAtEnd}
 use Rattle.rt_top.specs.Kinds as kind
+use Rattle.rt_top.specs.Rtic.{rtic_program}
 use Rattle.rt_top.specs.Reads.{given_by, IsReadWithin}
 use Rattle.rt_top.specs.Refusal.{RefusesText, RefusesApplication}
 use Rattle.rt_top.specs.Inside.Decides.{Tells, IsBrokenBy}
@@ -40,8 +41,8 @@ long_within limit past left old new gave long = record { gave = gave; how_much =
 pub text_refuses : (text line : List ℕ) → RefusesText text line → RefusesApplication text line
 text_refuses text line (fault, met, says) = (fault, inl met, says)
 
-pub tree_is_refused : (gave : List ℕ) (Does : ℕ → Use → Type 0) (r : Reply) → IsNotRead kind.Tree gave gave Does r
-    → IsNotRead kind.Application gave gave Does r
+pub tree_is_refused : (gave : List ℕ) (Does : ℕ → Use → Type 0) (r : Reply)
+    → IsNotRead rtic_program kind.Tree gave gave Does r → IsNotRead rtic_program kind.Application gave gave Does r
 tree_is_refused gave Does r (refusal ended line whole is) =
     refusal ended line whole (is.0, text_refuses gave line.items is.1)
 tree_is_refused gave Does r (stop ended stops) = stop ended stops
@@ -63,18 +64,19 @@ module _ (text : List ℕ) (a : tree.App) (own : List ℕ) (spelled : IsText own
   pub accepted_result : (Does : ℕ → Use → Type 0) → Does (kind.most_bytes kind.Application) Whole
       → Does (kind.most_bytes kind.Application) Left → (r : Result code.App Reply)
       → IfOk r (λ app. KeepsRules a (app_of app)) → IfErr r (Tells status.App (IsBrokenBy own a))
-      → Reads kind.Application text text Does (λ app. IsApplication text (app_of app)) r
+      → Reads rtic_program kind.Application text text Does (λ app. IsApplication text (app_of app)) r
   accepted_result Does whole left (Ok app) kept broken = (whole, accepted_is (app_of app) kept)
   accepted_result Does whole left (Err q) kept broken =
-      refusal_reads kind.Application text text Does whole left status.App (IsBrokenBy own a)
+      refusal_reads rtic_program kind.Application text text Does whole left status.App (IsBrokenBy own a)
       (λ line b. (refl, broken_refuses line b)) q broken
 
 -- the refusal of a second application
 pub other_is_refused : (first gave : List ℕ) (Does : ℕ → Use → Type 0)
     → (Does (kind.most_bytes kind.Application) Whole → Does (kind.most_bytes kind.Application) Left) → (r q : Reply)
-    → IsNotRead kind.Application gave gave Does r → IsOfSecond r q → IsNotRead kind.OtherApplication first gave Does q
+    → IsNotRead rtic_program kind.Application gave gave Does r → IsOfSecond r q
+    → IsNotRead rtic_program kind.OtherApplication first gave Does q
 other_is_refused first gave Does left r q (refusal ended line whole is) told =
-    refusal_reads kind.OtherApplication first gave Does whole (left whole) ended
+    refusal_reads rtic_program kind.OtherApplication first gave Does whole (left whole) ended
     (λ bytes. bytes ≡ codes "second " ++ line.items) (λ bytes says. (is.0, (line.items, is.1, says))) q told
 other_is_refused first gave Does left r q (stop ended stops) is =
-    subst (IsNotRead kind.OtherApplication first gave Does) (sym is) (stop ended stops)
+    subst (IsNotRead rtic_program kind.OtherApplication first gave Does) (sym is) (stop ended stops)

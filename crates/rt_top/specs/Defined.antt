@@ -1,57 +1,35 @@
--- What the program is to write, and its status, for a command and the texts that its sources give. The table has a line
--- for each command. What is long is in files of its own.
+-- What a program is to write, and its status, for a command and the texts that its sources give.
 use Rattle.std.specs.Prelude.{◌≡◌, ◌≤◌, ◌⊎◌, ℕ, List, [], ◌∷◌, length, take, Some, slice_get}
 use Rattle.rt_ids.specs.declared.status.Status.{Status}
 use Rattle.rt_ids.specs.declared.status.Status.TheVariants as status
-use Rattle.rt_demo.specs.Demo.{demo}
 use Rattle.rt_outside.specs.Bytes.{Took, TookPrefix}
-use Rattle.rt_top.specs.Words.{Command, Run, Check, Fmt, Build, Audit, Live, Soak, Demo, Deepest, Times, Verify, Pair}
-use Rattle.rt_top.specs.Words.{NamesCommand}
-use Rattle.rt_top.specs.Kinds.{TextKind, kinds_of, IsRefusedAmong}
-use Rattle.rt_top.specs.Outputs.{IsFormatted, IsCheckReport, IsListed, IsRun, IsAudited, IsLive, IsSoaked, IsDeepened}
-use Rattle.rt_top.specs.Outputs.{IsTimed}
-use Rattle.rt_top.specs.Verified.{IsVerified}
-use Rattle.rt_top.specs.Paired.{IsPaired}
+use Rattle.rt_top.specs.Program.{Program, Inputs, each_of}
 
--- the texts that the sources have given in this call; one that was not read gave none
-pub record Inputs : Type 0 where
-  pub first : List ℕ
-  pub second : List ℕ
-  pub third : List ℕ
+-- the words name a command
+abbrev pub IsCommand : Program → List (List ℕ) → Type 0
+IsCommand p words = (c : p.Command) × p.Names words c
 
--- these three texts
-abbrev pub inputs : List ℕ → List ℕ → List ℕ → Inputs
-inputs first second third = record { first = first; second = second; third = third }
-
--- with this status these bytes are the output for texts of their kinds
-abbrev pub IsOutputOf : Command → Inputs → Status → List ℕ → Type 0
-IsOutputOf Run t ended bytes = (ended ≡ status.Done) × IsRun t.first t.second bytes
-IsOutputOf Check t ended bytes = (ended ≡ status.Done) × IsCheckReport t.first bytes
-IsOutputOf Fmt t ended bytes = (ended ≡ status.Done) × IsFormatted t.first bytes
-IsOutputOf Build t ended bytes = (ended ≡ status.Done) × IsListed t.first bytes
-IsOutputOf Audit t ended bytes = IsAudited t.first t.second ended bytes
-IsOutputOf Live t ended bytes = (ended ≡ status.Done) × IsLive t.first t.second bytes
-IsOutputOf (Soak number count workers) t ended bytes = (ended ≡ status.Done) × IsSoaked t.first number count bytes
-IsOutputOf (Demo n) t ended bytes = (ended ≡ status.Done) × (bytes ≡ demo n)
-IsOutputOf Deepest t ended bytes = IsDeepened t.first ended bytes
-IsOutputOf Times t ended bytes = IsTimed t.first t.second ended bytes
-IsOutputOf Verify t ended bytes = IsVerified t.first ended bytes
-IsOutputOf Pair t ended bytes = (ended ≡ status.Done) × IsPaired t.first t.second t.third bytes
+-- one of the texts is refused, each for its kind, and those before it are of theirs
+abbrev pub IsRefusedAmong : (p : Program) → List p.Kind → p.Over → List (List ℕ) → Status → List ℕ → Type 0
+IsRefusedAmong p [] over texts ended line = ⊥
+IsRefusedAmong p (kind ∷ kinds) over [] ended line = ⊥
+IsRefusedAmong p (kind ∷ kinds) over (text ∷ texts) ended line =
+    p.IsRefusedBy kind over text ended line
+    ⊎ (p.IsOfKind kind over text × IsRefusedAmong p kinds over texts ended line)
 
 -- One of the first texts of the command, so many, is refused with this status and line.
-abbrev pub IsRefusedWithin : ℕ → Command → Inputs → Status → List ℕ → Type 0
-IsRefusedWithin n c t ended line =
-    IsRefusedAmong (take n (kinds_of c)) t.first (t.first ∷ t.second ∷ t.third ∷ []) ended line
+abbrev pub IsRefusedWithin : (p : Program) → ℕ → p.Command → Inputs → Status → List ℕ → Type 0
+IsRefusedWithin p n c t ended line = IsRefusedAmong p (take n (p.kinds_of c)) (p.over t) (each_of t) ended line
 
 -- the status and the bytes that are due: the refusal of a text, or the output
-pub data Defined (c : Command) (t : Inputs) : Status → List ℕ → Type 0 where
-  refused : (ended : Status) (line : List ℕ)
-      → IsRefusedAmong (kinds_of c) t.first (t.first ∷ t.second ∷ t.third ∷ []) ended line → Defined c t ended line
-  output : (ended : Status) (bytes : List ℕ) → IsOutputOf c t ended bytes → Defined c t ended bytes
+pub data Defined (p : Program) (c : p.Command) (t : Inputs) : Status → List ℕ → Type 0 where
+  refused : (ended : Status) (line : List ℕ) → IsRefusedAmong p (p.kinds_of c) (p.over t) (each_of t) ended line
+      → Defined p c t ended line
+  output : (ended : Status) (bytes : List ℕ) → p.IsOutputOf c t ended bytes → Defined p c t ended bytes
 
 -- the status is due
-abbrev pub IsDue : Command → Inputs → Status → Type 0
-IsDue c t ended = (bytes : List ℕ) × Defined c t ended bytes
+abbrev pub IsDue : (p : Program) → p.Command → Inputs → Status → Type 0
+IsDue p c t ended = (bytes : List ℕ) × Defined p c t ended bytes
 
 -- a status that tells what was written; the others say why the program stopped
 abbrev pub IsAnswer : Status → Type 0
@@ -62,21 +40,21 @@ IsAnswer other = Unit {0}
 
 -- The words name no command that comes to the source behind so many: each reads no more, or one of its texts before it
 -- is refused.
-abbrev pub Skips : ℕ → List (List ℕ) → Inputs → Type 0
-Skips n words t =
-    (c : Command) → NamesCommand words c
-    → (length (kinds_of c) ≤ n) ⊎ ((ended : Status) × (line : List ℕ) × IsRefusedWithin n c t ended line)
+abbrev pub Skips : Program → ℕ → List (List ℕ) → Inputs → Type 0
+Skips p n words t =
+    (c : p.Command) → p.Names words c
+    → (length (p.kinds_of c) ≤ n) ⊎ ((ended : Status) × (line : List ℕ) × IsRefusedWithin p n c t ended line)
 
 -- The command reads a text of this kind from the source behind so many, and none of its texts before it is refused.
-pub record ComesTo (n : ℕ) (c : Command) (t : Inputs) (kind : TextKind) : Type 0 where
-  pub reads : slice_get (kinds_of c) n ≡ Some kind
-  pub passed : (ended : Status) (line : List ℕ) → IsRefusedWithin n c t ended line → ⊥
+pub record ComesTo (p : Program) (n : ℕ) (c : p.Command) (t : Inputs) (kind : p.Kind) : Type 0 where
+  pub reads : slice_get (p.kinds_of c) n ≡ Some kind
+  pub passed : (ended : Status) (line : List ℕ) → IsRefusedWithin p n c t ended line → ⊥
 
 -- the sink took all that is defined
-abbrev pub WroteAll : Command → Inputs → Status → List ℕ → List ℕ → Type 0
-WroteAll c t ended before after = (bytes : List ℕ) × Defined c t ended bytes × Took before after bytes
+abbrev pub WroteAll : (p : Program) → p.Command → Inputs → Status → List ℕ → List ℕ → Type 0
+WroteAll p c t ended before after = (bytes : List ℕ) × Defined p c t ended bytes × Took before after bytes
 
 -- the sink took a beginning of what is defined
-abbrev pub WrotePart : Command → Inputs → List ℕ → List ℕ → Type 0
-WrotePart c t before after =
-    (ended : Status) × (bytes : List ℕ) × Defined c t ended bytes × TookPrefix before after bytes
+abbrev pub WrotePart : (p : Program) → p.Command → Inputs → List ℕ → List ℕ → Type 0
+WrotePart p c t before after =
+    (ended : Status) × (bytes : List ℕ) × Defined p c t ended bytes × TookPrefix before after bytes

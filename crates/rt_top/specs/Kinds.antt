@@ -1,6 +1,6 @@
--- What a command reads: texts of these kinds, one of each of its sources, in this order. A kind has a bound on the
--- bytes of its texts, and a text is of its kind or is refused, not both (`OneOfEachKind`).
-use Rattle.std.specs.Prelude.{◌≡◌, ◌⊎◌, ℕ, List, [], ◌∷◌}
+-- What a command of `rtic` reads: texts of these kinds, one of each of its sources, in this order. A kind has a bound on
+-- the bytes of its texts, and a text is of its kind or is refused, not both (`OneOfEachKind`).
+use Rattle.std.specs.Prelude.{◌≡◌, ℕ, List, [], ◌∷◌}
 use Rattle.rt_ids.specs.declared.limits.TheConstants.{TEXT_BYTES, SCRIPT_BYTES, TRACE_BYTES}
 use Rattle.rt_ids.specs.declared.status.Status.{Status}
 use Rattle.rt_ids.specs.declared.status.Status.TheVariants as status
@@ -84,10 +84,3 @@ IsRefusedBy Script first text ended line = (ended ≡ status.Text) × RefusesScr
 IsRefusedBy Trace first text ended line = (ended ≡ status.Text) × RefusesTrace first text line
 IsRefusedBy Limits first text ended line = (ended ≡ status.Text) × RefusesLimits first text line
 IsRefusedBy Listing first text ended line = (ended ≡ status.Text) × RefusesListing text line
-
--- one of the texts is refused, each for its kind, and those before it are of theirs
-abbrev pub IsRefusedAmong : List TextKind → List ℕ → List (List ℕ) → Status → List ℕ → Type 0
-IsRefusedAmong [] first texts ended line = ⊥
-IsRefusedAmong (kind ∷ kinds) first [] ended line = ⊥
-IsRefusedAmong (kind ∷ kinds) first (text ∷ texts) ended line =
-    IsRefusedBy kind first text ended line ⊎ (IsOfKind kind first text × IsRefusedAmong kinds first texts ended line)

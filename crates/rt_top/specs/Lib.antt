@@ -1,4 +1,5 @@
 -- The definitions of this crate, a file each. Those in Inside are for private contracts alone.
+pub mod Program
 pub mod Words
 pub mod Refusal
 pub mod SecondRefusal
@@ -8,6 +9,7 @@ pub mod Paired
 pub mod Ends
 pub mod Reads
 pub mod Kinds
+pub mod Rtic
 pub mod Defined
 pub mod Laws
 pub mod Audited

@@ -50,10 +50,6 @@ NamesCommand words Times = (app limits : List ℕ) × (words ≡ codes "times" �
 NamesCommand words Verify = (image : List ℕ) × (words ≡ codes "verify" ∷ image ∷ [])
 NamesCommand words Pair = (first second script : List ℕ) × (words ≡ codes "pair" ∷ first ∷ second ∷ script ∷ [])
 
--- the words name a command
-abbrev pub IsCommand : List (List ℕ) → Type 0
-IsCommand words = (c : Command) × NamesCommand words c
-
 -- the line for all other words
 abbrev pub usage_line : List ℕ
 usage_line =

@@ -8,7 +8,8 @@ ghost use Rattle.rt_baker_moves.specs.Machine.{IsMachine};
 ghost use Rattle.rt_build.specs.Accepted.{IsApplication};
 ghost use Rattle.rt_top.specs.Words as word;
 ghost use Rattle.rt_top.specs.Kinds as kind;
-ghost use Rattle.rt_top.specs.Defined.{inputs};
+ghost use Rattle.rt_top.specs.Program.{inputs};
+ghost use Rattle.rt_top.specs.Rtic.{rtic_program};
 ghost use Rattle.rt_top.specs.Reads.{given_by};
 ghost use Rattle.rt_top.specs.Inside.Auditor.{IsJudgedText};
 ghost use Rattle.rt_top.specs.Inside.Decides.{AnswersOne};
@@ -32,7 +33,7 @@ pub(crate) fn audit<S: Source>(alloc: Global, app: &App, source: &mut S) -> Repl
     requires { IsAccepted (app_of app.now) }
     ensures { (first third : List ℕ) → IsApplication first (app_of app.now) →
         let gave = given_by S.past source.old source.new in
-        AnswersOne word.Audit kind.Trace (inputs first gave third) gave
+        AnswersOne rtic_program word.Audit kind.Trace (inputs first gave third) gave
         (HasUse S.past S.left S.faults source.old source.new) result }
 {
     match judge_source(alloc, app, source) {
@@ -51,7 +52,7 @@ fn judge_source<S: Source>(
     requires { IsAccepted (app_of app.now) }
     ensures { (first : List ℕ) → IsApplication first (app_of app.now) →
         let gave = given_by S.past source.old source.new in
-        Reads kind.Trace first gave (HasUse S.past S.left S.faults source.old source.new)
+        Reads rtic_program kind.Trace first gave (HasUse S.past S.left S.faults source.old source.new)
         (λ told. IsJudgedText (app_of app.now) gave told.0 told.1) result }
 {
     let Ok(names) = app.names(alloc) else {
@@ -78,7 +79,7 @@ fn judge_lines<C: Chosen, S: Source>(
     requires names { names.now ≡ names_of (app_of machine.now.code.now.app.now) }
     ensures { (first : List ℕ) → let app = app_of machine.now.code.now.app.now in
         IsApplication first app → let gave = given_by S.past source.old source.new in
-        Reads kind.Trace first gave (HasUse S.past S.left S.faults source.old source.new)
+        Reads rtic_program kind.Trace first gave (HasUse S.past S.left S.faults source.old source.new)
         (λ told. IsJudgedText app gave told.0 told.1) result }
 {
     let Ok(mut auditor) = Auditor::<C>::new(names, machine) else {

@@ -1,7 +1,9 @@
 // The commands, and the words that name them.
 
 ghost use Rattle.std.specs.Prelude.{◌≡◌, ◌-◌, ◌^◌, ℕ, IfSome, IfNone};
-ghost use Rattle.rt_top.specs.Words.{texts, NamesCommand, IsCommand, IsNumber};
+ghost use Rattle.rt_top.specs.Words.{texts, NamesCommand, IsNumber};
+ghost use Rattle.rt_top.specs.Defined.{IsCommand};
+ghost use Rattle.rt_top.specs.Rtic.{rtic_program};
 ghost use Rattle.rt_top.specs.Inside.Meant.{command_word};
 ghost use Rattle.rt_top.specs.declared.command.Command.TheVariants as command;
 
@@ -50,7 +52,7 @@ pub(crate) enum Command {
 /// The command that the words name, None where they name none.
 pub(crate) fn command_of(words: &[&str]) -> Option<Command>
     ensures some { IfSome result (λ c. NamesCommand (texts words.now) (command_word c)) }
-    ensures none { IfNone result (¬ IsCommand (texts words.now)) }
+    ensures none { IfNone result (¬ IsCommand rtic_program (texts words.now)) }
 {
     match words {
         ["run", _, _] => Some(Command::Run),

@@ -4,9 +4,10 @@ ghost use Rattle.std.specs.Prelude.{◌≡◌, ℕ, List, ◌∷◌, drop};
 ghost use Rattle.rt_app.specs.Accepted.{IsAccepted};
 ghost use Rattle.rt_app.specs.View.{app_of};
 ghost use Rattle.rt_build.specs.Accepted.{IsApplication};
-ghost use Rattle.rt_top.specs.Defined.{inputs};
+ghost use Rattle.rt_top.specs.Program.{inputs};
 ghost use Rattle.rt_top.specs.Kinds as kind;
 ghost use Rattle.rt_top.specs.Kinds.{kinds_of};
+ghost use Rattle.rt_top.specs.Rtic.{rtic_program};
 ghost use Rattle.rt_top.specs.Reads.{given_by};
 ghost use Rattle.rt_top.specs.Inside.Decides.{Conducts};
 ghost use Rattle.rt_top.specs.Inside.Meant.{command_word, IsInRange};
@@ -56,7 +57,7 @@ pub(crate) fn decide<
     ensures { let a = given_by A.past first.old first.new in
         let b = given_by B.past second.old second.new in
         let c = given_by C.past third.old third.new in
-        Conducts (command_word command) (kinds_of (command_word command)) (inputs a b c)
+        Conducts rtic_program (command_word command) (kinds_of (command_word command)) (inputs a b c)
         (Then a (HasUse A.past A.left A.faults first.old first.new)
         (Then b (HasUse B.past B.left B.faults second.old second.new)
         (Then c (HasUse C.past C.left C.faults third.old third.new) No)))
@@ -93,7 +94,7 @@ fn decide_of<R: Threads + Sync, B: Source, C: Source, K: Sink + Send, G: Gate + 
     ensures { (first : List ℕ) → IsApplication first (app_of app.now) →
         let b = given_by B.past second.old second.new in
         let c = given_by C.past third.old third.new in
-        Conducts (command_word command) (drop 1 (kinds_of (command_word command))) (inputs first b c)
+        Conducts rtic_program (command_word command) (drop 1 (kinds_of (command_word command))) (inputs first b c)
         (Then b (HasUse B.past B.left B.faults second.old second.new)
         (Then c (HasUse C.past C.left C.faults third.old third.new) No))
         (K.taken out.old) (K.taken out.new) (K.faults out.old) (K.faults out.new) result }

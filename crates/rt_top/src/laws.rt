@@ -4,16 +4,17 @@ ghost use Rattle.rt_top.specs.Audited.{LivesAreAudited, PairsAreAudited, RunsAre
 ghost use Rattle.rt_top.specs.Laws.{OneOfEachKind, OneStatusIsDue};
 ghost use Rattle.rt_top.specs.OneImage.{LivesShowTheListing, OneListingIsBuilt, OneRunIsWritten, OneSoakIsWritten};
 ghost use Rattle.rt_top.specs.OneImage.{PairsShowTheListings, RunsShowTheListing};
+ghost use Rattle.rt_top.specs.Rtic.{rtic_program};
 
 /// A text is of its kind or is refused, not both, whatever the kind.
 pub fn one_of_each_kind()
-    ensures { OneOfEachKind }
+    ensures { OneOfEachKind rtic_program }
 {}
 
 /// No two statuses are due, whatever the command and the texts of its sources: a text that is refused has no tree or
 /// breaks a rule, and then nothing is its output.
 pub fn one_status_is_due()
-    ensures { OneStatusIsDue }
+    ensures { OneStatusIsDue rtic_program }
 {}
 
 /// To what `run`, `live` and `pair` write the answer of `audit` is `yes`, with the number of the items of that trace.

@@ -9,7 +9,8 @@ ghost use Rattle.rt_core.specs.Machine.{IsFresh};
 ghost use Rattle.rt_script.specs.Script.{HasNames};
 ghost use Rattle.rt_top.specs.Words as word;
 ghost use Rattle.rt_top.specs.Kinds as kind;
-ghost use Rattle.rt_top.specs.Defined.{inputs};
+ghost use Rattle.rt_top.specs.Program.{inputs};
+ghost use Rattle.rt_top.specs.Rtic.{rtic_program};
 ghost use Rattle.rt_top.specs.Reads.{given_by};
 ghost use Rattle.rt_top.specs.Inside.Decides.{Conducts, EndsAs};
 ghost use Rattle.rt_top.specs.Inside.Started.{ShowsPair};
@@ -45,7 +46,7 @@ pub(crate) fn pair<R: Threads + Sync, B: Source, C: Source, K: Sink, G: Gate + S
     ensures { (first : List ℕ) → IsApplication first (app_of app.now) →
         let b = given_by B.past second.old second.new in
         let c = given_by C.past third.old third.new in
-        Conducts word.Pair (kind.OtherApplication ∷ kind.Script ∷ []) (inputs first b c)
+        Conducts rtic_program word.Pair (kind.OtherApplication ∷ kind.Script ∷ []) (inputs first b c)
         (Then b (HasUse B.past B.left B.faults second.old second.new)
         (Then c (HasUse C.past C.left C.faults third.old third.new) No))
         (K.taken out.old) (K.taken out.new) (K.faults out.old) (K.faults out.new) result }

@@ -8,6 +8,7 @@ ghost use Rattle.rt_app.specs.View as resolved;
 ghost use Rattle.rt_app.specs.Accepted.{IsAccepted};
 ghost use Rattle.rt_build.specs.Accepted.{KeepsRules, IsApplication};
 ghost use Rattle.rt_top.specs.Kinds as kind;
+ghost use Rattle.rt_top.specs.Rtic.{rtic_program};
 ghost use Rattle.rt_top.specs.Reads.{given_by};
 ghost use Rattle.rt_top.specs.Inside.Decides.{Tells, IsBrokenBy};
 ghost use Rattle.rt_top.specs.Inside.Using.{HasUse, Reads, ReadsBytes};
@@ -56,7 +57,7 @@ pub fn read_within<S: Source>(
 /// Reads the tree of an application.
 pub(crate) fn read_tree<S: Source>(alloc: Global, source: &mut S) -> Result<Written, Reply>
     ensures { let gave = given_by S.past source.old source.new in
-        Reads kind.Tree gave gave (HasUse S.past S.left S.faults source.old source.new)
+        Reads rtic_program kind.Tree gave gave (HasUse S.past S.left S.faults source.old source.new)
         (λ written. IsText written.text.items (app_of written.tree) × (written.text.items ≡ gave)) result }
 {
     let text = match read_within(alloc, source, TEXT_BYTES) {
@@ -88,7 +89,7 @@ fn judged_app(alloc: Global, written: &Written) -> Result<App, Reply>
 /// Reads an application, where it breaks no rule.
 pub fn read_accepted<S: Source>(alloc: Global, source: &mut S) -> Result<App, Reply>
     ensures reads { let gave = given_by S.past source.old source.new in
-        Reads kind.Application gave gave (HasUse S.past S.left S.faults source.old source.new)
+        Reads rtic_program kind.Application gave gave (HasUse S.past S.left S.faults source.old source.new)
         (λ app. IsApplication gave (resolved.app_of app)) result }
     ensures kept { IfOk result (λ app. IsAccepted (resolved.app_of app)) }
 {
@@ -99,7 +100,7 @@ pub fn read_accepted<S: Source>(alloc: Global, source: &mut S) -> Result<App, Re
 /// Reads a second application, likewise; its refusal says that it is of the second.
 pub(crate) fn read_other<S: Source>(alloc: Global, source: &mut S) -> Result<App, Reply>
     ensures reads { (first : List ℕ) → let gave = given_by S.past source.old source.new in
-        Reads kind.OtherApplication first gave (HasUse S.past S.left S.faults source.old source.new)
+        Reads rtic_program kind.OtherApplication first gave (HasUse S.past S.left S.faults source.old source.new)
         (λ app. IsApplication gave (resolved.app_of app)) result }
     ensures kept { IfOk result (λ app. IsAccepted (resolved.app_of app)) }
 {

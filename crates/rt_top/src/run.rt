@@ -9,7 +9,8 @@ ghost use Rattle.rt_core.specs.Machine.{IsFresh};
 ghost use Rattle.rt_script.specs.Script.{HasNames};
 ghost use Rattle.rt_top.specs.Words as word;
 ghost use Rattle.rt_top.specs.Kinds as kind;
-ghost use Rattle.rt_top.specs.Defined.{inputs};
+ghost use Rattle.rt_top.specs.Program.{inputs};
+ghost use Rattle.rt_top.specs.Rtic.{rtic_program};
 ghost use Rattle.rt_top.specs.Reads.{given_by};
 ghost use Rattle.rt_top.specs.Inside.Decides.{ConductsOne, EndsAs};
 ghost use Rattle.rt_top.specs.Inside.Started.{IsHeading, ShowsRun};
@@ -37,7 +38,7 @@ pub(crate) fn run<S: Source, K: Sink>(
     requires { IsAccepted (app_of app.now) }
     ensures ends { (first third : List ℕ) → IsApplication first (app_of app.now) →
         let gave = given_by S.past source.old source.new in
-        ConductsOne word.Run kind.Script (inputs first gave third) gave
+        ConductsOne rtic_program word.Run kind.Script (inputs first gave third) gave
         (HasUse S.past S.left S.faults source.old source.new)
         (K.taken out.old) (K.taken out.new) (K.faults out.old) (K.faults out.new) result }
     ensures heard { (K.faults out.new ≡ K.faults out.old) ⊎ (result ≡ Status.Write) }

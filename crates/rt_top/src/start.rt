@@ -12,6 +12,7 @@ ghost use Rattle.rt_script.specs.Script.{HasNames};
 ghost use Rattle.rt_script.specs.Text.{IsScriptText};
 ghost use Rattle.rt_top.specs.Kinds as kind;
 ghost use Rattle.rt_top.specs.Outputs.{IsGoodOf};
+ghost use Rattle.rt_top.specs.Rtic.{rtic_program};
 ghost use Rattle.rt_top.specs.Reads.{given_by};
 ghost use Rattle.rt_top.specs.Inside.Using.{HasUse, Reads};
 
@@ -35,7 +36,7 @@ pub(crate) fn start<S: Source>(
     requires accepted { IsAccepted (app_of app.now) }
     ensures reads { (first : List ℕ) → IsApplication first (app_of app.now) →
         let gave = given_by S.past source.old source.new in
-        Reads kind.Script first gave (HasUse S.past S.left S.faults source.old source.new)
+        Reads rtic_program kind.Script first gave (HasUse S.past S.left S.faults source.old source.new)
         (λ both. IsScriptText (names_of (app_of app.now)) gave both.1) result }
     ensures good { IfOk result (λ both. IsGoodOf (app_of app.now) both.0.image) }
     ensures fresh { IfOk result (λ both. IsFresh both.0) }
@@ -53,7 +54,7 @@ pub(crate) fn start<S: Source>(
 fn read_script_of<S: Source>(alloc: Global, source: &mut S, names: &Names) -> Result<Script, Reply>
     ensures reads { (first : List ℕ) (app : tree.App) → IsApplication first app → names.now ≡ names_of app →
         let gave = given_by S.past source.old source.new in
-        Reads kind.Script first gave (HasUse S.past S.left S.faults source.old source.new)
+        Reads rtic_program kind.Script first gave (HasUse S.past S.left S.faults source.old source.new)
         (λ script. IsScriptText names.now gave script) result }
     ensures names { IfOk result (λ script. HasNames names.now script) }
 {

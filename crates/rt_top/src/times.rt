@@ -12,8 +12,9 @@ ghost use Rattle.rt_rta.specs.Text.{IsLimitsText};
 ghost use Rattle.rt_rta.specs.declared.response.ResponseTime.{ResponseTime};
 ghost use Rattle.rt_top.specs.Words as word;
 ghost use Rattle.rt_top.specs.Kinds as kind;
-ghost use Rattle.rt_top.specs.Defined.{inputs};
+ghost use Rattle.rt_top.specs.Program.{inputs};
 ghost use Rattle.rt_top.specs.Outputs.{TellsTimes};
+ghost use Rattle.rt_top.specs.Rtic.{rtic_program};
 ghost use Rattle.rt_top.specs.Reads.{given_by};
 ghost use Rattle.rt_top.specs.Inside.Decides.{AnswersOne};
 ghost use Rattle.rt_top.specs.Inside.Replies.{Replies};
@@ -35,7 +36,7 @@ pub(crate) fn times<S: Source>(alloc: Global, app: &App, source: &mut S) -> Repl
     requires { IsAccepted (app_of app.now) }
     ensures { (first third : List ℕ) → IsApplication first (app_of app.now) →
         let gave = given_by S.past source.old source.new in
-        AnswersOne word.Times kind.Limits (inputs first gave third) gave
+        AnswersOne rtic_program word.Times kind.Limits (inputs first gave third) gave
         (HasUse S.past S.left S.faults source.old source.new) result }
 {
     match read_limits_of(alloc, app, source) {
@@ -49,7 +50,7 @@ fn read_limits_of<S: Source>(alloc: Global, app: &App, source: &mut S) -> Result
     requires { IsAccepted (app_of app.now) }
     ensures reads { (first : List ℕ) → IsApplication first (app_of app.now) →
         let gave = given_by S.past source.old source.new in
-        Reads kind.Limits first gave (HasUse S.past S.left S.faults source.old source.new)
+        Reads rtic_program kind.Limits first gave (HasUse S.past S.left S.faults source.old source.new)
         (λ limits. IsLimitsText (app_of app.now) gave limits) result }
     ensures limits { IfOk result (λ limits. AreLimits (app_of app.now) limits) }
 {

@@ -5,7 +5,8 @@ ghost use Rattle.rt_load.specs.Loadable.{IsLoadable};
 ghost use Rattle.rt_load.specs.Reading.{IsListingText};
 ghost use Rattle.rt_top.specs.Kinds as kind;
 ghost use Rattle.rt_top.specs.Words as word;
-ghost use Rattle.rt_top.specs.Defined.{inputs};
+ghost use Rattle.rt_top.specs.Program.{inputs};
+ghost use Rattle.rt_top.specs.Rtic.{rtic_program};
 ghost use Rattle.rt_top.specs.Reads.{given_by};
 ghost use Rattle.rt_top.specs.Verified.{TellsImage};
 ghost use Rattle.rt_top.specs.Inside.Decides.{AnswersOne};
@@ -24,7 +25,7 @@ use std::alloc::Global;
 /// least rule that it breaks.
 pub(crate) fn verify<S: Source>(alloc: Global, source: &mut S) -> Reply
     ensures { (second third : List ℕ) → let gave = given_by S.past source.old source.new in
-        AnswersOne word.Verify kind.Listing (inputs gave second third) gave
+        AnswersOne rtic_program word.Verify kind.Listing (inputs gave second third) gave
         (HasUse S.past S.left S.faults source.old source.new) result }
 {
     match read_listing(alloc, source) {
@@ -36,7 +37,7 @@ pub(crate) fn verify<S: Source>(alloc: Global, source: &mut S) -> Reply
 /// Reads the image of a listing.
 fn read_listing<S: Source>(alloc: Global, source: &mut S) -> Result<Image, Reply>
     ensures reads { let gave = given_by S.past source.old source.new in
-        Reads kind.Listing gave gave (HasUse S.past S.left S.faults source.old source.new)
+        Reads rtic_program kind.Listing gave gave (HasUse S.past S.left S.faults source.old source.new)
         (λ image. IsListingText gave image) result }
     ensures loadable { IfOk result (λ image. IsLoadable image) }
 {

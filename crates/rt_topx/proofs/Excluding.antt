@@ -1,5 +1,5 @@
--- A text is refused or is read, not both, and the status that is due is one.
-use Rattle.std.proofs.Common.{◌≡◌, ℕ, List, [], ◌∷◌, inl, inr, sym, ap, subst, ◌∙◌, arith}
+-- A text is refused or is read, not both, and each command has one output or one status: so `rticx` is lawful.
+use Rattle.std.proofs.Common.{◌≡◌, ℕ, List, inl, inr, sym, ap, subst, ◌∙◌, arith}
 use Rattle.rt_ids.specs.declared.status.Status.{Status}
 use Rattle.rt_ids.specs.declared.status.Status.TheVariants as status
 use Rattle.rt_app.specs.Names.{names_of}
@@ -23,16 +23,17 @@ use Rattle.rt_inputs_audit.specs.Reading.{Told, Standing, IsInputsText, inputs_r
 use Rattle.rt_inputs_audit.specs.Reading as trace
 use Rattle.rt_inputs_audit.specs.declared.refusal.Cause as in_trace
 use Rattle.rt_trace.specs.Reading.{total_of}
-use Rattle.rt_top.specs.Defined.{Inputs}
-use Rattle.rt_top.proofs.Excluding.{application_passes, application_only, IsReplied, AreDue, due_as}
-use Rattle.rt_top.proofs.Excluding.{SaysWhether, whether_once}
+use Rattle.rt_top.specs.Program.{Inputs, each_of}
+use Rattle.rt_top.proofs.Due.{AreDue, due_as, SaysWhether, whether_once, AreOfKinds, IsLawful}
+use Rattle.rt_top.proofs.Excluding.{application_passes, application_only}
 use Rattle.rt_topx.specs.declared.command.Command.{Command}
 use Rattle.rt_topx.specs.declared.command.Command.TheVariants as command
-use Rattle.rt_topx.specs.Kinds.{TextKind, kinds_of, IsOfKind, IsRefusedBy, IsRefusedAmong}
+use Rattle.rt_topx.specs.Kinds.{TextKind, kinds_of, IsOfKind, IsRefusedBy}
 use Rattle.rt_topx.specs.Kinds as kind
 use Rattle.rt_topx.specs.Refusal.{RefusesBoard, RefusesBeside, SaysBoard, SaysScript, SaysTrace}
 use Rattle.rt_topx.specs.Outputs.{IsAudited, Says}
-use Rattle.rt_topx.specs.Defined.{IsOutputOf, Defined, refused, output}
+use Rattle.rt_topx.specs.Rticx.{IsOutputOf, rticx_program}
+use Rattle.rt_topx.proofs.CommandWords.{one_command}
 
 -- What is read is refused by no line.
 
@@ -71,7 +72,7 @@ told_only app b text one other is is' =
     ∙ sym is'.tells
 
 -- the board of a text is one
-pub board_only : (app : App) (text : List ℕ) (a b : boards.Board) → IsBoardOf app text a → IsBoardOf app text b → a ≡ b
+board_only : (app : App) (text : List ℕ) (a b : boards.Board) → IsBoardOf app text a → IsBoardOf app text b → a ≡ b
 board_only app text a b one other = (read_one_way (board_reader app)).one_state text a b one other
 
 board_passes : (text more line : List ℕ) (app : App) → IsApplication text app → (b : boards.Board)
@@ -95,7 +96,7 @@ beside_passes IsOf IsRefused Says excludes text beside more line app is b of_boa
     (subst (λ c. IsOf r.app c more s) one (subst (λ a. IsOf a b more s) same read)) r.refused r.says
 
 -- A text is of its kind or is refused, not both.
-pub one_of_each : (k : TextKind) (t : Inputs) (text : List ℕ) (ended : Status) (line : List ℕ) → IsOfKind k t text
+one_of_each : (k : TextKind) (t : Inputs) (text : List ℕ) (ended : Status) (line : List ℕ) → IsOfKind k t text
     → IsRefusedBy k t text ended line → ⊥
 one_of_each kind.Application t text ended line (app, is) (told, r) = application_passes text line app is r
 one_of_each kind.Board t text ended line (app, is, b, read) (told, r) =
@@ -138,33 +139,9 @@ one_refusal kind.Board t text a b x y r s = due_as status.Text a b tt r.0 s.0
 one_refusal kind.Script t text a b x y r s = due_as status.Text a b tt r.0 s.0
 one_refusal kind.Trace t text a b x y r s = due_as status.Text a b tt r.0 s.0
 
--- each text is of its kind
-abbrev AreOfKinds : List TextKind → Inputs → List (List ℕ) → Type 0
-AreOfKinds [] t texts = Unit {0}
-AreOfKinds (k ∷ kinds) t [] = ⊥
-AreOfKinds (k ∷ kinds) t (text ∷ texts) = IsOfKind k t text × AreOfKinds kinds t texts
-
--- then none is refused
-none_refused : (kinds : List TextKind) (t : Inputs) (texts : List (List ℕ)) (ended : Status) (line : List ℕ)
-    → AreOfKinds kinds t texts → IsRefusedAmong kinds t texts ended line → ⊥
-none_refused [] t texts ended line are r = r
-none_refused (k ∷ kinds) t [] ended line are r = r
-none_refused (k ∷ kinds) t (text ∷ texts) ended line are (inl r) = one_of_each k t text ended line are.0 r
-none_refused (k ∷ kinds) t (text ∷ texts) ended line are (inr r) = none_refused kinds t texts ended line are.1 r.1
-
--- and the first that is has one status
-one_among : (kinds : List TextKind) (t : Inputs) (texts : List (List ℕ)) (a b : Status) (x y : List ℕ)
-    → IsRefusedAmong kinds t texts a x → IsRefusedAmong kinds t texts b y → AreDue a b
-one_among [] t texts a b x y r s = absurd r
-one_among (k ∷ kinds) t [] a b x y r s = absurd r
-one_among (k ∷ kinds) t (text ∷ texts) a b x y (inl r) (inl s) = one_refusal k t text a b x y r s
-one_among (k ∷ kinds) t (text ∷ texts) a b x y (inl r) (inr s) = absurd (one_of_each k t text a x s.0 r)
-one_among (k ∷ kinds) t (text ∷ texts) a b x y (inr r) (inl s) = absurd (one_of_each k t text b y r.0 s)
-one_among (k ∷ kinds) t (text ∷ texts) a b x y (inr r) (inr s) = one_among kinds t texts a b x y r.1 s.1
-
 -- where there is an output each text is of its kind
 all_read : (c : Command) (t : Inputs) (ended : Status) (bytes : List ℕ) → IsOutputOf c t ended bytes
-    → AreOfKinds (kinds_of c) t (t.first ∷ t.second ∷ t.third ∷ [])
+    → AreOfKinds rticx_program (kinds_of c) t (each_of t)
 all_read command.Run t ended bytes (is, w) = (
   (w.app, w.is.of_text),
   ((w.app, w.is.of_text, w.board, w.of_board), ((w.app, w.is.of_text, w.board, w.of_board, w.script, w.read), tt)),
@@ -184,19 +161,11 @@ one_output command.Run t a b x y w v = due_as status.Done a b tt w.0 v.0
 one_output command.Audit t a b x y w v = audited_so t.first t.second t.third a b x y w v
 one_output command.Live t a b x y w v = due_as status.Done a b tt w.0 v.0
 
--- what is due has one status, with which commands reply
-both_due : (c : Command) (t : Inputs) (a b : Status) (x y : List ℕ) → Defined c t a x → Defined c t b y → AreDue a b
-both_due c t a b x y (refused one line r) (refused other line' s) =
-    one_among (kinds_of c) t (t.first ∷ t.second ∷ t.third ∷ []) one other line line' r s
-both_due c t a b x y (refused one line r) (output other bytes w) =
-    absurd (none_refused (kinds_of c) t (t.first ∷ t.second ∷ t.third ∷ []) one line (all_read c t other bytes w) r)
-both_due c t a b x y (output one bytes w) (refused other line s) =
-    absurd (none_refused (kinds_of c) t (t.first ∷ t.second ∷ t.third ∷ []) other line (all_read c t one bytes w) s)
-both_due c t a b x y (output one bytes w) (output other bytes' v) = one_output c t one other bytes bytes' w v
-
-pub one_due : (c : Command) (t : Inputs) (a b : Status) (x y : List ℕ) → Defined c t a x → Defined c t b y → a ≡ b
-one_due c t a b x y d e = (both_due c t a b x y d e).1
-
-pub replied : (c : Command) (t : Inputs) (ended : Status) (bytes : List ℕ) → Defined c t ended bytes
-    → IsReplied ended
-replied c t ended bytes d = (both_due c t ended ended bytes bytes d d).0
+pub lawful : IsLawful rticx_program
+lawful = record {
+  one_command = one_command;
+  one_of_each = one_of_each;
+  one_refusal = one_refusal;
+  all_read = all_read;
+  one_output = one_output;
+}

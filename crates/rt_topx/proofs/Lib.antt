@@ -1,9 +1,6 @@
 mod Conducting
-mod Using
 mod Excluding
 mod CommandWords
-mod Ending
-mod Clauses
 mod Scripted
 mod Running
 mod Living

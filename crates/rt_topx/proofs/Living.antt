@@ -38,10 +38,10 @@ use Rattle.rt_live_inputs.specs.Looking.{look_happenings, own_steps, step_turns,
 use Rattle.rt_live_inputs.specs.Output.{IsLiveText, happened}
 use Rattle.rt_live_inputs.specs.declared.boxes.BoxKind.{BoxKind as Box}
 use Rattle.rt_live_inputs.proofs.Good.{live_runs_are_good}
-use Rattle.rt_top.specs.Defined.{Inputs}
+use Rattle.rt_top.specs.Program.{Inputs}
 use Rattle.rt_top.specs.Outputs.{IsGoodOf}
 use Rattle.rt_topx.specs.declared.command.Command.TheVariants as command
-use Rattle.rt_topx.specs.Defined.{IsOutputOf}
+use Rattle.rt_topx.specs.Rticx.{IsOutputOf}
 use Rattle.rt_topx.specs.Inside.Started.{ShowsLive}
 use Rattle.rt_topx.proofs.Scripted.{count_line, scripted}
 

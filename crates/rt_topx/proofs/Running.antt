@@ -18,10 +18,10 @@ use Rattle.rt_inputs.specs.Script.{text_with_inputs}
 use Rattle.rt_inputs.proofs.Free.{runs_with_inputs_are_good}
 use Rattle.rt_inputs.proofs.Proved.{runs_are_shown}
 use Rattle.rt_script.specs.Script.{HasNames}
-use Rattle.rt_top.specs.Defined.{Inputs}
+use Rattle.rt_top.specs.Program.{Inputs}
 use Rattle.rt_top.specs.Outputs.{IsGoodOf}
 use Rattle.rt_topx.specs.declared.command.Command.TheVariants as command
-use Rattle.rt_topx.specs.Defined.{IsOutputOf}
+use Rattle.rt_topx.specs.Rticx.{IsOutputOf}
 use Rattle.rt_topx.specs.Inside.Started.{ShowsRun}
 use Rattle.rt_topx.proofs.Scripted.{scripted}
 

@@ -1,7 +1,6 @@
--- What a command reads: texts of these kinds, one of each of its sources, in this order. A kind has a bound on the
--- bytes of its texts, and a text is of its kind or is refused, not both (`OneOfEachKind`). What a text is depends on
--- those before it: a board is one of an application, a script is over both.
-use Rattle.std.specs.Prelude.{◌≡◌, ◌⊎◌, ℕ, List, [], ◌∷◌}
+-- What a command of `rticx` reads: texts of these kinds, one of each of its sources, in this order. What a text is
+-- depends on those before it: a board is one of an application, a script is over both.
+use Rattle.std.specs.Prelude.{◌≡◌, ℕ, List, [], ◌∷◌}
 use Rattle.rt_ids.specs.declared.limits.TheConstants.{TEXT_BYTES, SCRIPT_BYTES, TRACE_BYTES}
 use Rattle.rt_ids.specs.declared.status.Status.{Status}
 use Rattle.rt_ids.specs.declared.status.Status.TheVariants as status
@@ -14,7 +13,7 @@ use Rattle.rt_given.specs.Reading.{IsGivenText}
 use Rattle.rt_given.specs.declared.line.GivenLine.{GivenLine}
 use Rattle.rt_inputs_audit.specs.Reading.{Told, IsInputsText}
 use Rattle.rt_top.specs.Refusal.{RefusesApplication}
-use Rattle.rt_top.specs.Defined.{Inputs}
+use Rattle.rt_top.specs.Program.{Inputs}
 use Rattle.rt_topx.specs.declared.command.Command.{Command}
 use Rattle.rt_topx.specs.declared.command.Command.TheVariants as command
 use Rattle.rt_topx.specs.Refusal.{RefusesBoard, RefusesScript, RefusesTrace}
@@ -58,10 +57,3 @@ IsRefusedBy Application t text ended line = (ended ≡ status.App) × RefusesApp
 IsRefusedBy Board t text ended line = (ended ≡ status.Text) × RefusesBoard t.first text line
 IsRefusedBy Script t text ended line = (ended ≡ status.Text) × RefusesScript t.first t.second text line
 IsRefusedBy Trace t text ended line = (ended ≡ status.Text) × RefusesTrace t.first t.second text line
-
--- one of the texts is refused, each for its kind, and those before it are of theirs
-abbrev pub IsRefusedAmong : List TextKind → Inputs → List (List ℕ) → Status → List ℕ → Type 0
-IsRefusedAmong [] t texts ended line = ⊥
-IsRefusedAmong (kind ∷ kinds) t [] ended line = ⊥
-IsRefusedAmong (kind ∷ kinds) t (text ∷ texts) ended line =
-    IsRefusedBy kind t text ended line ⊎ (IsOfKind kind t text × IsRefusedAmong kinds t texts ended line)

@@ -2,6 +2,5 @@ pub mod Words
 pub mod Refusal
 pub mod Kinds
 pub mod Outputs
-pub mod Defined
-pub mod Laws
+pub mod Rticx
 pub mod Inside

@@ -9,10 +9,6 @@ NamesCommand words command.Run = (app board script : List ℕ) × (words ≡ cod
 NamesCommand words command.Audit = (app board trace : List ℕ) × (words ≡ codes "audit" ∷ app ∷ board ∷ trace ∷ [])
 NamesCommand words command.Live = (app board script : List ℕ) × (words ≡ codes "live" ∷ app ∷ board ∷ script ∷ [])
 
--- the words name a command
-abbrev pub IsCommand : List (List ℕ) → Type 0
-IsCommand words = (c : Command) × NamesCommand words c
-
 -- the line for all other words
 abbrev pub usage_line : List ℕ
 usage_line = codes "usage: rticx run APP BOARD SCRIPT | audit APP BOARD TRACE | live APP BOARD SCRIPT\n"

@@ -10,15 +10,14 @@ ghost use Rattle.rt_build.specs.Accepted.{IsApplication};
 ghost use Rattle.rt_board.specs.Board.{AreInputs};
 ghost use Rattle.rt_board.specs.Reading.{IsBoardOf};
 ghost use Rattle.rt_inputs_audit.specs.Auditor.{IsJudgedText};
-ghost use Rattle.rt_top.specs.Defined.{Inputs, inputs};
-ghost use Rattle.rt_top.specs.Inside.Decides.{Tells};
-ghost use Rattle.rt_top.specs.Inside.Using.{HasUse};
+ghost use Rattle.rt_top.specs.Program.{Inputs, inputs};
+ghost use Rattle.rt_top.specs.Inside.Decides.{Tells, AnswersOne};
+ghost use Rattle.rt_top.specs.Inside.Using.{HasUse, Reads};
 ghost use Rattle.rt_top.specs.Reads.{given_by};
 ghost use Rattle.rt_topx.specs.declared.command.Command.TheVariants as command;
-ghost use Rattle.rt_topx.specs.Inside.Decides.{AnswersOne};
-ghost use Rattle.rt_topx.specs.Inside.Using.{Reads};
 ghost use Rattle.rt_topx.specs.Kinds as kind;
 ghost use Rattle.rt_topx.specs.Refusal.{SaysTrace};
+ghost use Rattle.rt_topx.specs.Rticx.{rticx_program};
 
 use rt_app::App;
 use rt_baker::Verdict;
@@ -47,7 +46,7 @@ pub(crate) fn audit<S: Source>(alloc: Global, app: &App, board: &Board, source: 
     ensures { (first second : List ℕ) → IsApplication first (app_of app.now) →
         IsBoardOf (app_of app.now) second board.now →
         let gave = given_by S.past source.old source.new in
-        AnswersOne command.Audit kind.Trace (inputs first second gave) gave
+        AnswersOne rticx_program command.Audit kind.Trace (inputs first second gave) gave
         (HasUse S.past S.left S.faults source.old source.new) result }
 {
     match judge_source(alloc, app, board, source) {
@@ -69,7 +68,7 @@ fn judge_source<S: Source>(
     ensures { (t : Inputs) → IsApplication t.first (app_of app.now) →
         IsBoardOf (app_of app.now) t.second board.now →
         let gave = given_by S.past source.old source.new in
-        Reads kind.Trace t gave (HasUse S.past S.left S.faults source.old source.new)
+        Reads rticx_program kind.Trace t gave (HasUse S.past S.left S.faults source.old source.new)
         (λ told. IsJudgedText (app_of app.now) board.now gave told.0 told.1) result }
 {
     let Ok(names) = app.names(alloc) else {
@@ -100,7 +99,7 @@ fn judge_lines<C: Chosen, S: Source>(
     ensures { (t : Inputs) → let app = app_of machine.now.code.now.app.now in
         IsApplication t.first app → IsBoardOf app t.second board.now →
         let gave = given_by S.past source.old source.new in
-        Reads kind.Trace t gave (HasUse S.past S.left S.faults source.old source.new)
+        Reads rticx_program kind.Trace t gave (HasUse S.past S.left S.faults source.old source.new)
         (λ told. IsJudgedText app board.now gave told.0 told.1) result }
 {
     let Ok(mut auditor) = InputsAuditor::<C>::new(names, machine, board) else {

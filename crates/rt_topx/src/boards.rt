@@ -7,13 +7,13 @@ ghost use Rattle.rt_app.specs.View.{app_of};
 ghost use Rattle.rt_build.specs.Accepted.{IsApplication};
 ghost use Rattle.rt_board.specs.Board.{AreInputs};
 ghost use Rattle.rt_board.specs.Reading.{IsBoardOf};
-ghost use Rattle.rt_top.specs.Defined.{Inputs};
+ghost use Rattle.rt_top.specs.Program.{Inputs};
 ghost use Rattle.rt_top.specs.Inside.Decides.{Tells};
-ghost use Rattle.rt_top.specs.Inside.Using.{HasUse};
+ghost use Rattle.rt_top.specs.Inside.Using.{HasUse, Reads};
 ghost use Rattle.rt_top.specs.Reads.{given_by};
-ghost use Rattle.rt_topx.specs.Inside.Using.{Reads};
 ghost use Rattle.rt_topx.specs.Kinds as kind;
 ghost use Rattle.rt_topx.specs.Refusal.{SaysBoard};
+ghost use Rattle.rt_topx.specs.Rticx.{rticx_program};
 
 use rt_app::App;
 use rt_board::{Board, BoardRefused, Cause, read_board, refusal_text};
@@ -39,7 +39,7 @@ pub(crate) fn read_board_of<S: Source>(
     requires { IsAccepted (app_of app.now) }
     ensures reads { (t : Inputs) → IsApplication t.first (app_of app.now) →
         let gave = given_by S.past source.old source.new in
-        Reads kind.Board t gave (HasUse S.past S.left S.faults source.old source.new)
+        Reads rticx_program kind.Board t gave (HasUse S.past S.left S.faults source.old source.new)
         (λ board. IsBoardOf (app_of app.now) gave board) result }
     ensures inputs { IfOk result (λ board. AreInputs (app_of app.now) board.inputs) }
 {

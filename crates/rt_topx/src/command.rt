@@ -1,8 +1,10 @@
 // The commands, and the words that name them.
 
 ghost use Rattle.std.specs.Prelude.{IfSome, IfNone};
+ghost use Rattle.rt_top.specs.Defined.{IsCommand};
 ghost use Rattle.rt_top.specs.Words.{texts};
-ghost use Rattle.rt_topx.specs.Words.{NamesCommand, IsCommand};
+ghost use Rattle.rt_topx.specs.Rticx.{rticx_program};
+ghost use Rattle.rt_topx.specs.Words.{NamesCommand};
 
 /// A command.
 #[derive(Clone, Copy, PartialEq, Eq)]
@@ -18,7 +20,7 @@ pub enum Command {
 /// The command that the words name, None where they name none.
 pub(crate) fn command_of(words: &[&str]) -> Option<Command>
     ensures some { IfSome result (λ c. NamesCommand (texts words.now) c) }
-    ensures none { IfNone result (¬ IsCommand (texts words.now)) }
+    ensures none { IfNone result (¬ IsCommand rticx_program (texts words.now)) }
 {
     match words {
         ["run", _, _, _] => Some(Command::Run),

@@ -6,11 +6,12 @@ ghost use Rattle.rt_app.specs.View.{app_of};
 ghost use Rattle.rt_build.specs.Accepted.{IsApplication};
 ghost use Rattle.rt_board.specs.Board.{AreInputs};
 ghost use Rattle.rt_board.specs.Reading.{IsBoardOf};
-ghost use Rattle.rt_top.specs.Defined.{inputs};
+ghost use Rattle.rt_top.specs.Program.{inputs};
 ghost use Rattle.rt_top.specs.Inside.Using.{HasUse, No, Then};
 ghost use Rattle.rt_top.specs.Reads.{given_by};
-ghost use Rattle.rt_topx.specs.Inside.Decides.{Conducts};
+ghost use Rattle.rt_top.specs.Inside.Decides.{Conducts};
 ghost use Rattle.rt_topx.specs.Kinds.{kinds_of};
+ghost use Rattle.rt_topx.specs.Rticx.{rticx_program};
 
 use crate::audit::audit;
 use crate::boards::read_board_of;
@@ -49,7 +50,7 @@ pub(crate) fn decide<
     ensures { let a = given_by A.past first.old first.new in
         let b = given_by B.past second.old second.new in
         let c = given_by C.past third.old third.new in
-        Conducts command (kinds_of command) (inputs a b c)
+        Conducts rticx_program command (kinds_of command) (inputs a b c)
         (Then a (HasUse A.past A.left A.faults first.old first.new)
         (Then b (HasUse B.past B.left B.faults second.old second.new)
         (Then c (HasUse C.past C.left C.faults third.old third.new) No)))
@@ -76,7 +77,7 @@ fn decide_of<R: Threads + Sync, B: Source, C: Source, K: Sink + Send, G: Gate + 
     ensures { (first : List ℕ) → IsApplication first (app_of app.now) →
         let b = given_by B.past second.old second.new in
         let c = given_by C.past third.old third.new in
-        Conducts command (drop 1 (kinds_of command)) (inputs first b c)
+        Conducts rticx_program command (drop 1 (kinds_of command)) (inputs first b c)
         (Then b (HasUse B.past B.left B.faults second.old second.new)
         (Then c (HasUse C.past C.left C.faults third.old third.new) No))
         (K.taken out.old) (K.taken out.new) (K.faults out.old) (K.faults out.new) result }
@@ -103,7 +104,7 @@ fn decide_beside<R: Threads + Sync, C: Source, K: Sink + Send, G: Gate + Sync>(
     ensures { (first second : List ℕ) → IsApplication first (app_of app.now) →
         IsBoardOf (app_of app.now) second board.now →
         let c = given_by C.past third.old third.new in
-        Conducts command (drop 2 (kinds_of command)) (inputs first second c)
+        Conducts rticx_program command (drop 2 (kinds_of command)) (inputs first second c)
         (Then c (HasUse C.past C.left C.faults third.old third.new) No)
         (K.taken out.old) (K.taken out.new) (K.faults out.old) (K.faults out.new) result }
 {

@@ -11,14 +11,14 @@ ghost use Rattle.rt_script.specs.Script.{HasNames};
 ghost use Rattle.rt_board.specs.Board.{AreInputs};
 ghost use Rattle.rt_board.specs.Reading.{IsBoardOf};
 ghost use Rattle.rt_given.specs.Given.{asked};
-ghost use Rattle.rt_top.specs.Defined.{inputs};
-ghost use Rattle.rt_top.specs.Inside.Decides.{EndsAs};
+ghost use Rattle.rt_top.specs.Program.{inputs};
+ghost use Rattle.rt_top.specs.Inside.Decides.{EndsAs, ConductsOne};
 ghost use Rattle.rt_top.specs.Inside.Using.{HasUse};
 ghost use Rattle.rt_top.specs.Reads.{given_by};
 ghost use Rattle.rt_topx.specs.declared.command.Command.TheVariants as command;
-ghost use Rattle.rt_topx.specs.Inside.Decides.{ConductsOne};
 ghost use Rattle.rt_topx.specs.Inside.Started.{ShowsRun};
 ghost use Rattle.rt_topx.specs.Kinds as kind;
+ghost use Rattle.rt_topx.specs.Rticx.{rticx_program};
 
 use crate::start::start;
 use rt_app::App;
@@ -47,7 +47,7 @@ pub(crate) fn run<S: Source, K: Sink>(
     ensures ends { (first second : List ℕ) → IsApplication first (app_of app.now) →
         IsBoardOf (app_of app.now) second board.now →
         let gave = given_by S.past source.old source.new in
-        ConductsOne command.Run kind.Script (inputs first second gave) gave
+        ConductsOne rticx_program command.Run kind.Script (inputs first second gave) gave
         (HasUse S.past S.left S.faults source.old source.new)
         (K.taken out.old) (K.taken out.new) (K.faults out.old) (K.faults out.new) result }
     ensures heard { (K.faults out.new ≡ K.faults out.old) ⊎ (result ≡ Status.Write) }

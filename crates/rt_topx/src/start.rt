@@ -12,14 +12,14 @@ ghost use Rattle.rt_script.specs.Script.{HasNames};
 ghost use Rattle.rt_board.specs.Reading.{IsBoardOf};
 ghost use Rattle.rt_given.specs.Given.{asked, GiveInputs};
 ghost use Rattle.rt_given.specs.Reading.{IsGivenText};
-ghost use Rattle.rt_top.specs.Defined.{Inputs};
+ghost use Rattle.rt_top.specs.Program.{Inputs};
 ghost use Rattle.rt_top.specs.Inside.Decides.{Tells};
-ghost use Rattle.rt_top.specs.Inside.Using.{HasUse};
+ghost use Rattle.rt_top.specs.Inside.Using.{HasUse, Reads};
 ghost use Rattle.rt_top.specs.Outputs.{IsGoodOf};
 ghost use Rattle.rt_top.specs.Reads.{given_by};
-ghost use Rattle.rt_topx.specs.Inside.Using.{Reads};
 ghost use Rattle.rt_topx.specs.Kinds as kind;
 ghost use Rattle.rt_topx.specs.Refusal.{SaysScript};
+ghost use Rattle.rt_topx.specs.Rticx.{rticx_program};
 
 use rt_app::App;
 use rt_board::Board;
@@ -51,7 +51,7 @@ pub(crate) fn start<S: Source>(
     ensures reads { (t : Inputs) → IsApplication t.first (app_of app.now) →
         IsBoardOf (app_of app.now) t.second board.now →
         let gave = given_by S.past source.old source.new in
-        Reads kind.Script t gave (HasUse S.past S.left S.faults source.old source.new)
+        Reads rticx_program kind.Script t gave (HasUse S.past S.left S.faults source.old source.new)
         (λ both. IsGivenText (names_of (app_of app.now)) (app_of app.now) board.now gave both.1) result }
     ensures good { IfOk result (λ both. IsGoodOf (app_of app.now) both.0.image) }
     ensures fresh { IfOk result (λ both. IsFresh both.0) }
@@ -77,7 +77,7 @@ fn read_script_of<S: Source>(
     ensures reads { (t : Inputs) → IsApplication t.first (app_of app.now) →
         IsBoardOf (app_of app.now) t.second board.now → names.now ≡ names_of (app_of app.now) →
         let gave = given_by S.past source.old source.new in
-        Reads kind.Script t gave (HasUse S.past S.left S.faults source.old source.new)
+        Reads rticx_program kind.Script t gave (HasUse S.past S.left S.faults source.old source.new)
         (λ script. IsGivenText names.now (app_of app.now) board.now gave script) result }
     ensures names { IfOk result (λ script. HasNames names.now (asked script)) }
     ensures inputs { IfOk result (λ script. GiveInputs board.now script) }

@@ -4,13 +4,14 @@ ghost use Rattle.std.specs.Prelude.{◌≡◌, ◌≤◌, ◌⊎◌, [], length}
 ghost use Rattle.rt_outside.specs.Faults.{Rose};
 ghost use Rattle.rt_outside.specs.Bytes.{Took};
 ghost use Rattle.rt_top.specs.Words.{texts};
-ghost use Rattle.rt_top.specs.Defined.{inputs, IsAnswer};
+ghost use Rattle.rt_top.specs.Program.{inputs};
+ghost use Rattle.rt_top.specs.Defined.{IsCommand, IsDue, IsAnswer, Skips, ComesTo, WroteAll, WrotePart};
 ghost use Rattle.rt_top.specs.Ends.{Wrote, IsKept};
 ghost use Rattle.rt_top.specs.Reads.{given_by, IsReadWithin};
 ghost use Rattle.rt_topx.specs.declared.command.Command.{Command};
-ghost use Rattle.rt_topx.specs.Words.{NamesCommand, IsCommand, usage_line};
+ghost use Rattle.rt_topx.specs.Words.{NamesCommand, usage_line};
 ghost use Rattle.rt_topx.specs.Kinds.{TextKind, kinds_of, most_bytes};
-ghost use Rattle.rt_topx.specs.Defined.{IsDue, Skips, ComesTo, WroteAll, WrotePart};
+ghost use Rattle.rt_topx.specs.Rticx.{rticx_program};
 
 use crate::command::command_of;
 use crate::decide::decide;
@@ -46,48 +47,51 @@ pub fn rticx<R: Threads + Sync, A: Source, B: Source, C: Source, K: Sink + Send,
     ensures answered { (c : Command) → NamesCommand (texts words.now) c → IsAnswer result →
         let t = inputs (given_by A.past first.old first.new) (given_by B.past second.old second.new)
         (given_by C.past third.old third.new) in
-        WroteAll c t result (K.taken out.old) (K.taken out.new) }
+        WroteAll rticx_program c t result (K.taken out.old) (K.taken out.new) }
 
     // Where nothing failed, the status is the one that is due, or memory was wanted.
     ensures complete { (c : Command) (due : Status) → NamesCommand (texts words.now) c →
         let t = inputs (given_by A.past first.old first.new) (given_by B.past second.old second.new)
         (given_by C.past third.old third.new) in
-        IsDue c t due →
+        IsDue rticx_program c t due →
         ¬ Rose (A.faults first.old) (A.faults first.new) → ¬ Rose (B.faults second.old) (B.faults second.new) →
         ¬ Rose (C.faults third.old) (C.faults third.new) → ¬ Rose (K.faults out.old) (K.faults out.new) →
         (result ≡ due) ⊎ (result ≡ Status.Memory) }
 
     // Words that are no command give the usage line.
-    ensures usage { ¬ IsCommand (texts words.now) →
+    ensures usage { ¬ IsCommand rticx_program (texts words.now) →
         Wrote (K.taken out.old) (K.taken out.new) (K.faults out.old) (K.faults out.new)
         Status.Usage result usage_line }
-    ensures no_usage { result ≡ Status.Usage → ¬ IsCommand (texts words.now) }
+    ensures no_usage { result ≡ Status.Usage → ¬ IsCommand rticx_program (texts words.now) }
 
     // A source that the command does not come to gives nothing and keeps what it has, whatever the status.
     ensures first_unread { let t = inputs (given_by A.past first.old first.new) (given_by B.past second.old second.new)
         (given_by C.past third.old third.new) in
-        Skips 0 (texts words.now) t → IsKept A.past A.left A.faults first.old first.new }
+        Skips rticx_program 0 (texts words.now) t → IsKept A.past A.left A.faults first.old first.new }
     ensures second_unread { let t = inputs (given_by A.past first.old first.new) (given_by B.past second.old second.new)
         (given_by C.past third.old third.new) in
-        Skips 1 (texts words.now) t → IsKept B.past B.left B.faults second.old second.new }
+        Skips rticx_program 1 (texts words.now) t → IsKept B.past B.left B.faults second.old second.new }
     ensures third_unread { let t = inputs (given_by A.past first.old first.new) (given_by B.past second.old second.new)
         (given_by C.past third.old third.new) in
-        Skips 2 (texts words.now) t → IsKept C.past C.left C.faults third.old third.new }
+        Skips rticx_program 2 (texts words.now) t → IsKept C.past C.left C.faults third.old third.new }
 
     // With an answer each source that the command comes to was read to its end, or up to one byte more than its text
     // may have.
     ensures first_read { (c : Command) (kind : TextKind) → NamesCommand (texts words.now) c →
         let t = inputs (given_by A.past first.old first.new) (given_by B.past second.old second.new)
         (given_by C.past third.old third.new) in
-        ComesTo 0 c t kind → IsAnswer result → IsReadWithin (most_bytes kind) A.past A.left first.old first.new }
+        ComesTo rticx_program 0 c t kind → IsAnswer result →
+        IsReadWithin (most_bytes kind) A.past A.left first.old first.new }
     ensures second_read { (c : Command) (kind : TextKind) → NamesCommand (texts words.now) c →
         let t = inputs (given_by A.past first.old first.new) (given_by B.past second.old second.new)
         (given_by C.past third.old third.new) in
-        ComesTo 1 c t kind → IsAnswer result → IsReadWithin (most_bytes kind) B.past B.left second.old second.new }
+        ComesTo rticx_program 1 c t kind → IsAnswer result →
+        IsReadWithin (most_bytes kind) B.past B.left second.old second.new }
     ensures third_read { (c : Command) (kind : TextKind) → NamesCommand (texts words.now) c →
         let t = inputs (given_by A.past first.old first.new) (given_by B.past second.old second.new)
         (given_by C.past third.old third.new) in
-        ComesTo 2 c t kind → IsAnswer result → IsReadWithin (most_bytes kind) C.past C.left third.old third.new }
+        ComesTo rticx_program 2 c t kind → IsAnswer result →
+        IsReadWithin (most_bytes kind) C.past C.left third.old third.new }
 
     // A source that the command reads failed, and then no source after it was read and nothing was written.
     ensures read { result ≡ Status.Read → (c : Command) × NamesCommand (texts words.now) c
@@ -109,7 +113,7 @@ pub fn rticx<R: Threads + Sync, A: Source, B: Source, C: Source, K: Sink + Send,
     ensures part { (c : Command) → NamesCommand (texts words.now) c → result ≡ Status.Write →
         let t = inputs (given_by A.past first.old first.new) (given_by B.past second.old second.new)
         (given_by C.past third.old third.new) in
-        WrotePart c t (K.taken out.old) (K.taken out.new) }
+        WrotePart rticx_program c t (K.taken out.old) (K.taken out.new) }
 {
     match command_of(words) {
         Some(command) => decide(rt, alloc, command, first, second, third, out, gate),

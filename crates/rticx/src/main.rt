@@ -13,10 +13,11 @@ ghost use Rattle.rt_ids.specs.Status as number;
 ghost use Rattle.rt_outside.specs.Faults.{Rose};
 ghost use Rattle.rt_outside.specs.Bytes.{given_since, Took, TookPrefix};
 ghost use Rattle.rt_top.specs.Words.{texts};
-ghost use Rattle.rt_top.specs.Defined.{inputs, IsAnswer};
+ghost use Rattle.rt_top.specs.Program.{inputs};
+ghost use Rattle.rt_top.specs.Defined.{IsCommand, IsAnswer, IsDue, WroteAll};
 ghost use Rattle.rt_topx.specs.declared.command.Command.{Command};
-ghost use Rattle.rt_topx.specs.Words.{IsCommand, NamesCommand, usage_line};
-ghost use Rattle.rt_topx.specs.Defined.{IsDue, WroteAll};
+ghost use Rattle.rt_topx.specs.Rticx.{rticx_program};
+ghost use Rattle.rt_topx.specs.Words.{NamesCommand, usage_line};
 
 use rt_files::{Inputs, exit_code, own_words};
 use rt_ids::Status;
@@ -64,21 +65,21 @@ fn conduct<R: Threads + Sync + Files + Print>(
         let t = inputs (given_since files.old.first.past files.new.first.past)
         (given_since files.old.second.past files.new.second.past)
         (given_since files.old.third.past files.new.third.past) in
-        WroteAll c t status out.old.taken out.new.taken }
+        WroteAll rticx_program c t status out.old.taken out.new.taken }
 
     // Where no opening, read or write failed, it is the one that is due, or that of want of memory.
     ensures complete { (c : Command) (due : Status) → NamesCommand (texts words.now) c →
         let t = inputs (given_since files.old.first.past files.new.first.past)
         (given_since files.old.second.past files.new.second.past)
         (given_since files.old.third.past files.new.third.past) in
-        IsDue c t due →
+        IsDue rticx_program c t due →
         ¬ Rose files.old.first.faults files.new.first.faults → ¬ Rose files.old.second.faults files.new.second.faults →
         ¬ Rose files.old.third.faults files.new.third.faults → ¬ Rose out.old.faults out.new.faults →
         (process.exit_status result ≡ number.exit_status due)
         ⊎ (process.exit_status result ≡ number.exit_status Status.Memory) }
 
     // Words that are no command have the usage line written.
-    ensures usage { ¬ IsCommand (texts words.now) →
+    ensures usage { ¬ IsCommand rticx_program (texts words.now) →
         ((process.exit_status result ≡ number.exit_status Status.Usage)
         × Took out.old.taken out.new.taken usage_line)
         ⊎ ((process.exit_status result ≡ number.exit_status Status.Write)

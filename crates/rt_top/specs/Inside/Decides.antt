@@ -10,11 +10,9 @@ use Rattle.rt_build.specs.Accepted.{IsBroken}
 use Rattle.rt_code.specs.Image.{Image}
 use Rattle.rt_listing.specs.Listing.{listing}
 use Rattle.rt_listing.specs.Numbers.{HasTypedNumbers}
-use Rattle.rt_top.specs.Words as word
+use Rattle.rt_top.specs.Program.{Program, Inputs}
 use Rattle.rt_top.specs.Refusal.{refusal_line}
-use Rattle.rt_top.specs.Kinds.{TextKind, most_bytes, IsOfKind}
 use Rattle.rt_top.specs.Ends.{Wrote}
-use Rattle.rt_top.specs.Defined.{Inputs, IsOutputOf}
 use Rattle.rt_top.specs.Outputs.{IsGoodOf}
 use Rattle.rt_top.specs.Inside.Replies.{RepliesOrStops, Replies, WantsMemory}
 use Rattle.rt_top.specs.Inside.Using.{Use, Whole, Sources, IsNotRead, AreRead}
@@ -52,43 +50,44 @@ Finishes before after faults_before faults_after r result =
     (λ ended. (result ≡ ended) × Took before after []) r
 
 -- the reply: the output where each text was read, or that to the one that was not
-abbrev pub IsReplyTo : word.Command → Inputs → Option Reply → Reply → Type 0
-IsReplyTo c t None r = Replies (IsOutputOf c t) r
-IsReplyTo c t (Some ended) r = r ≡ ended
+abbrev pub IsReplyTo : (p : Program) → p.Command → Inputs → Option Reply → Reply → Type 0
+IsReplyTo p c t None r = Replies (p.IsOutputOf c t) r
+IsReplyTo p c t (Some ended) r = r ≡ ended
 
 -- what a command does with the sources that are left to it, for texts of the kinds that are left, and what it replies
-pub record Answers (c : word.Command) (kinds : List TextKind) (t : Inputs) (sources : Sources)
-    (r : Reply) : Type 0 where
+pub record Answers (p : Program) (c : p.Command) (kinds : List p.Kind) (t : Inputs) (sources : Sources) (r : Reply)
+    : Type 0 where
   pub end : Option Reply
-  pub read : AreRead kinds t.first sources end
-  pub replies : IsReplyTo c t end r
+  pub read : AreRead p kinds (p.over t) sources end
+  pub replies : IsReplyTo p c t end r
 
 -- what a command does with a source that gave this, for a text of the last of its kinds, and what it replies
-abbrev pub AnswersOne : word.Command → TextKind → Inputs → List ℕ → (ℕ → Use → Type 0) → Reply → Type 0
-AnswersOne c kind t gave Does r =
-    (Does (most_bytes kind) Whole × IsOfKind kind t.first gave × Replies (IsOutputOf c t) r)
-    ⊎ IsNotRead kind t.first gave Does r
+abbrev pub AnswersOne : (p : Program) → p.Command → p.Kind → Inputs → List ℕ → (ℕ → Use → Type 0) → Reply → Type 0
+AnswersOne p c kind t gave Does r =
+    (Does (p.most_bytes kind) Whole × p.IsOfKind kind (p.over t) gave × Replies (p.IsOutputOf c t) r)
+    ⊎ IsNotRead p kind (p.over t) gave Does r
 
 -- and how it ends
-abbrev pub ConductsOne : word.Command → TextKind → Inputs → List ℕ → (ℕ → Use → Type 0) → List ℕ → List ℕ → ℕ → ℕ
-    → Status → Type 0
-ConductsOne c kind t gave Does before after faults_before faults_after result =
-    (Does (most_bytes kind) Whole × IsOfKind kind t.first gave
-    × EndsAs (IsOutputOf c t) before after faults_before faults_after result)
-    ⊎ ((r : Reply) × IsNotRead kind t.first gave Does r × Finishes before after faults_before faults_after r result)
+abbrev pub ConductsOne : (p : Program) → p.Command → p.Kind → Inputs → List ℕ → (ℕ → Use → Type 0) → List ℕ → List ℕ
+    → ℕ → ℕ → Status → Type 0
+ConductsOne p c kind t gave Does before after faults_before faults_after result =
+    (Does (p.most_bytes kind) Whole × p.IsOfKind kind (p.over t) gave
+    × EndsAs (p.IsOutputOf c t) before after faults_before faults_after result)
+    ⊎ ((r : Reply) × IsNotRead p kind (p.over t) gave Does r
+    × Finishes before after faults_before faults_after r result)
 
 -- how a command ends whose reading ended so
-abbrev pub EndsBy : word.Command → Inputs → Option Reply → List ℕ → List ℕ → ℕ → ℕ → Status → Type 0
-EndsBy c t None before after faults_before faults_after result =
-    EndsAs (IsOutputOf c t) before after faults_before faults_after result
-EndsBy c t (Some r) before after faults_before faults_after result =
+abbrev pub EndsBy : (p : Program) → p.Command → Inputs → Option Reply → List ℕ → List ℕ → ℕ → ℕ → Status → Type 0
+EndsBy p c t None before after faults_before faults_after result =
+    EndsAs (p.IsOutputOf c t) before after faults_before faults_after result
+EndsBy p c t (Some r) before after faults_before faults_after result =
     Finishes before after faults_before faults_after r result
 
 -- What a command does with the sources that are left to it, for texts of the kinds that are left, and how it ends. A
 -- fault of the sink is told.
-pub record Conducts (c : word.Command) (kinds : List TextKind) (t : Inputs) (sources : Sources) (before after : List ℕ)
-    (faults_before faults_after : ℕ) (result : Status) : Type 0 where
+pub record Conducts (p : Program) (c : p.Command) (kinds : List p.Kind) (t : Inputs) (sources : Sources)
+    (before after : List ℕ) (faults_before faults_after : ℕ) (result : Status) : Type 0 where
   pub end : Option Reply
-  pub read : AreRead kinds t.first sources end
-  pub ends : EndsBy c t end before after faults_before faults_after result
+  pub read : AreRead p kinds (p.over t) sources end
+  pub ends : EndsBy p c t end before after faults_before faults_after result
   pub heard : (faults_after ≡ faults_before) ⊎ (result ≡ status.Write)

@@ -7,7 +7,7 @@ use Rattle.rt_outside.specs.Bytes.{Past}
 use Rattle.rt_outside.specs.Faults.{Rose}
 use Rattle.rt_top.specs.Ends.{IsKept}
 use Rattle.rt_top.specs.Reads.{IsReadWithin}
-use Rattle.rt_top.specs.Kinds.{TextKind, most_bytes, IsOfKind, IsRefusedBy}
+use Rattle.rt_top.specs.Program.{Program}
 use Rattle.rt_top.specs.declared.reply.Reply.{Reply}
 use Rattle.rt_top.specs.declared.reply.Reply.TheVariants as reply
 
@@ -45,25 +45,26 @@ pub data Stops (limit : ℕ) (Does : ℕ → Use → Type 0) : Status → Type 0
   at_fault : Does limit Failed → Stops limit Does status.Read
 
 -- no text of the kind was read: the one that came is refused, or the program stops
-pub data IsNotRead (kind : TextKind) (first gave : List ℕ) (Does : ℕ → Use → Type 0) : Reply → Type 0 where
-  refusal : (ended : Status) (line : Vec ℕ Global) → Does (most_bytes kind) Whole
-      → IsRefusedBy kind first gave ended line.items → IsNotRead kind first gave Does (reply.Write ended line)
-  stop : (ended : Status) → Stops (most_bytes kind) Does ended → IsNotRead kind first gave Does (reply.Stop ended)
+pub data IsNotRead (p : Program) (kind : p.Kind) (over : p.Over) (gave : List ℕ) (Does : ℕ → Use → Type 0)
+    : Reply → Type 0 where
+  refusal : (ended : Status) (line : Vec ℕ Global) → Does (p.most_bytes kind) Whole
+      → p.IsRefusedBy kind over gave ended line.items → IsNotRead p kind over gave Does (reply.Write ended line)
+  stop : (ended : Status) → Stops (p.most_bytes kind) Does ended → IsNotRead p kind over gave Does (reply.Stop ended)
 
 -- The sources were read for texts of these kinds: each up to the first from which no text of its kind was read, and
 -- with the reply to that, if there is one. Those behind it were not come to, nor any that the command has no text in.
-abbrev pub AreRead : List TextKind → List ℕ → Sources → Option Reply → Type 0
-AreRead [] first sources end = AreUnread sources × (end ≡ None)
-AreRead (kind ∷ kinds) first No end = ⊥
-AreRead (kind ∷ kinds) first (Then gave Does more) end =
-    (Does (most_bytes kind) Whole × IsOfKind kind first gave × AreRead kinds first more end)
-    ⊎ ((r : Reply) × (end ≡ Some r) × IsNotRead kind first gave Does r × AreUnread more)
+abbrev pub AreRead : (p : Program) → List p.Kind → p.Over → Sources → Option Reply → Type 0
+AreRead p [] over sources end = AreUnread sources × (end ≡ None)
+AreRead p (kind ∷ kinds) over No end = ⊥
+AreRead p (kind ∷ kinds) over (Then gave Does more) end =
+    (Does (p.most_bytes kind) Whole × p.IsOfKind kind over gave × AreRead p kinds over more end)
+    ⊎ ((r : Reply) × (end ≡ Some r) × IsNotRead p kind over gave Does r × AreUnread more)
 
 -- One text of the kind was read from the source, of which this is so; or none was.
-abbrev pub Reads : {T : Type 0} → TextKind → List ℕ → List ℕ → (ℕ → Use → Type 0) → (T → Type 0) → Result T Reply
-    → Type 0
-Reads kind first gave Does Is (Ok x) = Does (most_bytes kind) Whole × Is x
-Reads kind first gave Does Is (Err r) = IsNotRead kind first gave Does r
+abbrev pub Reads : {T : Type 0} (p : Program) → p.Kind → p.Over → List ℕ → (ℕ → Use → Type 0) → (T → Type 0)
+    → Result T Reply → Type 0
+Reads p kind over gave Does Is (Ok x) = Does (p.most_bytes kind) Whole × Is x
+Reads p kind over gave Does Is (Err r) = IsNotRead p kind over gave Does r
 
 -- All bytes of the source were read, or one more than the limit; or why the program stops.
 abbrev pub ReadsBytes : ℕ → List ℕ → (ℕ → Use → Type 0) → Result (Option (Vec ℕ Global)) Status → Type 0

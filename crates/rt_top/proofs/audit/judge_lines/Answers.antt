@@ -3,6 +3,7 @@ use Rattle.rt_app.specs.View.{app_of}
 use Rattle.rt_ids.specs.declared.status.Status.TheVariants as status
 use Rattle.rt_trace.specs.declared.refusal.TraceRefused.TheVariants as in_trace
 use Rattle.rt_top.specs.Kinds as kind
+use Rattle.rt_top.specs.Rtic.{rtic_program}
 use Rattle.rt_top.specs.Reads.{given_by}
 use Rattle.rt_top.specs.SecondRefusal.{SaysTrace}
 use Rattle.rt_top.specs.Inside.Using.{for_memory, at_fault, stop}
@@ -21,8 +22,8 @@ returns-in-Err-TooLong g c first is =
     let app = app_of c.args.machine.now.code.now.app.now in
     let long = (rw c.in-Err-TooLong.field-0-is at c.in-Err-TooLong.ensures.too_long) refl in
     let quiet = (rw c.in-Err-TooLong.field-0-is at c.in-Err-TooLong.ensures.quiet) (λ e. absurd cc) in
-    refusal_reads kind.Trace first _ _ (long_within _ _ _ _ _ c.read_lines.ensures.given long, quiet) quiet status.Text
-    (SaysTrace in_trace.TooLong)
+    refusal_reads rtic_program kind.Trace first _ _ (long_within _ _ _ _ _ c.read_lines.ensures.given long, quiet)
+    quiet status.Text (SaysTrace in_trace.TooLong)
     (λ line says. (refl, refused_over app is in_trace.TooLong (omega (arith, long)) says)) c.refuse_trace.result
     c.refuse_trace.ensures
 
@@ -50,7 +51,7 @@ returns g c first is =
     let lines = c.in-Ok-read_lines.ensures in
     let quiet = c.read_lines.ensures.quiet (λ e. absurd cc) in
     let refused = c.in-Err.ensures _ _ c.requires.chosen lines.within (sym lines.handed.0) lines.handed.1 in
-    refusal_reads kind.Trace first _ _
+    refusal_reads rtic_program kind.Trace first _ _
     (whole_within _ _ _ _ _ c.read_lines.ensures.given lines.ended lines.within, quiet) quiet status.Text
     (SaysTrace c.in-Err.refusal) (λ line says. (refl, refused_over _ is c.in-Err.refusal refused says))
     c.refuse_trace-in-Err.result c.refuse_trace-in-Err.ensures

@@ -1,5 +1,5 @@
-use Rattle.rt_top.proofs.Excluding.{one_of_each}
+use Rattle.rt_top.proofs.Excluding.{lawful}
 use Rattle.rt_top.proofs.laws.one_of_each_kind.Goals as goal
 
 pub returns : goal.returns
-returns c = one_of_each
+returns c = lawful.one_of_each

@@ -1,6 +1,6 @@
 use Rattle.std.proofs.Common.{inl}
 use Rattle.rt_app.specs.View.{app_of}
-use Rattle.rt_top.specs.Defined.{inputs}
+use Rattle.rt_top.specs.Program.{inputs}
 use Rattle.rt_top.specs.Reads.{given_by}
 use Rattle.rt_top.proofs.Conducting.{kept, conducts_behind, ends_as, finished, one_conducts, refused_answers}
 use Rattle.rt_top.proofs.Deciding.{paired}

@@ -1,7 +1,7 @@
 use Rattle.std.proofs.Common.{◌++◌, codes, decimal, inl, inr, ap, ◌∙◌}
 use Rattle.rt_app.specs.View.{app_of}
 use Rattle.rt_baker.specs.declared.verdict.Verdict.TheVariants as judged
-use Rattle.rt_top.specs.Defined.{inputs}
+use Rattle.rt_top.specs.Program.{inputs}
 use Rattle.rt_top.specs.Reads.{given_by}
 use Rattle.rt_top.proofs.Giving.{replies_as}
 use Rattle.rt_topx.proofs.audit.audit.Goals as goal

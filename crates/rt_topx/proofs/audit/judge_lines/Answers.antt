@@ -3,14 +3,15 @@ use Rattle.rt_lines.specs.Refusal.{too_long, refused_at}
 use Rattle.rt_app.specs.View.{app_of}
 use Rattle.rt_ids.specs.declared.status.Status.TheVariants as status
 use Rattle.rt_inputs_audit.specs.declared.refusal.Cause.TheVariants as cause
-use Rattle.rt_top.specs.Inside.Using.{for_memory, at_fault}
+use Rattle.rt_top.specs.Inside.Using.{for_memory, at_fault, stop}
 use Rattle.rt_top.specs.Reads.{given_by}
 use Rattle.rt_top.proofs.Auditing.{few_lines}
 use Rattle.rt_top.proofs.Texts.{long_within, whole_within}
-use Rattle.rt_topx.specs.Inside.Using.{stop}
 use Rattle.rt_topx.specs.Kinds as kind
 use Rattle.rt_topx.specs.Refusal.{SaysTrace}
-use Rattle.rt_topx.proofs.Conducting.{refusal_reads, refused_beside}
+use Rattle.rt_topx.specs.Rticx.{rticx_program}
+use Rattle.rt_top.proofs.Conducting.{refusal_reads}
+use Rattle.rt_topx.proofs.Conducting.{refused_beside}
 use Rattle.rt_topx.proofs.audit.judge_lines.Goals as goal
 
 pub end-requires-clause-few : goal.end-requires-clause-few
@@ -23,8 +24,8 @@ returns-in-Err-TooLong g c t is of_board =
     let app = app_of c.args.machine.now.code.now.app.now in
     let long = (rw c.in-Err-TooLong.field-0-is at c.in-Err-TooLong.ensures.too_long) refl in
     let quiet = (rw c.in-Err-TooLong.field-0-is at c.in-Err-TooLong.ensures.quiet) (λ e. absurd cc) in
-    refusal_reads kind.Trace t _ _ (long_within _ _ _ _ _ c.read_lines.ensures.given long, quiet) quiet status.Text
-    (SaysTrace (refused_at 1 cause.TooLong))
+    refusal_reads rticx_program kind.Trace t _ _ (long_within _ _ _ _ _ c.read_lines.ensures.given long, quiet) quiet
+    status.Text (SaysTrace (refused_at 1 cause.TooLong))
     (λ line says.
     (refl, refused_beside app is _ of_board (refused_at 1 cause.TooLong) (too_long (omega (arith, long))) says))
     c.refuse_trace.result c.refuse_trace.ensures
@@ -54,7 +55,7 @@ returns g c t is of_board =
     let quiet = c.read_lines.ensures.quiet (λ e. absurd cc) in
     let refused = c.in-Err.ensures _ _ _ c.requires.chosen c.requires.on lines.within (sym lines.handed.0)
     lines.handed.1 in
-    refusal_reads kind.Trace t _ _
+    refusal_reads rticx_program kind.Trace t _ _
     (whole_within _ _ _ _ _ c.read_lines.ensures.given lines.ended lines.within, quiet) quiet status.Text
     (SaysTrace c.in-Err.refusal) (λ line says. (refl, refused_beside _ is _ of_board c.in-Err.refusal refused says))
     c.refuse_trace-in-Err.result c.refuse_trace-in-Err.ensures

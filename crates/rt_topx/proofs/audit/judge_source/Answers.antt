@@ -1,7 +1,6 @@
 use Rattle.std.proofs.Common.{refl}
 use Rattle.rt_ids.specs.declared.status.Status.TheVariants as status
-use Rattle.rt_top.specs.Inside.Using.{for_memory}
-use Rattle.rt_topx.specs.Inside.Using.{stop}
+use Rattle.rt_top.specs.Inside.Using.{for_memory, stop}
 use Rattle.rt_topx.proofs.audit.judge_source.Goals as goal
 
 pub returns-in_default : goal.returns-in_default

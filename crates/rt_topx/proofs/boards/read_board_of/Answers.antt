@@ -4,12 +4,11 @@ use Rattle.rt_lines.specs.Refusal.{too_long, refused_at}
 use Rattle.rt_app.specs.View.{app_of}
 use Rattle.rt_board.specs.Reading.{IsBoardOf, IsRefused}
 use Rattle.rt_board.specs.declared.refusal.Cause.TheVariants as cause
-use Rattle.rt_top.specs.Inside.Using.{for_memory}
-use Rattle.rt_top.proofs.Conducting.{refused_over}
-use Rattle.rt_topx.specs.Inside.Using.{stop}
+use Rattle.rt_top.specs.Inside.Using.{for_memory, stop}
+use Rattle.rt_top.proofs.Conducting.{refused_over, refusal_reads}
 use Rattle.rt_topx.specs.Kinds as kind
 use Rattle.rt_topx.specs.Refusal.{SaysBoard}
-use Rattle.rt_topx.proofs.Conducting.{refusal_reads}
+use Rattle.rt_topx.specs.Rticx.{rticx_program}
 use Rattle.rt_topx.proofs.boards.read_board_of.Goals as goal
 
 pub returns-in_default-clause-reads : goal.returns-in_default-clause-reads
@@ -18,7 +17,7 @@ returns-in_default-clause-reads g c t is = stop status.Memory (for_memory refl)
 pub returns-in-Ok-None-clause-reads : goal.returns-in-Ok-None-clause-reads
 returns-in-Ok-None-clause-reads g c t is =
     let read = rw c.in-Ok-None.field-0-is at c.in-Ok-None.ensures in
-    refusal_reads kind.Board t _ _ read.0 read.0.1 status.Text (SaysBoard (refused_at 1 cause.TooLong))
+    refusal_reads rticx_program kind.Board t _ _ read.0 read.0.1 status.Text (SaysBoard (refused_at 1 cause.TooLong))
     (λ line says. (refl, refused_over _ is (refused_at 1 cause.TooLong) (too_long read.1) says)) c.refuse_board.result
     c.refuse_board.ensures
 
@@ -39,6 +38,6 @@ returns-clause-reads g c t is =
     let refusal = c.in-Err-read_board.refusal in
     let refused = subst (λ text. IsRefused (app_of c.args.app.now) text refusal) (c.deref.ensures.value ∙ read.1)
     c.in-Err-read_board.ensures.refused in
-    refusal_reads kind.Board t _ _ read.0 read.0.1 status.Text (SaysBoard refusal)
+    refusal_reads rticx_program kind.Board t _ _ read.0 read.0.1 status.Text (SaysBoard refusal)
     (λ line says. (refl, refused_over _ is refusal refused says)) c.refuse_board-in-Err-read_board.result
     c.refuse_board-in-Err-read_board.ensures

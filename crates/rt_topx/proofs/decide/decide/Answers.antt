@@ -1,8 +1,8 @@
 use Rattle.rt_app.specs.View.{app_of}
-use Rattle.rt_top.specs.Defined.{inputs}
+use Rattle.rt_top.specs.Program.{inputs}
 use Rattle.rt_top.specs.Reads.{given_by}
-use Rattle.rt_top.proofs.Conducting.{kept}
-use Rattle.rt_topx.proofs.Conducting.{conducts_behind, refused_conducts, not_application, begins}
+use Rattle.rt_top.proofs.Conducting.{kept, conducts_behind, finished, refused_answers}
+use Rattle.rt_topx.proofs.Conducting.{not_application, begins}
 use Rattle.rt_topx.proofs.decide.decide.Goals as goal
 
 pub returns-in-Ok : goal.returns-in-Ok
@@ -16,6 +16,6 @@ returns-in-Err g c =
     let second = given_by g.B.Source.past c.args.second.now c.args.second.now in
     let third = given_by g.C.Source.past c.args.third.now c.args.third.now in
     let kinds = begins c.args.command in
-    rw kinds (refused_conducts (kept, (kept, tt))
-    (not_application (inputs _ second third) _ _ _ c.in-Err.ensures.reads) c.finish.ensures.finished
+    rw kinds (finished (refused_answers (kept, (kept, tt))
+    (not_application (inputs _ second third) _ _ _ c.in-Err.ensures.reads)) c.finish.ensures.finished
     c.finish.ensures.heard)

@@ -1,4 +1,4 @@
-use Rattle.rt_topx.proofs.Conducting.{one_conducts, one_answers}
+use Rattle.rt_top.proofs.Conducting.{finished, one_answers, one_conducts}
 use Rattle.rt_topx.proofs.decide.decide_beside.Goals as goal
 
 pub returns-in-Run : goal.returns-in-Run
@@ -7,7 +7,7 @@ returns-in-Run g c first second is of_board =
 
 pub returns-in-Audit : goal.returns-in-Audit
 returns-in-Audit g c first second is of_board =
-    rw c.in-Audit.is (one_answers tt (c.audit.ensures first second is of_board) c.finish.ensures.finished
+    rw c.in-Audit.is (finished (one_answers tt (c.audit.ensures first second is of_board)) c.finish.ensures.finished
     c.finish.ensures.heard)
 
 pub returns-in-Live : goal.returns-in-Live

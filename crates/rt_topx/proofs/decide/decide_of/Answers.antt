@@ -1,8 +1,8 @@
 use Rattle.rt_app.specs.View.{app_of}
-use Rattle.rt_top.specs.Defined.{inputs}
+use Rattle.rt_top.specs.Program.{inputs}
 use Rattle.rt_top.specs.Reads.{given_by}
-use Rattle.rt_top.proofs.Conducting.{kept}
-use Rattle.rt_topx.proofs.Conducting.{conducts_behind, refused_conducts, goes_on}
+use Rattle.rt_top.proofs.Conducting.{kept, conducts_behind, finished, refused_answers}
+use Rattle.rt_topx.proofs.Conducting.{goes_on}
 use Rattle.rt_topx.proofs.decide.decide_of.Goals as goal
 
 pub returns-in-Ok : goal.returns-in-Ok
@@ -19,5 +19,5 @@ returns-in-Err g c first is =
     let second = given_by g.B.Source.past c.args.second.now c.read_board_of.new.source in
     let third = given_by g.C.Source.past c.args.third.now c.args.third.now in
     let kinds = goes_on c.args.command in
-    rw kinds (refused_conducts (kept, tt)
-    (c.in-Err.ensures.reads (inputs first second third) is) c.finish.ensures.finished c.finish.ensures.heard)
+    rw kinds (finished (refused_answers (kept, tt) (c.in-Err.ensures.reads (inputs first second third) is))
+    c.finish.ensures.finished c.finish.ensures.heard)

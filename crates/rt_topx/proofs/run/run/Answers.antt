@@ -1,6 +1,6 @@
 use Rattle.std.proofs.Common.{inl, inr}
 use Rattle.rt_app.specs.View.{app_of}
-use Rattle.rt_top.specs.Defined.{inputs}
+use Rattle.rt_top.specs.Program.{inputs}
 use Rattle.rt_top.specs.Reads.{given_by}
 use Rattle.rt_top.proofs.Conducting.{ends_as}
 use Rattle.rt_topx.proofs.Running.{ran}

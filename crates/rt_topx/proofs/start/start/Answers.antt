@@ -7,9 +7,8 @@ use Rattle.rt_ids.specs.declared.status.Status.TheVariants as status
 use Rattle.rt_script.specs.Script.{HasNames}
 use Rattle.rt_given.specs.Given.{asked}
 use Rattle.rt_given.specs.Reading.{IsGivenText}
-use Rattle.rt_top.specs.Inside.Using.{for_memory}
+use Rattle.rt_top.specs.Inside.Using.{for_memory, stop}
 use Rattle.rt_top.specs.Reads.{given_by}
-use Rattle.rt_topx.specs.Inside.Using.{stop}
 use Rattle.rt_topx.proofs.start.start.Goals as goal
 
 pub returns-clause-reads : goal.returns-clause-reads

@@ -1,96 +1,103 @@
 use Rattle.std.proofs.Common.{refl}
 use Rattle.rt_top.specs.Words.{texts}
-use Rattle.rt_topx.proofs.Clauses.{conducted, none_failed, one_failed}
-use Rattle.rt_topx.proofs.Ending as ending
-use Rattle.rt_top.proofs.Using.{quiet}
-use Rattle.rt_topx.proofs.Using.{did, read_whole, skipped}
+use Rattle.rt_top.proofs.Clauses.{conducted, none_failed, one_failed}
+use Rattle.rt_top.proofs.Ending as ending
+use Rattle.rt_top.proofs.Using.{did, quiet, read_whole, skipped}
+use Rattle.rt_topx.specs.Rticx.{rticx_program}
+use Rattle.rt_topx.proofs.Excluding.{lawful}
 use Rattle.rt_topx.proofs.top.rticx.Goals as goal
 
 pub returns-in-Some-clause-answered : goal.returns-in-Some-clause-answered
 returns-in-Some-clause-answered g c e named answer =
-    ending.answered refl
-    (conducted (texts c.args.words.now) c.in-Some.command c.in-Some.ensures.some c.decide.ensures e named)
+    ending.answered lawful refl
+    (conducted lawful (texts c.args.words.now) c.in-Some.command c.in-Some.ensures.some
+    c.decide.ensures e named)
     answer
 
 pub returns-in-Some-clause-complete : goal.returns-in-Some-clause-complete
 returns-in-Some-clause-complete g c e due named is_due no_first no_second no_third no_sink =
-    let k = conducted (texts c.args.words.now) c.in-Some.command c.in-Some.ensures.some c.decide.ensures e named in
-    ending.complete refl k due is_due
-    (λ failed. none_failed _ _ _ _ _ _ _ _ k.end k.read failed _ _ _ (λ limit f. f) (λ limit f. f) (λ limit f. f)
-    no_first no_second no_third) no_sink
+    let k = conducted lawful (texts c.args.words.now) c.in-Some.command c.in-Some.ensures.some c.decide.ensures e
+    named in
+    ending.complete lawful refl k due is_due
+    (λ failed. none_failed rticx_program _ _ _ _ _ _ _ _ k.end k.read failed _ _ _ (λ limit f. f) (λ limit f. f)
+    (λ limit f. f) no_first no_second no_third) no_sink
 
 pub returns-in-Some-clause-usage : goal.returns-in-Some-clause-usage
 returns-in-Some-clause-usage g c none = absurd (none (c.in-Some.command, c.in-Some.ensures.some))
 
 pub returns-in-Some-clause-no_usage : goal.returns-in-Some-clause-no_usage
-returns-in-Some-clause-no_usage g c usage = absurd (ending.no_usage refl c.decide.ensures usage)
+returns-in-Some-clause-no_usage g c usage = absurd (ending.no_usage lawful refl c.decide.ensures usage)
 
 pub returns-in-Some-clause-first_unread : goal.returns-in-Some-clause-first_unread
 returns-in-Some-clause-first_unread g c skips =
-    (skipped 0 _ _ _ c.decide.ensures.end c.decide.ensures.read
+    (skipped lawful 0 _ _ _ c.decide.ensures.end c.decide.ensures.read
     (skips c.in-Some.command c.in-Some.ensures.some)).0
 
 pub returns-in-Some-clause-second_unread : goal.returns-in-Some-clause-second_unread
 returns-in-Some-clause-second_unread g c skips =
-    (skipped 1 _ _ _ c.decide.ensures.end c.decide.ensures.read
+    (skipped lawful 1 _ _ _ c.decide.ensures.end c.decide.ensures.read
     (skips c.in-Some.command c.in-Some.ensures.some)).0
 
 pub returns-in-Some-clause-third_unread : goal.returns-in-Some-clause-third_unread
 returns-in-Some-clause-third_unread g c skips =
-    (skipped 2 _ _ _ c.decide.ensures.end c.decide.ensures.read
+    (skipped lawful 2 _ _ _ c.decide.ensures.end c.decide.ensures.read
     (skips c.in-Some.command c.in-Some.ensures.some)).0
 
 pub returns-in-Some-clause-first_read : goal.returns-in-Some-clause-first_read
 returns-in-Some-clause-first_read g c e kind named comes answer =
-    let k = conducted (texts c.args.words.now) c.in-Some.command c.in-Some.ensures.some c.decide.ensures e named in
-    (read_whole 0 _ _ _ k.end kind k.read comes.reads comes.passed (ending.alive refl k answer)).0
+    let k = conducted lawful (texts c.args.words.now) c.in-Some.command c.in-Some.ensures.some c.decide.ensures e
+    named in
+    (read_whole rticx_program 0 _ _ _ k.end kind k.read comes.reads comes.passed (ending.alive lawful refl k answer)).0
 
 pub returns-in-Some-clause-second_read : goal.returns-in-Some-clause-second_read
 returns-in-Some-clause-second_read g c e kind named comes answer =
-    let k = conducted (texts c.args.words.now) c.in-Some.command c.in-Some.ensures.some c.decide.ensures e named in
-    (read_whole 1 _ _ _ k.end kind k.read comes.reads comes.passed (ending.alive refl k answer)).0
+    let k = conducted lawful (texts c.args.words.now) c.in-Some.command c.in-Some.ensures.some c.decide.ensures e
+    named in
+    (read_whole rticx_program 1 _ _ _ k.end kind k.read comes.reads comes.passed (ending.alive lawful refl k answer)).0
 
 pub returns-in-Some-clause-third_read : goal.returns-in-Some-clause-third_read
 returns-in-Some-clause-third_read g c e kind named comes answer =
-    let k = conducted (texts c.args.words.now) c.in-Some.command c.in-Some.ensures.some c.decide.ensures e named in
-    (read_whole 2 _ _ _ k.end kind k.read comes.reads comes.passed (ending.alive refl k answer)).0
+    let k = conducted lawful (texts c.args.words.now) c.in-Some.command c.in-Some.ensures.some c.decide.ensures e
+    named in
+    (read_whole rticx_program 2 _ _ _ k.end kind k.read comes.reads comes.passed (ending.alive lawful refl k answer)).0
 
 pub returns-in-Some-clause-read : goal.returns-in-Some-clause-read
 returns-in-Some-clause-read g c is_read = (
   c.in-Some.command,
   c.in-Some.ensures.some,
-  one_failed _ _ _ _ _ _ _ _ c.decide.ensures.end c.decide.ensures.read (ending.failed refl c.decide.ensures is_read)
-      _ _ _ (λ limit f. f) (λ limit f. f) (λ limit f. f),
+  one_failed rticx_program _ _ _ _ _ _ _ _ c.decide.ensures.end c.decide.ensures.read
+      (ending.failed lawful refl c.decide.ensures is_read) _ _ _ (λ limit f. f) (λ limit f. f) (λ limit f. f),
 )
 
 pub returns-in-Some-clause-silent : goal.returns-in-Some-clause-silent
-returns-in-Some-clause-silent g c stops = ending.silent refl c.decide.ensures stops
+returns-in-Some-clause-silent g c stops = ending.silent lawful refl c.decide.ensures stops
 
 pub returns-in-Some-clause-first_heard : goal.returns-in-Some-clause-first_heard
 returns-in-Some-clause-first_heard g c =
-    let (limit, how, done, stops) = did 0 _ _ _ c.decide.ensures.end c.decide.ensures.read in
-    quiet _ _ _ _ _ limit how _ done (λ is. ending.told refl c.decide.ensures (stops is))
+    let (limit, how, done, stops) = did rticx_program 0 _ _ _ c.decide.ensures.end c.decide.ensures.read in
+    quiet _ _ _ _ _ limit how _ done (λ is. ending.told lawful refl c.decide.ensures (stops is))
 
 pub returns-in-Some-clause-second_heard : goal.returns-in-Some-clause-second_heard
 returns-in-Some-clause-second_heard g c =
-    let (limit, how, done, stops) = did 1 _ _ _ c.decide.ensures.end c.decide.ensures.read in
-    quiet _ _ _ _ _ limit how _ done (λ is. ending.told refl c.decide.ensures (stops is))
+    let (limit, how, done, stops) = did rticx_program 1 _ _ _ c.decide.ensures.end c.decide.ensures.read in
+    quiet _ _ _ _ _ limit how _ done (λ is. ending.told lawful refl c.decide.ensures (stops is))
 
 pub returns-in-Some-clause-third_heard : goal.returns-in-Some-clause-third_heard
 returns-in-Some-clause-third_heard g c =
-    let (limit, how, done, stops) = did 2 _ _ _ c.decide.ensures.end c.decide.ensures.read in
-    quiet _ _ _ _ _ limit how _ done (λ is. ending.told refl c.decide.ensures (stops is))
+    let (limit, how, done, stops) = did rticx_program 2 _ _ _ c.decide.ensures.end c.decide.ensures.read in
+    quiet _ _ _ _ _ limit how _ done (λ is. ending.told lawful refl c.decide.ensures (stops is))
 
 pub returns-in-Some-clause-sink_heard : goal.returns-in-Some-clause-sink_heard
 returns-in-Some-clause-sink_heard g c = c.decide.ensures.heard
 
 pub returns-in-Some-clause-write : goal.returns-in-Some-clause-write
-returns-in-Some-clause-write g c failed = (ending.write refl c.decide.ensures failed).0
+returns-in-Some-clause-write g c failed = (ending.write lawful refl c.decide.ensures failed).0
 
 pub returns-in-Some-clause-part : goal.returns-in-Some-clause-part
 returns-in-Some-clause-part g c e named failed =
-    (ending.write refl
-    (conducted (texts c.args.words.now) c.in-Some.command c.in-Some.ensures.some c.decide.ensures e named)
+    (ending.write lawful refl
+    (conducted lawful (texts c.args.words.now) c.in-Some.command c.in-Some.ensures.some
+    c.decide.ensures e named)
     failed).1
 
 pub returns-in-None-clause-answered : goal.returns-in-None-clause-answered
