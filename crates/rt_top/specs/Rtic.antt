@@ -3,7 +3,7 @@
 use Rattle.std.specs.Prelude.{◌≡◌, ℕ, List}
 use Rattle.rt_ids.specs.declared.status.Status.{Status}
 use Rattle.rt_ids.specs.declared.status.Status.TheVariants as status
-use Rattle.rt_demo.specs.Demo.{demo}
+use Rattle.rt_soak.specs.Demo.{demo}
 use Rattle.rt_top.specs.Program.{Program, Inputs}
 use Rattle.rt_top.specs.Words.{Command, Run, Check, Fmt, Build, Audit, Live, Soak, Demo, Deepest, Times, Verify, Pair}
 use Rattle.rt_top.specs.Words.{NamesCommand}

@@ -1,7 +1,7 @@
 // The command `demo`.
 
 ghost use Rattle.std.specs.Prelude.{◌≡◌, ◌≤◌};
-ghost use Rattle.rt_demo.specs.Demo as spec;
+ghost use Rattle.rt_soak.specs.Demo as spec;
 ghost use Rattle.rt_ids.specs.declared.status.Status.TheVariants as status;
 ghost use Rattle.rt_top.specs.Inside.Decides.{Tells};
 
@@ -15,5 +15,5 @@ pub(crate) fn demo(alloc: Global, tasks: u8) -> Reply
     requires most { tasks ≤ 48 }
     ensures { Tells status.Done (λ bytes. bytes ≡ spec.demo tasks) result }
 {
-    reply_of_text(Status::Done, rt_demo::demo(alloc, tasks))
+    reply_of_text(Status::Done, rt_soak::demo(alloc, tasks))
 }

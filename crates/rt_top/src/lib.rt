@@ -2,7 +2,7 @@
 // Promises: bytes and status of each command, of the bytes that its reads gave.
 // Stands on: rt_lemmas, rt_ids, rt_outside, rt_lines, rt_ast, rt_grammar, rt_parse, rt_print, rt_app, rt_resolve,
 // rt_build, rt_ceil, rt_frames, rt_report, rt_code, rt_listing, rt_trace, rt_core, rt_script, rt_run, rt_devices,
-// rt_live, rt_dual, rt_sim, rt_demo, rt_count, rt_soak, rt_reach, rt_rta, rt_baker_moves, rt_baker, rt_points, rt_safe,
+// rt_live, rt_dual, rt_sim, rt_count, rt_soak, rt_reach, rt_rta, rt_baker_moves, rt_baker, rt_points, rt_safe,
 // rt_load.
 // Read next: src/top.rt, then specs/Program.antt, specs/Defined.antt and specs/Rtic.antt.
 #![tactic(auto)]

@@ -1,6 +1,6 @@
-use Rattle.rt_demo.specs.Demo.{interrupt}
-use Rattle.rt_demo.proofs.Numbering.{none_below, one_more}
-use Rattle.rt_demo.proofs.text.push_interrupts.Goals as goal
+use Rattle.rt_soak.specs.Demo.{interrupt}
+use Rattle.rt_soak.proofs.Numbering.{none_below, one_more}
+use Rattle.rt_soak.proofs.demo_text.push_interrupts.Goals as goal
 
 pub loop-k-init : goal.loop-k-init
 loop-k-init c = none_below interrupt c.args.out.now.items

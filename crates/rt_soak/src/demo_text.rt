@@ -2,8 +2,8 @@
 
 ghost use Rattle.std.specs.Prelude.{◌≡◌, ◌≤◌, ◌++◌, flat_map, IfOk, OnOk};
 ghost use Rattle.rt_ids.specs.Lists.{numbers_below};
-ghost use Rattle.rt_demo.specs.Demo as spec;
-ghost use Rattle.rt_demo.specs.declared.text.TheConstants.{MOST_TASKS};
+ghost use Rattle.rt_soak.specs.Demo as spec;
+ghost use Rattle.rt_soak.specs.declared.demo_text.TheConstants.{MOST_TASKS};
 
 use rt_ids::{NoMemory, push_bytes, push_number};
 use std::alloc::Global;

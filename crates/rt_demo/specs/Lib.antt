@@ -1,2 +1,0 @@
--- The definitions of this crate, a file each.
-pub mod Demo
