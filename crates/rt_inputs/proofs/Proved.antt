@@ -116,7 +116,8 @@ declared_by name number (d ∷ rows) n is = by (declared_by name number rows n) 
     by rest false is = rest is
 
 module _ (app : App) where
-  pub arrivals_declared : (n irq : ℕ) → IsSome (irq_named (names_of app) irq) → AreDeclared app (replicate n (Arrive irq))
+  pub arrivals_declared : (n irq : ℕ) → IsSome (irq_named (names_of app) irq)
+      → AreDeclared app (replicate n (Arrive irq))
   arrivals_declared zero irq named = tt
   arrivals_declared (suc n) irq named =
       (declared_by (λ d. d.name) (λ d. d.number) app.irqs irq named, arrivals_declared n irq named)

@@ -1,5 +1,6 @@
 -- The lines of a run beside devices come one after another.
-use Rattle.std.proofs.Common.{◌≡◌, ℕ, zero, suc, ◌+◌, ◌-◌, ◌^◌, ◌<◌, ◌≤◌, Bool, true, false, if◌then◌else◌, List, [], ◌∷◌}
+use Rattle.std.proofs.Common.{◌≡◌, ℕ, zero, suc, ◌+◌, ◌-◌, ◌^◌, ◌<◌, ◌≤◌, Bool, true, false, if◌then◌else◌, List, []}
+use Rattle.std.proofs.Common.{◌∷◌}
 use Rattle.std.proofs.Common.{◌++◌, map, Some, None, refl, sym, ap, subst, ◌∙◌, le_refl, arith}
 use Rattle.std.specs.List.{AllByRecursion}
 use Rattle.std.proofs.lemmas.Option.{same_Some, none-some}
@@ -159,7 +160,8 @@ module _ (app : App) (b : Board) where
 
     -- an item that is no take
     item_comes : (w : What) (label : Label) → label ≡ label_of s.owing w → May app mid label
-        → (RunsByLines app b (free (after app mid label) (steps_after m label)) (lines_from (steps_after m label) [] moves)
+        → (RunsByLines app b (free (after app mid label) (steps_after m label)) (lines_from
+        (steps_after m label) [] moves)
         total
         → RunsByLines app b (behind_item app b s n m w) (lines_from (steps_after m label) [] moves) total)
         → RunsBeside app (after app mid label) moves → GivesFrom app b [] moves
@@ -169,7 +171,8 @@ module _ (app : App) (b : Board) where
     item_comes w label is may leads runs gives all = (
       record { in_order = le; quiet = quiet; allowed = subst (λ l. May app mid l) is may },
       leads
-          (rest (after app mid label) (steps_after m label) (steps_after m label) total [] (le_refl (steps_after m label)) all
+          (rest (after app mid label) (steps_after m label) (steps_after m label) total [] (le_refl
+          (steps_after m label)) all
           (none_silent (after app mid label) (steps_after m label))
           (from_here (after app mid label) (steps_after m label) moves runs) gives tt),
     )
@@ -206,7 +209,8 @@ module _ (app : App) (b : Board) where
         ap (λ o. if o then Rang else Stepped (Some what.Alarm)) (sym owed) in
         counted what.Alarm (m + 0) m (omega arith)
         (item_comes what.Alarm Rang label may
-        (λ r. subst (λ l. RunsByLines app b (free (after app mid l) (steps_after m l)) (lines_from m [] moves) total) label
+        (λ r. subst (λ l. RunsByLines app b (free (after app mid l) (steps_after m l))
+        (lines_from m [] moves) total) label
         r) runs gives all)
 
     silent_comes : suc m + steps_of (things moves) ≡ total → May app mid (Stepped None)
@@ -256,7 +260,8 @@ module _ (app : App) (b : Board) where
           record { in_order = le; quiet = quiet; allowed = may_unput ws mid irq depth may },
           words_come ws (inputs_at app b irq) mid n m irq depth total (lines_from (m + 1) [] moves) same short
               (subst (λ k. RunsByLines app b (free t (suc m)) (lines_from k [] moves) total) one
-              (rest t (suc m) (suc m) total [] (le_refl (suc m)) all (none_silent t (suc m)) (from_here t (suc m) moves runs)
+              (rest t (suc m) (suc m) total [] (le_refl (suc m)) all (none_silent t (suc m)) (from_here t
+              (suc m) moves runs)
               gives tt)),
         )
 

@@ -1,5 +1,6 @@
 -- Behind lines no count is greater than their number, since each shows one label at most that is not silent.
-use Rattle.std.proofs.Common.{◌≡◌, ℕ, suc, ◌+◌, ◌-◌, ◌^◌, ◌<◌, ◌≤◌, ◌==◌, true, false, if◌then◌else◌, List, [], ◌∷◌, ◌++◌}
+use Rattle.std.proofs.Common.{◌≡◌, ℕ, suc, ◌+◌, ◌-◌, ◌^◌, ◌<◌, ◌≤◌, ◌==◌, true, false, if◌then◌else◌, List, [], ◌∷◌}
+use Rattle.std.proofs.Common.{◌++◌}
 use Rattle.std.proofs.Common.{drop, length, Option, Some, None, refl, sym, ap, subst, ◌∙◌, arith}
 use Rattle.std.specs.List.{AllByRecursion}
 use Rattle.rt_actions.specs.Location.{Guarded}
@@ -116,7 +117,8 @@ module _ (app : App) where
       → Reaches (after_moves app s more)
   further s more r runs = record {
     moves = r.moves ++ more;
-    runs = behind_moves r.moves more (first app) r.runs (subst (λ (u : State). RunsBeside app u more) (sym r.leads) runs);
+    runs = behind_moves r.moves more (first app) r.runs (subst (λ (u : State). RunsBeside app u more)
+        (sym r.leads) runs);
     leads = moves_append app r.moves more (first app) ∙ ap (λ (u : State). after_moves app u more) r.leads;
   }
 
@@ -211,7 +213,8 @@ module _ (app : App) where
               declared = subst (λ l. l < length app.locals) (sym next) of.0.0.declared;
               short = short;
               not_owing = may.0;
-              unused = subst (λ l. IsUnused app s.jobs l) (sym next) (unused app accepted input of.0.0 s irq may.1 of.0.1);
+              unused = subst (λ l. IsUnused app s.jobs l) (sym next)
+                  (unused app accepted input of.0.0 s irq may.1 of.0.1);
             },
             tt,
           );

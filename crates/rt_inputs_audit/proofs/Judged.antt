@@ -11,14 +11,16 @@ use Rattle.rt_inputs.specs.Laws.{InputsAreUnused}
 use Rattle.rt_inputs.specs.Shown.{ShownLine}
 use Rattle.rt_inputs_audit.specs.Audit.{IsRightBeside, IsWrongAt}
 use Rattle.rt_inputs_audit.specs.Following.{Place, start, place_behind, AreRightLines}
-use Rattle.rt_inputs_audit.specs.Judging.{PlaceIs, LineJudged, EndJudged, Follows, FailsAt, HasComeTo, HasJudged, MayTake}
+use Rattle.rt_inputs_audit.specs.Judging.{PlaceIs, LineJudged, EndJudged, Follows, FailsAt, HasComeTo, HasJudged}
+use Rattle.rt_inputs_audit.specs.Judging.{MayTake}
 use Rattle.rt_inputs_audit.specs.declared.followed.Followed.{Followed}
 use Rattle.rt_inputs_audit.specs.declared.judge.InputsJudge.{InputsJudge}
 use Rattle.rt_inputs_audit.proofs.Counting.{stands_behind}
 use Rattle.rt_inputs_audit.proofs.Verdicts.{place_more, right_more, right_last, is_right, is_wrong_at, is_wrong_end}
 
 module _ (app : App) (b : Board) where
-  follows : (xs : List ShownLine) (j : InputsJudge) → j.wrong ≡ None → HasJudged app b xs j → Follows app b xs j.followed
+  follows : (xs : List ShownLine) (j : InputsJudge) → j.wrong ≡ None → HasJudged app b xs j
+      → Follows app b xs j.followed
   follows xs j is h = subst (λ (o : Option ℕ). HasComeTo app b xs j.followed o) is h.come_to
 
   fails : (xs : List ShownLine) (j : InputsJudge) (index : ℕ) → j.wrong ≡ Some index → HasJudged app b xs j

@@ -21,7 +21,8 @@ use Rattle.rt_inputs_audit.specs.Following.{Held, Place, take_label, settled, be
 use Rattle.rt_inputs_audit.specs.Following.{RunsByLines}
 use Rattle.rt_inputs_audit.specs.Judging.{IsNoTake}
 use Rattle.rt_inputs_audit.proofs.Placing.{IsInputOf, HoldsWell, board_inputs}
-use Rattle.rt_inputs_audit.proofs.Placing.{silent_lines, silent_gives, silent_count, plain_label, item_line, label_steps}
+use Rattle.rt_inputs_audit.proofs.Placing.{silent_lines, silent_gives, silent_count, plain_label, item_line}
+use Rattle.rt_inputs_audit.proofs.Placing.{label_steps}
 
 module _ (unused : InputsAreUnused) (app : App) (accepted : IsAccepted app) (b : Board) (are : AreInputs app b.inputs)
   where
@@ -121,7 +122,8 @@ module _ (unused : InputsAreUnused) (app : App) (accepted : IsAccepted app) (b :
       module _ (s : State) (n m : ℕ) where
         -- an item that is no take
         plain_from : (w : What) → IsNoTake w → Comes app s n (record { step = m; what = w })
-            → FromFree (after_item app s n (record { step = m; what = w })) (steps_after m (label_of s.owing w)) lines total
+            → FromFree (after_item app s n (record { step = m; what = w })) (steps_after m
+            (label_of s.owing w)) lines total
             → FromFree s n (Shows (record { step = m; what = w }) ∷ lines) total
         plain_from w other comes r =
             let label : Label = label_of s.owing w in
@@ -130,7 +132,11 @@ module _ (unused : InputsAreUnused) (app : App) (accepted : IsAccepted app) (b :
             record {
               moves = ones (silent (m - n)) ++ One label ∷ r.moves;
               runs = runs_behind_ones app (silent (m - n)) (One label ∷ r.moves) s comes.quiet (comes.allowed, r.runs);
-              gives = silent_gives app b (m - n) (One label ∷ r.moves) (sym (plain_label app b s.owing w other), r.gives);
+              gives = silent_gives app b (m - n) (One label ∷ r.moves) (
+                sym
+                    (plain_label app b s.owing w other),
+                r.gives,
+              );
               shows =
                   silent_lines app b (m - n) n (One label ∷ r.moves)
                   ∙ ap (λ k. lines_from k [] (One label ∷ r.moves)) here ∙ item_line app s.owing w m r.moves
@@ -167,7 +173,8 @@ module _ (unused : InputsAreUnused) (app : App) (accepted : IsAccepted app) (b :
         item_from (what.Take irq depth) comes runs = take_from irq depth comes runs
         item_from w comes runs =
             plain_from w tt comes
-            (rest (after_item app s n (record { step = m; what = w })) (steps_after m (label_of s.owing w)) None tt runs)
+            (rest (after_item app s n (record { step = m; what = w })) (steps_after m
+            (label_of s.owing w)) None tt runs)
 
     pub from_lines : (lines : List ShownLine) (total : ℕ) → AreFrom lines total
     from_lines [] total s n None well ends =

@@ -1,7 +1,7 @@
 -- Baker's machine (Stack-Based Scheduling of Realtime Processes, 1991) beside devices, line by line of a trace: where
 -- the lines have led, and whether another may come. There is one such place at most. A take with inputs is held until
--- the lines of all its inputs have come, since its handler reads them as it starts. A run is a list of labels and words;
--- here it goes by lines.
+-- the lines of all its inputs have come, since its handler reads them as it starts. A run is a list of labels and
+-- words; here it goes by lines.
 use Rattle.std.specs.Prelude.{◌≡◌, ℕ, suc, ◌-◌, ◌≤◌, ◌^◌, ◌<◌, List, [], ◌∷◌, drop, Option, Some, None}
 use Rattle.std.specs.List.{AllByRecursion}
 use Rattle.rt_trace.specs.Label.{Label, Stepped}

@@ -1,6 +1,6 @@
 -- Which words a run beside devices has where each device gives its task what it reads. Just before a handler of a
--- hardware task is taken, a word is put into each input of the task, in the order of the board; no word comes elsewhere.
--- So it is where a device's register is read as the handler begins. That it is so is this project's own.
+-- hardware task is taken, a word is put into each input of the task, in the order of the board; no word comes
+-- elsewhere. So it is where a device's register is read as the handler begins. That it is so is this project's own.
 use Rattle.std.specs.Prelude.{◌≡◌, ℕ, ◌==◌, List, [], ◌∷◌, ◌++◌, filter, map, Some}
 use Rattle.rt_ids.specs.Lists.{is_some_and}
 use Rattle.rt_trace.specs.Label.{Label, Stepped}

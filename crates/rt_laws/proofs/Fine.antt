@@ -15,7 +15,8 @@ use Rattle.rt_actions.specs.Content.{Message, Armed, Content, Values, Number, Me
 use Rattle.rt_actions.specs.Content.{timer_content, delays, values_with, has_instant, least_instant, least, has_handle}
 use Rattle.rt_actions.specs.Content.{message_of_handle, without_handle, postponed_message, with_armed, with_fired}
 use Rattle.rt_actions.specs.Content.{with_cancelled, with_moved}
-use Rattle.rt_actions.specs.Action.{Action, Enters, Leaves, Places, FindsFull, Frees, Readies, Starts, Arms, Fires, Cancels}
+use Rattle.rt_actions.specs.Action.{Action, Enters, Leaves, Places, FindsFull, Frees, Readies, Starts, Arms, Fires}
+use Rattle.rt_actions.specs.Action.{Cancels}
 use Rattle.rt_actions.specs.Action.{Moves, Ends, Returns, effect}
 use Rattle.rt_actions.specs.Doing.{Doing, over, does}
 use Rattle.rt_actions.proofs.Sections.{one_section}

@@ -13,7 +13,8 @@ use Rattle.rt_ids.specs.Choice.{IsIn}
 use Rattle.rt_actions.specs.Location.{Guarded, Own}
 use Rattle.rt_actions.specs.Content.{Content, Values, number, timer_content, delays, message_of_handle, Message, Number}
 use Rattle.rt_actions.specs.Content.{values_with}
-use Rattle.rt_actions.specs.Action.{Enters, Leaves, Emits, Posts, Clocks, Places, FindsFull, Frees, Arms, Cancels, Moves}
+use Rattle.rt_actions.specs.Action.{Enters, Leaves, Emits, Posts, Clocks, Places, FindsFull, Frees, Arms, Cancels}
+use Rattle.rt_actions.specs.Action.{Moves}
 use Rattle.rt_actions.specs.Action.{SetsAlarm}
 use Rattle.rt_actions.specs.Doing.{does}
 use Rattle.rt_ids.specs.declared.ids.Section.{Section}

@@ -199,7 +199,8 @@ module _ (app : App) (accepted : IsAccepted app) where
       go (Some b) is counted =
           block_fine app Idle 0 (thread_member b) (Bounded app) (λ c h. h) (count app Idle 0)
           b.block 0 [] [] 0 (λ vars. act (Ends body.Idle) nothing)
-          ((accepted_are_sound app accepted).bodies body.Idle (thread_member b) (ap (option_map thread_member) is)) counted
+          ((accepted_are_sound app accepted).bodies body.Idle (thread_member b) (ap
+          (option_map thread_member) is)) counted
           refl (λ vars. last)
           ([] ++ replicate (variables b.block) 0)
 

@@ -8,7 +8,8 @@ use Rattle.std.proofs.Common.{slice_get, slice_set, map, Option, Some, None, ref
 use Rattle.rt_ids.specs.Lists.{then_from}
 use Rattle.rt_actions.specs.Location.{Guarded, Own}
 use Rattle.rt_actions.specs.Content.{Message, Armed, Values, Number, messages, timer_content, delays, values_with}
-use Rattle.rt_actions.specs.Action.{Action, Enters, Leaves, Clocks, Places, FindsFull, Readies, Starts, Frees, Arms, Fires}
+use Rattle.rt_actions.specs.Action.{Action, Enters, Leaves, Clocks, Places, FindsFull, Readies, Starts, Frees, Arms}
+use Rattle.rt_actions.specs.Action.{Fires}
 use Rattle.rt_actions.specs.Action.{Cancels, Moves, Ends, Returns}
 use Rattle.rt_actions.specs.Doing.{Doing, over, does}
 use Rattle.rt_ids.specs.declared.ids.BodyId.TheVariants as body

@@ -4,7 +4,8 @@ use Rattle.std.proofs.Common.{◌≡◌, ℕ, ◌⊎◌, Bool, true, false, if�
 use Rattle.std.proofs.Common.{Some, None, refl, sym, ap, subst, inl, inr}
 use Rattle.rt_actions.specs.Location.{Guarded}
 use Rattle.rt_actions.specs.Content.{Message, Armed, Values, messages, timer_content, delays}
-use Rattle.rt_actions.specs.Action.{Enters, Leaves, Posts, Clocks, Readies, Starts, Frees, Cancels, Moves, Ends, Returns}
+use Rattle.rt_actions.specs.Action.{Enters, Leaves, Posts, Clocks, Readies, Starts, Frees, Cancels, Moves, Ends}
+use Rattle.rt_actions.specs.Action.{Returns}
 use Rattle.rt_actions.specs.Doing.{Doing, over, does}
 use Rattle.rt_ids.specs.declared.ids.BodyId.TheVariants as body
 use Rattle.rt_ids.specs.declared.ids.Section.TheVariants as section

@@ -5,7 +5,8 @@ use Rattle.std.proofs.Common.{◌≡◌, ℕ, Bool, true, false, not, if◌then�
 use Rattle.std.proofs.Common.{refl}
 use Rattle.rt_actions.specs.Location.{Guarded}
 use Rattle.rt_actions.specs.Content.{Message, Armed, Values, messages, timer_content, delays}
-use Rattle.rt_actions.specs.Action.{Enters, Leaves, Frees, Clocks, SetsAlarm, Arms, Fires, Cancels, Moves, Ends, Returns}
+use Rattle.rt_actions.specs.Action.{Enters, Leaves, Frees, Clocks, SetsAlarm, Arms, Fires, Cancels, Moves, Ends}
+use Rattle.rt_actions.specs.Action.{Returns}
 use Rattle.rt_actions.specs.Doing.{Doing, over, does}
 use Rattle.rt_ids.specs.declared.ids.BodyId.TheVariants as body
 use Rattle.rt_ids.specs.declared.ids.Section.TheVariants as section

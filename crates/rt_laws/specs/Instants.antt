@@ -4,7 +4,8 @@
 use Rattle.std.specs.Prelude.{◌≡◌, ℕ, suc, ◌<◌, ◌≤◌, List, [], ◌∷◌, ◌++◌, Some}
 use Rattle.std.specs.List.{AllByRecursion}
 use Rattle.rt_actions.specs.Location.{Guarded}
-use Rattle.rt_actions.specs.Content.{Message, Armed, Timed, timer_content, delays, least, message_of_handle, without_handle}
+use Rattle.rt_actions.specs.Content.{Message, Armed, Timed, timer_content, delays, least, message_of_handle}
+use Rattle.rt_actions.specs.Content.{without_handle}
 use Rattle.rt_ids.specs.declared.ids.Section.TheVariants as section
 use Rattle.rt_trace.specs.Label.{Label, Stepped}
 use Rattle.rt_trace.specs.declared.item.What.TheVariants as what

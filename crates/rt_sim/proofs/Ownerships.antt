@@ -7,7 +7,8 @@ use Rattle.rt_lemmas.proofs.Bools.{true_and_false}
 use Rattle.rt_ids.specs.Lists.{is_some_and, or_zero}
 use Rattle.rt_actions.specs.Location.{Location, Guarded, Own, is_same_location}
 use Rattle.rt_actions.specs.Content.{Content, Values, Message, Number, timer_content, values_with}
-use Rattle.rt_actions.specs.Action.{Action, Enters, Leaves, Emits, Posts, Clocks, Places, FindsFull, Readies, Frees, Arms}
+use Rattle.rt_actions.specs.Action.{Action, Enters, Leaves, Emits, Posts, Clocks, Places, FindsFull, Readies, Frees}
+use Rattle.rt_actions.specs.Action.{Arms}
 use Rattle.rt_actions.specs.Action.{Cancels, Moves, SetsAlarm}
 use Rattle.rt_actions.specs.Doing.{Doing, over, does}
 use Rattle.rt_actions.specs.Storage.{Runner}

@@ -13,4 +13,5 @@ returns-in_ok-take-in-Ok-Some c ls counted at =
 
 pub returns-in-Err : goal.returns-in-Err
 returns-in-Err c ls counted at =
-    line_refuses _ _ _ ls _ c.args.reader.now c.args.line.now _ c.args.number c.in-Err.cause counted c.in-Err.ensures.told at
+    line_refuses _ _ _ ls _ c.args.reader.now c.args.line.now _ c.args.number c.in-Err.cause counted
+    c.in-Err.ensures.told at

@@ -7,7 +7,8 @@ use Rattle.rt_inputs_audit.proofs.judge.InputsJudge.verdict.Goals as goal
 pub returns-in-Some : goal.returns-in-Some
 returns-in-Some c b are xs h =
     finds_wrong (app_of c.args.machine.now.code.now.app.now) b inputs_are_unused c.requires.code.accepted
-    c.args.total c.args.self.now c.in-Some.index (c.from.result + 1) c.in-Some.is (omega (arith, c.from.ensures)) are xs h
+    c.args.total c.args.self.now c.in-Some.index (c.from.result + 1) c.in-Some.is (omega
+    (arith, c.from.ensures)) are xs h
 
 pub returns-then-ends : goal.returns-then-ends
 returns-then-ends c b are xs h =
