@@ -19,11 +19,11 @@ LEFT_UNSAID = {
     "rt_listing push_body", "rt_baker judge_item", "rt_inputs_audit InputsAuditor::end",
 }
 # Arguments of which no clause says what is left: the sink of a text has had lines of it, a buffer may have had bytes,
-# a judge is done with, and what a run that failed held for its next line has no next line.
+# and a judge is done with.
 ARGUMENTS_UNSAID = {
     ("rt_outside read_lines", "sink"), ("rt_outside Source::read", "buffer"), ("rt_baker Judge::verdict", "self"),
     ("rt_baker judge_total", "state"), ("rt_inputs_audit InputsJudge::verdict", "self"),
-    ("rt_inputs_audit InputsAuditor::end", "self"), ("rt_inputs run_line", "registers"), ("rt_inputs run_line", "held"),
+    ("rt_inputs_audit InputsAuditor::end", "self"),
 }
 
 

@@ -150,14 +150,14 @@ module _ (app : App) (board : Board) where
   }
 
   -- a run, and a fault behind it
-  pub cut_behind : (before after : List Happening) (a b : Moment) (m : Machine) (x y z held mid : List ℕ)
-      → Ran app board before a b x y held mid → Cut app board after b m y z mid
-      → Cut app board (before ++ after) a m x z held
-  cut_behind before after a b m x y z held mid first cut = record {
+  pub cut_behind : (before after : List Happening) (a b c : Moment) (x y z held mid : List ℕ)
+      → Ran app board before a b x y held mid → Cut app board after b c y z mid
+      → Cut app board (before ++ after) a c x z held
+  cut_behind before after a b c x y z held mid first cut = record {
     done = before ++ cut.done;
     rest = cut.rest;
     parts = ap (λ t. before ++ t) cut.parts ∙ sym (append_assoc before cut.done cut.rest);
-    leads = moves_on before cut.done a b first.leads m cut.leads;
+    leads = leads_on before cut.done a b first.leads c cut.leads;
     took =
         subst (λ t. TookPrefix x z (held ++ t)) (sym (text_split before cut.done a b first.leads))
         (wrote_cut x y z held mid (text_at app board a before) (text_at app board b cut.done) first.wrote cut.took);
@@ -169,9 +169,9 @@ module _ (app : App) (board : Board) where
   }
 
   -- a fault, with more to come
-  pub cut_before : (before after : List Happening) (a : Moment) (m : Machine) (x y held : List ℕ)
-      → Cut app board before a m x y held → Cut app board (before ++ after) a m x y held
-  cut_before before after a m x y held cut = record {
+  pub cut_before : (before after : List Happening) (a b : Moment) (x y held : List ℕ)
+      → Cut app board before a b x y held → Cut app board (before ++ after) a b x y held
+  cut_before before after a b x y held cut = record {
     done = cut.done;
     rest = cut.rest ++ after;
     parts = ap (λ t. t ++ after) cut.parts ∙ append_assoc cut.done cut.rest after;
@@ -195,27 +195,27 @@ module _ (app : App) (board : Board) where
       (goes_on (replicate (count - left) e) (replicate (left - now) e) a b c x y z held mid kept first second)
 
   -- and a fault among those that are left
-  pub left_cut : (count left : ℕ) (a b : Moment) (m : Machine) (x y z held mid : List ℕ) → left ≤ count
+  pub left_cut : (count left : ℕ) (a b c : Moment) (x y z held mid : List ℕ) → left ≤ count
       → Ran app board (replicate (count - left) (Comes Step)) a b x y held mid
-      → Cut app board (replicate left (Comes Step)) b m y z mid
-      → Cut app board (replicate count (Comes Step)) a m x z held
-  left_cut count left a b m x y z held mid within first cut =
+      → Cut app board (replicate left (Comes Step)) b c y z mid
+      → Cut app board (replicate count (Comes Step)) a c x z held
+  left_cut count left a b c x y z held mid within first cut =
       let e : Happening = Comes Step in
-      subst (λ es. Cut app board es a m x z held)
+      subst (λ es. Cut app board es a c x z held)
       (replicate-append-replicate (count - left) left e
       ∙ ap (λ n. replicate n e) (let same : count - left + left ≡ count = omega (arith, within) in same))
-      (cut_behind (replicate (count - left) e) (replicate left e) a b m x y z held mid first cut)
+      (cut_behind (replicate (count - left) e) (replicate left e) a b c x y z held mid first cut)
 
   -- a fault among the first core steps
-  pub cut_more : (n count : ℕ) (a : Moment) (m : Machine) (x y held : List ℕ) → n ≤ count
-      → Cut app board (replicate n (Comes Step)) a m x y held
-      → Cut app board (replicate count (Comes Step)) a m x y held
-  cut_more n count a m x y held within cut =
+  pub cut_more : (n count : ℕ) (a b : Moment) (x y held : List ℕ) → n ≤ count
+      → Cut app board (replicate n (Comes Step)) a b x y held
+      → Cut app board (replicate count (Comes Step)) a b x y held
+  cut_more n count a b x y held within cut =
       let e : Happening = Comes Step in
-      subst (λ es. Cut app board es a m x y held)
+      subst (λ es. Cut app board es a b x y held)
       (replicate-append-replicate n (count - n) e ∙ ap (λ k. replicate k e)
       (let same : n + (count - n) ≡ count = omega (arith, within) in same))
-      (cut_before (replicate n e) (replicate (count - n) e) a m x y held cut)
+      (cut_before (replicate n e) (replicate (count - n) e) a b x y held cut)
 
   -- what happened, with these lines
   pub written : (happened : List Happening) (a b : Moment) (x y held kept bytes : List ℕ)
@@ -225,13 +225,13 @@ module _ (app : App) (board : Board) where
       record { leads = run; wrote = subst (Wrote x y held kept) (sym is) wrote }
 
   -- What happened, the last of which alone shows something, and then a fault.
-  pub stopped : (earlier : List Happening) (last : Event) (a : Moment) (m : Machine) (x y held bytes : List ℕ)
+  pub stopped : (earlier : List Happening) (last : Event) (a b : Moment) (x y held bytes : List ℕ)
       → lines_at app board a earlier ≡ [] → 0 < length (lines_at app board a (earlier ++ Comes last ∷ []))
       → length held ≤ BUFFER_BYTES
-      → MovesLead app (moves_at app board a (earlier ++ Comes last ∷ [])) a.machine m
-      → text_at app board a (earlier ++ Comes last ∷ []) ≡ bytes → TookPrefix x y (held ++ bytes)
-      → Cut app board (earlier ++ Comes last ∷ []) a m x y held
-  stopped earlier last a m x y held bytes silent shows few run is part = record {
+      → Leads app board (earlier ++ Comes last ∷ []) a b → text_at app board a (earlier ++ Comes last ∷ []) ≡ bytes
+      → TookPrefix x y (held ++ bytes)
+      → Cut app board (earlier ++ Comes last ∷ []) a b x y held
+  stopped earlier last a b x y held bytes silent shows few run is part = record {
     done = earlier ++ Comes last ∷ [];
     rest = [];
     parts = sym (append-nil (earlier ++ Comes last ∷ []));

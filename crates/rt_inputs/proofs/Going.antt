@@ -216,10 +216,10 @@ module _ (app : App) (board : Board) (registers : Registers) where
           (written app board all (at a) (at m) x y held kept (text_by n) all_lead all_text wrote)
 
       pub item_cut : (x y held : List ℕ) → length held ≤ BUFFER_BYTES → TookPrefix x y (held ++ text_by n)
-          → Cut app board (replicate most (Comes Step)) (at a) m x y held
+          → Cut app board (replicate most (Comes Step)) (at a) (at m) x y held
       item_cut x y held few part =
           let shows : 0 < length (lines_at app board (at a) all) = omega (arith, ap length all_lines) in
-          cut_more app board goes.done most (at a) m x y held goes.within
-          (subst (λ hs. Cut app board hs (at a) m x y held) as_done
-          (stopped app board (replicate k (Comes Step)) Step (at a) m x y held (text_by n)
-          (silent_lines k a facts.0) shows few all_lead.machine all_text part))
+          cut_more app board goes.done most (at a) (at m) x y held goes.within
+          (subst (λ hs. Cut app board hs (at a) (at m) x y held) as_done
+          (stopped app board (replicate k (Comes Step)) Step (at a) (at m) x y held (text_by n)
+          (silent_lines k a facts.0) shows few all_lead all_text part))

@@ -96,7 +96,7 @@ module _ (app : App) (board : Board) (registers : Registers) where
       }
 
     pub plain_cut : (es : List Event) → AllByRecursion IsNoStep es → (b : Machine) (x y held : List ℕ)
-        → plain_writing.Cut es a b x y held → Cut app board (map Comes es) (at a) b x y held
+        → plain_writing.Cut es a b x y held → Cut app board (map Comes es) (at a) (at b) x y held
     plain_cut es none b x y held cut =
         let done_none : AllByRecursion IsNoStep cut.done =
         front_all IsNoStep cut.done cut.rest (subst (AllByRecursion IsNoStep) cut.parts none) in
@@ -107,7 +107,10 @@ module _ (app : App) (board : Board) (registers : Registers) where
           done = map Comes cut.done;
           rest = map Comes cut.rest;
           parts = ap (map Comes) cut.parts ∙ map-append Comes cut.done cut.rest;
-          leads = lead cut.done done_none b cut.leads;
+          leads = record {
+            machine = lead cut.done done_none b cut.leads;
+            registers = sym (same_registers cut.done registers);
+          };
           took = subst (λ t. TookPrefix x y (held ++ t)) (sym (text_is cut.done done_none)) cut.took;
           ends = record {
             earlier = map Comes cut.ends.earlier;

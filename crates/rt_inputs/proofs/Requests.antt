@@ -31,14 +31,14 @@ module _ (app : App) (board : Board) (local word : ℕ) (m : Machine) (registers
     wrote = run.wrote;
   }
 
-  cut_first : (n : Machine) (x y held : List ℕ)
-      → Cut app board hs (at_moment m (with_word registers local word)) n x y held
-      → Cut app board (Gives local word ∷ hs) (at_moment m registers) n x y held
-  cut_first n x y held cut = record {
+  cut_first : (b : Moment) (x y held : List ℕ)
+      → Cut app board hs (at_moment m (with_word registers local word)) b x y held
+      → Cut app board (Gives local word ∷ hs) (at_moment m registers) b x y held
+  cut_first b x y held cut = record {
     done = Gives local word ∷ cut.done;
     rest = cut.rest;
     parts = ap (λ (t : List Happening). Gives local word ∷ t) cut.parts;
-    leads = cut.leads;
+    leads = record { machine = cut.leads.machine; registers = cut.leads.registers };
     took = cut.took;
     ends = record {
       earlier = Gives local word ∷ cut.ends.earlier;
@@ -58,10 +58,10 @@ module _ (app : App) (board : Board) (local word : ℕ) (m : Machine) (registers
       (subst (λ (r : Registers). Ran app board hs (at_moment m r) b x y held kept) same run)
 
   pub gives_cut : (given : Registers) → given ≡ with_word registers local word
-      → (n : Machine) (x y held : List ℕ) → Cut app board hs (at_moment m given) n x y held
-      → Cut app board (Gives local word ∷ hs) (at_moment m registers) n x y held
-  gives_cut given same n x y held cut =
-      cut_first n x y held (subst (λ (r : Registers). Cut app board hs (at_moment m r) n x y held) same cut)
+      → (b : Moment) (x y held : List ℕ) → Cut app board hs (at_moment m given) b x y held
+      → Cut app board (Gives local word ∷ hs) (at_moment m registers) b x y held
+  gives_cut given same b x y held cut =
+      cut_first b x y held (subst (λ (r : Registers). Cut app board hs (at_moment m r) b x y held) same cut)
 
 module _ (irq local : ℕ) where
   request_events : (words : List ℕ) (n : ℕ) → length words ≡ n
@@ -147,14 +147,14 @@ module _ (irq local : ℕ) where
 
     -- a fault at one of the requests
     pub request_cut : (n count : ℕ) (s : Source) (word : ℕ) → n < count → word ≡ next_word (source_after n s)
-        → (a b : Moment) (m : Machine) (x y z held mid : List ℕ)
+        → (a b c : Moment) (x y z held mid : List ℕ)
         → Ran app board (given_requests irq local (given_words n s)) a b x y held mid
-        → Cut app board (given_request irq local word) b m y z mid
-        → Cut app board (given_requests irq local (given_words count s)) a m x z held
-    request_cut n count s word within is a b m x y z held mid first cut =
-        subst (λ (hs : List Happening). Cut app board hs a m x z held) (sym (all_parts n count s within))
+        → Cut app board (given_request irq local word) b c y z mid
+        → Cut app board (given_requests irq local (given_words count s)) a c x z held
+    request_cut n count s word within is a b c x y z held mid first cut =
+        subst (λ (hs : List Happening). Cut app board hs a c x z held) (sym (all_parts n count s within))
         (cut_before app board (given_requests irq local (given_words (n + 1) s))
-        (given_requests irq local (given_words (count - (n + 1)) (source_after (n + 1) s))) a m x z held
-        (subst (λ (hs : List Happening). Cut app board hs a m x z held) (sym (one_more n s word is))
-        (cut_behind app board (given_requests irq local (given_words n s)) (given_request irq local word) a b m x y z
+        (given_requests irq local (given_words (count - (n + 1)) (source_after (n + 1) s))) a c x z held
+        (subst (λ (hs : List Happening). Cut app board hs a c x z held) (sym (one_more n s word is))
+        (cut_behind app board (given_requests irq local (given_words n s)) (given_request irq local word) a b c x y z
         held mid first cut)))

@@ -44,7 +44,6 @@ use Rattle.rt_inputs.specs.Inputs.{Happening, Comes, Registers, no_words, events
 use Rattle.rt_inputs.specs.Script.{happenings, line_happenings, moves_under, text_with_inputs}
 use Rattle.rt_inputs.specs.Shown.{lines_from, line_text, local_name}
 use Rattle.rt_inputs.specs.Going.{Moment, MovesLead, Leads, BreaksOff, without_words, moves_at, text_at}
-use Rattle.rt_inputs.specs.Going.{registers_after}
 use Rattle.rt_inputs.specs.Inside.Placed.{HasPlace, CanRun}
 use Rattle.rt_inputs.specs.Inside.Ran.{Ran, Cut, held_in, moment}
 use Rattle.rt_inputs.proofs.Advancing.{goes_on, cut_behind, cut_before, text_split}
@@ -129,14 +128,14 @@ module _ (script : List GivenLine) (i : ℕ) (line : GivenLine) (below : i < len
         subst (λ hs. Ran app board hs a c x z held kept) (sym happenings_more)
         (goes_on app board (happenings (take i script)) (line_happenings line) a b c x y z held mid kept first second)
 
-    pub line_cut : (a b : Moment) (m : Machine) (x y z held mid : List ℕ)
+    pub line_cut : (a b c : Moment) (x y z held mid : List ℕ)
         → Ran app board (happenings (take i script)) a b x y held mid
-        → Cut app board (line_happenings line) b m y z mid → Cut app board (happenings script) a m x z held
-    line_cut a b m x y z held mid first cut =
-        subst (λ hs. Cut app board hs a m x z held) (sym (flat_rest line_happenings script (i + 1)))
-        (cut_before app board (happenings (take (i + 1) script)) (happenings (drop (i + 1) script)) a m x z held
-        (subst (λ hs. Cut app board hs a m x z held) (sym happenings_more)
-        (cut_behind app board (happenings (take i script)) (line_happenings line) a b m x y z held mid first cut)))
+        → Cut app board (line_happenings line) b c y z mid → Cut app board (happenings script) a c x z held
+    line_cut a b c x y z held mid first cut =
+        subst (λ hs. Cut app board hs a c x z held) (sym (flat_rest line_happenings script (i + 1)))
+        (cut_before app board (happenings (take (i + 1) script)) (happenings (drop (i + 1) script)) a c x z held
+        (subst (λ hs. Cut app board hs a c x z held) (sym happenings_more)
+        (cut_behind app board (happenings (take i script)) (line_happenings line) a b c x y z held mid first cut)))
 
     -- before a line the core steps are few, and it is early
     module _ (scripted : IsScript (asked script)) (a b : Moment) (fresh : IsFresh a.machine)
@@ -216,17 +215,19 @@ module _ (app : App) (board : Board) (m n : Machine) (script : List GivenLine) (
       ∙ ap (λ r. put m.steps m.core r ++ total) (sym none)
 
   -- what a fault at one of the lines leaves done
-  pub cut_off : Cut app board all start n x y held → BreaksOff app board all (without_words m) n x y
-  cut_off cut = moved (subst (λ (at : Moment). Cut app board all at n x y held) same_start cut)
+  pub cut_off : (behind : List ℕ) → Cut app board all start (moment n behind) x y held
+      → BreaksOff app board all (without_words m) n x y
+  cut_off behind cut = moved (subst (λ (at : Moment). Cut app board all at (moment n behind) x y held) same_start cut)
     where
-      moved : Cut app board all (without_words m) n x y held → BreaksOff app board all (without_words m) n x y
+      moved : Cut app board all (without_words m) (moment n behind) x y held
+          → BreaksOff app board all (without_words m) n x y
       moved cut =
           let at = without_words m in
           record {
             done = cut.done;
             rest = cut.rest;
             parts = cut.parts;
-            leads = cut.leads;
+            leads = cut.leads.machine;
             cut =
                 part_more x y (text_at app board at cut.done) (if is_empty cut.rest then total_text n.steps else [])
                 (subst (λ h. TookPrefix x y (h ++ text_at app board at cut.done)) empty cut.took);
@@ -238,16 +239,17 @@ module _ (app : App) (board : Board) (m n : Machine) (script : List GivenLine) (
           }
 
   -- a fault at one of the lines
-  pub cut_text : Cut app board all start n x y held → TookPrefix x y (text_with_inputs app m.image board script)
-  cut_text cut =
+  pub cut_text : (behind : List ℕ) → Cut app board all start (moment n behind) x y held
+      → TookPrefix x y (text_with_inputs app m.image board script)
+  cut_text behind cut =
       let total : List ℕ = total_text (steps (events_of all)) in
-      let mid : Moment = record { machine = n; registers = registers_after start.registers cut.done } in
+      let mid : Moment = moment n behind in
       let front : TookPrefix x y (text_at app board start cut.done) =
       subst (λ h. TookPrefix x y (h ++ text_at app board start cut.done)) empty cut.took in
       let lines : TookPrefix x y (text_at app board start all) =
       subst (TookPrefix x y)
       (sym (ap (text_at app board start) cut.parts
-      ∙ text_split app board cut.done cut.rest start mid (record { machine = cut.leads; registers = refl })))
+      ∙ text_split app board cut.done cut.rest start mid cut.leads))
       (part_more x y (text_at app board start cut.done) (text_at app board mid cut.rest) front) in
       subst (TookPrefix x y) (sym text_is) (part_more x y (text_at app board start all) total lines)
 
@@ -325,7 +327,7 @@ module _ (app : App) (board : Board) (s t : List GivenLine) where
   ran_same a b x y held kept same run =
       subst (λ (lines : List GivenLine). Ran app board (happenings lines) a b x y held kept) same run
 
-  pub cut_same : (a : Moment) (m : Machine) (x y held : List ℕ) → s ≡ t → Cut app board (happenings s) a m x y held
-      → Cut app board (happenings t) a m x y held
-  cut_same a m x y held same cut =
-      subst (λ (lines : List GivenLine). Cut app board (happenings lines) a m x y held) same cut
+  pub cut_same : (a b : Moment) (x y held : List ℕ) → s ≡ t → Cut app board (happenings s) a b x y held
+      → Cut app board (happenings t) a b x y held
+  cut_same a b x y held same cut =
+      subst (λ (lines : List GivenLine). Cut app board (happenings lines) a b x y held) same cut

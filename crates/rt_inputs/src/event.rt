@@ -40,7 +40,9 @@ pub(crate) fn run_to_item<K: Sink>(
         (moment core.old registers.now) (moment core.new registers.now) (K.taken out.old) (K.taken out.new)
         held.old.items held.new.items) }
     ensures err { OnErr result (Cut (app_of app.now) board.now (replicate most (Comes Step))
-        (moment core.old registers.now) core.new (K.taken out.old) (K.taken out.new) held.old.items) }
+        (moment core.old registers.now) (moment core.new registers.now) (K.taken out.old) (K.taken out.new)
+        held.old.items) }
+    ensures none_left { OnErr result (held.new.items ≡ []) }
     ensures cause { HasCause (K.faults out.old) (K.faults out.new) result }
     ensures quiet { OnOk result (K.faults out.new ≡ K.faults out.old) }
 {
@@ -72,6 +74,7 @@ pub(crate) fn run_tick<K: Sink>(core: &mut Core, out: &mut K, held: &mut Held) -
         held.old.items held.new.items) }
     ensures err { OnErr result
         (writing.Cut (Tick ∷ []) core.old core.new (K.taken out.old) (K.taken out.new) held.old.items) }
+    ensures none_left { OnErr result (held.new.items ≡ []) }
     ensures cause { HasCause (K.faults out.old) (K.faults out.new) result }
     ensures quiet { OnOk result (K.faults out.new ≡ K.faults out.old) }
 {
@@ -93,6 +96,7 @@ pub(crate) fn run_pend<K: Sink>(
         held.old.items held.new.items) }
     ensures err { OnErr result
         (writing.Cut (Arrive irq ∷ []) core.old core.new (K.taken out.old) (K.taken out.new) held.old.items) }
+    ensures none_left { OnErr result (held.new.items ≡ []) }
     ensures cause { HasCause (K.faults out.old) (K.faults out.new) result }
     ensures quiet { OnOk result (K.faults out.new ≡ K.faults out.old) }
 {

@@ -33,6 +33,7 @@ fn make_room<K: Sink>(out: &mut K, held: &mut Held, bytes: usize) -> Result<(), 
     ensures room { OnOk result (length held.new.items + bytes ≤ BUFFER_BYTES) }
     ensures err { OnErr result (TookPrefix (K.taken out.old) (K.taken out.new) held.old.items) }
     ensures few { length held.old.items ≤ BUFFER_BYTES }
+    ensures none_left { OnErr result (held.new.items ≡ []) }
     ensures cause { HasCause (K.faults out.old) (K.faults out.new) result }
     ensures quiet { OnOk result (K.faults out.new ≡ K.faults out.old) }
 {
@@ -48,6 +49,7 @@ pub(crate) fn put_line<K: Sink>(out: &mut K, held: &mut Held, line: &[u8]) -> Re
     ensures ok { OnOk result (Wrote (K.taken out.old) (K.taken out.new) held.old.items held.new.items line.now) }
     ensures err { OnErr result (TookPrefix (K.taken out.old) (K.taken out.new) (held.old.items ++ line.now)) }
     ensures few { length held.old.items ≤ BUFFER_BYTES }
+    ensures none_left { OnErr result (held.new.items ≡ []) }
     ensures cause { HasCause (K.faults out.old) (K.faults out.new) result }
     ensures quiet { OnOk result (K.faults out.new ≡ K.faults out.old) }
 {

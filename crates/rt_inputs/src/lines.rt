@@ -96,6 +96,7 @@ fn put_input<K: Sink>(
         (text_for (app_of app.now) no_board (held_in registers.now) step irq input)) }
     ensures err { OnErr result (TookPrefix (K.taken out.old) (K.taken out.new)
         (held.old.items ++ text_for (app_of app.now) no_board (held_in registers.now) step irq input)) }
+    ensures none_left { OnErr result (held.new.items ≡ []) }
     ensures cause { HasCause (K.faults out.old) (K.faults out.new) result }
     ensures quiet { OnOk result (K.faults out.new ≡ K.faults out.old) }
 {
@@ -123,6 +124,7 @@ fn put_inputs<K: Sink>(
         (flat_map (text_for (app_of app.now) no_board (held_in registers.now) step irq) board.now.inputs)) }
     ensures err { OnErr result (TookPrefix (K.taken out.old) (K.taken out.new) (held.old.items
         ++ flat_map (text_for (app_of app.now) no_board (held_in registers.now) step irq) board.now.inputs)) }
+    ensures none_left { OnErr result (held.new.items ≡ []) }
     ensures cause { HasCause (K.faults out.old) (K.faults out.new) result }
     ensures quiet { OnOk result (K.faults out.new ≡ K.faults out.old) }
 {
@@ -146,6 +148,7 @@ pub(crate) fn put_item<K: Sink>(
     ensures err { OnErr result
         (TookPrefix (K.taken out.old) (K.taken out.new) (held.old.items ++ text.text names.now item.now)) }
     ensures few { length held.old.items ≤ BUFFER_BYTES }
+    ensures none_left { OnErr result (held.new.items ≡ []) }
     ensures cause { HasCause (K.faults out.old) (K.faults out.new) result }
     ensures quiet { OnOk result (K.faults out.new ≡ K.faults out.old) }
 {
@@ -176,6 +179,7 @@ pub(crate) fn put_shown<K: Sink>(
         ++ flat_map (shown.line_text (app_of app.now)) (shown.Shows (record { step = step; what = what })
         ∷ lines_of_words step (puts_for (app_of app.now) board.now (held_in registers.now) (taken (Some what)))))) }
     ensures few { length held.old.items ≤ BUFFER_BYTES }
+    ensures none_left { OnErr result (held.new.items ≡ []) }
     ensures cause { HasCause (K.faults out.old) (K.faults out.new) result }
     ensures quiet { OnOk result (K.faults out.new ≡ K.faults out.old) }
 {
@@ -201,6 +205,7 @@ pub(crate) fn put_tick<K: Sink>(
     ensures err { OnErr result (TookPrefix (K.taken out.old) (K.taken out.new) (held.old.items
         ++ flat_map (text.text names.now) (items_of step (Ticked ∷ (if came then Rang ∷ [] else []))))) }
     ensures few { length held.old.items ≤ BUFFER_BYTES }
+    ensures none_left { OnErr result (held.new.items ≡ []) }
     ensures cause { HasCause (K.faults out.old) (K.faults out.new) result }
     ensures quiet { OnOk result (K.faults out.new ≡ K.faults out.old) }
 {

@@ -1,6 +1,6 @@
 // Running a script beside devices on a core: as a script is run, and at a take devices put the words of the inputs of
 // its task.
-ghost use Rattle.std.specs.Prelude.{◌≡◌, ◌<◌, ◌≤◌, ◌+◌, ◌^◌, ◌++◌, length, replicate, OnOk, OnErr};
+ghost use Rattle.std.specs.Prelude.{◌≡◌, ◌<◌, ◌≤◌, ◌+◌, ◌^◌, [], ◌++◌, length, replicate, OnOk, OnErr};
 ghost use Rattle.rt_ids.specs.Event.{Arrive, Tick, Step};
 ghost use Rattle.rt_ids.specs.Naming.{IsDeclared};
 ghost use Rattle.rt_outside.specs.Faults.{HasCause};
@@ -53,7 +53,9 @@ fn run_steps<K: Sink>(
         (moment core.old registers.now) (moment core.new registers.now) (K.taken out.old) (K.taken out.new)
         held.old.items held.new.items) }
     ensures err { OnErr result (Cut (app_of app.now) board.now (replicate count (Comes Step))
-        (moment core.old registers.now) core.new (K.taken out.old) (K.taken out.new) held.old.items) }
+        (moment core.old registers.now) (moment core.new registers.now) (K.taken out.old) (K.taken out.new)
+        held.old.items) }
+    ensures none_left { OnErr result (held.new.items ≡ []) }
     ensures cause { HasCause (K.faults out.old) (K.faults out.new) result }
     ensures quiet { OnOk result (K.faults out.new ≡ K.faults out.old) }
 {
@@ -78,6 +80,7 @@ fn run_ticks<K: Sink>(
         (K.taken out.old) (K.taken out.new) held.old.items held.new.items) }
     ensures err { OnErr result (writing.Cut (replicate count Tick) core.old core.new
         (K.taken out.old) (K.taken out.new) held.old.items) }
+    ensures none_left { OnErr result (held.new.items ≡ []) }
     ensures cause { HasCause (K.faults out.old) (K.faults out.new) result }
     ensures quiet { OnOk result (K.faults out.new ≡ K.faults out.old) }
 {
@@ -102,6 +105,7 @@ fn run_pends<K: Sink>(
         (K.taken out.old) (K.taken out.new) held.old.items held.new.items) }
     ensures err { OnErr result (writing.Cut (replicate count (Arrive irq)) core.old core.new
         (K.taken out.old) (K.taken out.new) held.old.items) }
+    ensures none_left { OnErr result (held.new.items ≡ []) }
     ensures cause { HasCause (K.faults out.old) (K.faults out.new) result }
     ensures quiet { OnOk result (K.faults out.new ≡ K.faults out.old) }
 {
@@ -128,7 +132,9 @@ fn run_tick_line<K: Sink>(
         (moment core.old registers.now) (moment core.new registers.now) (K.taken out.old) (K.taken out.new)
         held.old.items held.new.items) }
     ensures err { OnErr result (Cut (app_of app.now) board.now (replicate count (Comes Tick))
-        (moment core.old registers.now) core.new (K.taken out.old) (K.taken out.new) held.old.items) }
+        (moment core.old registers.now) (moment core.new registers.now) (K.taken out.old) (K.taken out.new)
+        held.old.items) }
+    ensures none_left { OnErr result (held.new.items ≡ []) }
     ensures cause { HasCause (K.faults out.old) (K.faults out.new) result }
     ensures quiet { OnOk result (K.faults out.new ≡ K.faults out.old) }
 {
@@ -153,7 +159,9 @@ fn run_pend_line<K: Sink>(
         (moment core.old registers.now) (moment core.new registers.now) (K.taken out.old) (K.taken out.new)
         held.old.items held.new.items) }
     ensures err { OnErr result (Cut (app_of app.now) board.now (replicate count (Comes (Arrive irq)))
-        (moment core.old registers.now) core.new (K.taken out.old) (K.taken out.new) held.old.items) }
+        (moment core.old registers.now) (moment core.new registers.now) (K.taken out.old) (K.taken out.new)
+        held.old.items) }
+    ensures none_left { OnErr result (held.new.items ≡ []) }
     ensures cause { HasCause (K.faults out.old) (K.faults out.new) result }
     ensures quiet { OnOk result (K.faults out.new ≡ K.faults out.old) }
 {
@@ -179,7 +187,9 @@ fn run_word<K: Sink>(
         (moment core.old registers.old) (moment core.new registers.new) (K.taken out.old) (K.taken out.new)
         held.old.items held.new.items) }
     ensures err { OnErr result (Cut (app_of app.now) board.now (given_request irq local word)
-        (moment core.old registers.old) core.new (K.taken out.old) (K.taken out.new) held.old.items) }
+        (moment core.old registers.old) (moment core.new registers.new) (K.taken out.old) (K.taken out.new)
+        held.old.items) }
+    ensures none_left { OnErr result (held.new.items ≡ []) }
     ensures cause { HasCause (K.faults out.old) (K.faults out.new) result }
     ensures quiet { OnOk result (K.faults out.new ≡ K.faults out.old) }
 {
@@ -207,7 +217,9 @@ fn run_words<K: Sink>(
         (moment core.old registers.old) (moment core.new registers.new) (K.taken out.old) (K.taken out.new)
         held.old.items held.new.items) }
     ensures err { OnErr result (Cut (app_of app.now) board.now (given_requests irq local (given_words count source.old))
-        (moment core.old registers.old) core.new (K.taken out.old) (K.taken out.new) held.old.items) }
+        (moment core.old registers.old) (moment core.new registers.new) (K.taken out.old) (K.taken out.new)
+        held.old.items) }
+    ensures none_left { OnErr result (held.new.items ≡ []) }
     ensures cause { HasCause (K.faults out.old) (K.faults out.new) result }
     ensures quiet { OnOk result (K.faults out.new ≡ K.faults out.old) }
 {
@@ -236,7 +248,9 @@ pub fn run_line<K: Sink>(
         (moment core.old registers.old) (moment core.new registers.new) (K.taken out.old) (K.taken out.new)
         held.old.items held.new.items) }
     ensures err { OnErr result (Cut (app_of app.now) board.now (line_happenings line.now)
-        (moment core.old registers.old) core.new (K.taken out.old) (K.taken out.new) held.old.items) }
+        (moment core.old registers.old) (moment core.new registers.new) (K.taken out.old) (K.taken out.new)
+        held.old.items) }
+    ensures none_left { OnErr result (held.new.items ≡ []) }
     ensures cause { HasCause (K.faults out.old) (K.faults out.new) result }
     ensures quiet { OnOk result (K.faults out.new ≡ K.faults out.old) }
 {
@@ -283,7 +297,8 @@ fn run_lines<K: Sink>(
         (moment core.old registers.old) (moment core.new registers.new) (K.taken out.old) (K.taken out.new)
         held.old.items held.new.items) }
     ensures err { OnErr result (Cut (app_of app.now) board.now (happenings lines.now)
-        (moment core.old registers.old) core.new (K.taken out.old) (K.taken out.new) held.old.items) }
+        (moment core.old registers.old) (moment core.new registers.new) (K.taken out.old) (K.taken out.new)
+        held.old.items) }
     ensures cause { HasCause (K.faults out.old) (K.faults out.new) result }
     ensures quiet { OnOk result (K.faults out.new ≡ K.faults out.old) }
 {

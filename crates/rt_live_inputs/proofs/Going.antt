@@ -35,9 +35,9 @@ module _ (app : App) (board : Board) where
       subst (Took x y) (sym (run.wrote.parts ∙ append-nil run.wrote.front)) run.wrote.took
 
   -- a fault where one thing alone happens
-  pub cut_stops : (hs : List Happening) (a : Moment) (m : Machine) (x y h : List ℕ) → h ≡ [] → IsOne hs
-      → Cut app board hs a m x y h → StopsIn app board hs a m x y
-  cut_stops hs a m x y h empty one cut =
+  pub cut_stops : (hs : List Happening) (a b : Moment) (x y h : List ℕ) → h ≡ [] → IsOne hs
+      → Cut app board hs a b x y h → StopsIn app board hs a b.machine x y
+  cut_stops hs a b x y h empty one cut =
       let last : Happening = Comes cut.ends.last in
       let none : cut.ends.earlier ≡ [] =
       nil_from_length cut.ends.earlier (omega (
@@ -57,7 +57,9 @@ module _ (app : App) (board : Board) where
         last = last;
         rest = cut.rest;
         parts = cut.parts ∙ ap (λ (t : List Happening). t ++ cut.rest) done;
-        leads = subst (λ (t : List Happening). MovesLead app (moves_at app board a t) a.machine m) done cut.leads;
+        leads =
+            subst (λ (t : List Happening). MovesLead app (moves_at app board a t) a.machine b.machine) done
+            cut.leads.machine;
         took = took;
         lines = (took.0, took.2);
       }

@@ -7,7 +7,7 @@ use Rattle.rt_run.specs.Sending.{TookButHeld}
 use Rattle.rt_run.specs.Inside.Writing.{Wrote}
 use Rattle.rt_board.specs.Board.{Board}
 use Rattle.rt_inputs.specs.Inputs.{Happening, Registers}
-use Rattle.rt_inputs.specs.Going.{Moment, MovesLead, moves_at, Leads, text_at, EndsInItem}
+use Rattle.rt_inputs.specs.Going.{Moment, Leads, text_at, EndsInItem}
 
 -- what registers hold whose words are kept in a list
 abbrev pub held_in : List ℕ → Registers
@@ -24,15 +24,14 @@ module _ (app : App) (board : Board) where
     pub leads : Leads app board happened old new
     pub wrote : Wrote before after held kept (text_at app board old happened)
 
-  -- A fault came: what happened first leads from the old machine to the new one, and a beginning of what was held and
-  -- of its lines was taken. The last of it shows an item, and what was held and the lines before that were taken but
+  -- A fault came: what happened first leads from the old moment to the new one, and a beginning of what was held and of
+  -- its lines was taken. The last of it shows an item, and what was held and the lines before that were taken but
   -- for a buffer.
-  pub record Cut (happens : List Happening) (old : Moment) (new : Machine) (before after : List ℕ) (held : List ℕ)
-      : Type 0 where
+  pub record Cut (happens : List Happening) (old new : Moment) (before after : List ℕ) (held : List ℕ) : Type 0 where
     pub done : List Happening
     pub rest : List Happening
     pub parts : happens ≡ done ++ rest
-    pub leads : MovesLead app (moves_at app board old done) old.machine new
+    pub leads : Leads app board done old new
     pub took : TookPrefix before after (held ++ text_at app board old done)
     pub ends : EndsInItem app board done old
     pub held_back : TookButHeld before after (held ++ text_at app board old ends.earlier)

@@ -66,7 +66,7 @@ returns-in_err-run_line-clause-err g c =
     on_err_from c.from_residual.result
     (line_cut script i c.line-item.result at c.line-item.is (app_of c.args.app.now) c.args.board.now
     (moment c.args.core.now c.args.registers.now) (moment c.loop-line.core c.loop-line.registers)
-    c.run_line.new.core _ _ _ c.args.held.now.items _
+    (moment c.run_line.new.core c.run_line.new.registers) _ _ _ c.args.held.now.items _
     c.loop-line.invariant.run c.in_err-run_line.ensures.err)
 
 pub loop-line-preserved : goal.loop-line-preserved

@@ -42,7 +42,7 @@ returns-in_err-left-clause-err g c =
     on_err_from c.from_residual.result
     (left_cut (app_of c.args.app.now) c.args.board.now c.args.count c.loop-left.left
     (moment c.args.core.now c.args.registers.now) (moment c.loop-left.core c.args.registers.now)
-    c.run_to_item.new.core _ _ _ c.args.held.now.items _
+    (moment c.run_to_item.new.core c.args.registers.now) _ _ _ c.args.held.now.items _
     c.loop-left.invariant.within c.loop-left.invariant.run c.in_err-left.ensures.err)
 
 pub loop-left-preserved : goal.loop-left-preserved

@@ -27,7 +27,7 @@ returns-clause-err g c =
     let none = all_same IsNoStep c.args.count Tick tt in
     on_err_weaker c.run_ticks.result
     (λ cut. subst (λ (hs : List Happening). Cut app c.args.board.now hs
-    (moment c.args.core.now c.args.registers.now) c.run_ticks.new.core
+    (moment c.args.core.now c.args.registers.now) (moment c.run_ticks.new.core c.args.registers.now)
     (g.K.Sink.taken c.args.out.now) (g.K.Sink.taken c.run_ticks.new.out) c.args.held.now.items)
     (map_same c.args.count Tick)
     (plain_cut app c.args.board.now (held_in c.args.registers.now) c.args.core.now c.requires.can.names

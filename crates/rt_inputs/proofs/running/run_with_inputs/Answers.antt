@@ -55,9 +55,9 @@ returns-in_err-run_lines-clause-err g c =
     let held = c.new-held.result.items in
     on_err_from c.from_residual.result
     (cut_text app board core after c.args.script.now c.requires.fresh words c.new-registers.ensures _ _ held
-    c.new-held.ensures
-    (cut_same app board _ c.args.script.now (moment core words) after _ _ held c.lines-lines.ensures.lines
-    c.in_err-run_lines.ensures.err))
+    c.new-held.ensures c.run_lines.new.registers
+    (cut_same app board _ c.args.script.now (moment core words) (moment after c.run_lines.new.registers) _ _ held
+    c.lines-lines.ensures.lines c.in_err-run_lines.ensures.err))
 
 pub returns-in_err-run_lines-clause-part : goal.returns-in_err-run_lines-clause-part
 returns-in_err-run_lines-clause-part g c =
@@ -69,9 +69,9 @@ returns-in_err-run_lines-clause-part g c =
     let held = c.new-held.result.items in
     on_err_from c.from_residual.result
     (cut_off app board core after c.args.script.now c.requires.fresh words c.new-registers.ensures _ _ held
-    c.new-held.ensures
-    (cut_same app board _ c.args.script.now (moment core words) after _ _ held c.lines-lines.ensures.lines
-    c.in_err-run_lines.ensures.err))
+    c.new-held.ensures c.run_lines.new.registers
+    (cut_same app board _ c.args.script.now (moment core words) (moment after c.run_lines.new.registers) _ _ held
+    c.lines-lines.ensures.lines c.in_err-run_lines.ensures.err))
 
 pub returns-clause-ok : goal.returns-clause-ok
 returns-clause-ok g c =

@@ -21,6 +21,6 @@ returns-clause-err g c =
     on_err_weaker c.run_pend_line.result
     (gives_cut (app_of c.args.app.now) c.args.board.now c.args.local c.args.word c.args.core.now
     (held_in c.args.registers.now) (Comes (Arrive c.args.irq) ∷ []) (held_in c.give.new.self) c.give.ensures
-    c.run_pend_line.new.core (g.K.Sink.taken c.args.out.now) (g.K.Sink.taken c.run_pend_line.new.out)
-    c.args.held.now.items)
+    (moment c.run_pend_line.new.core c.give.new.self) (g.K.Sink.taken c.args.out.now)
+    (g.K.Sink.taken c.run_pend_line.new.out) c.args.held.now.items)
     c.run_pend_line.ensures.err

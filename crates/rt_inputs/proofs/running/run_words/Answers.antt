@@ -50,8 +50,8 @@ returns-in_err-run_word-clause-err g c =
     on_err_from c.from_residual.result
     (request_cut c.args.irq c.args.local (app_of c.args.app.now) c.args.board.now c.loop-done._done c.args.count
     c.args.source.now c.next-word.result within is (moment c.args.core.now c.args.registers.now)
-    (moment c.loop-done.core c.loop-done.registers) c.run_word.new.core _ _ _ c.args.held.now.items _
-    c.loop-done.invariant.run c.in_err-run_word.ensures.err)
+    (moment c.loop-done.core c.loop-done.registers) (moment c.run_word.new.core c.run_word.new.registers) _ _ _
+    c.args.held.now.items _ c.loop-done.invariant.run c.in_err-run_word.ensures.err)
 
 pub loop-done-preserved : goal.loop-done-preserved
 loop-done-preserved g c =

@@ -19,8 +19,8 @@ pub returns-in_err-run_line-clause-err : goal.returns-in_err-run_line-clause-err
 returns-in_err-run_line-clause-err g c =
     on_err_from c.from_residual.result
     (cut_stops (app_of c.args.app.now) c.args.board.now (line_happenings c.args.line.now)
-    (moment c.args.core.now c.args.registers.now) c.run_line.new.core _ _ _ c.clear.ensures c.requires.one
-    c.in_err-run_line.ensures.err)
+    (moment c.args.core.now c.args.registers.now) (moment c.run_line.new.core c.run_line.new.registers) _ _ _
+    c.clear.ensures c.requires.one c.in_err-run_line.ensures.err)
 
 pub returns-clause-ok : goal.returns-clause-ok
 returns-clause-ok g c =
