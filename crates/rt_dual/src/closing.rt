@@ -1,5 +1,6 @@
 // The words are closed when both cores have ended, and what they tell is the accounts of both.
-ghost use Rattle.std.specs.{List.AllByRecursion, Prelude.map, Prelude.◌<◌, Prelude.◌≡◌};
+ghost use Rattle.std.specs.List.{AllByRecursion};
+ghost use Rattle.std.specs.Prelude.{map, ◌<◌, ◌≡◌};
 ghost use Rattle.rt_live.specs.{Account.HasRoom, Account.settled_row, Account.with_counts, Ready.irqs_of};
 ghost use Rattle.rt_dual.specs.Inside.Both.{CanClose, AreAccounts};
 

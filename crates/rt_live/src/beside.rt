@@ -1,5 +1,6 @@
 // The core's own lines and the devices, side by side, and the end of the run.
-ghost use Rattle.std.specs.{Prelude.All, Prelude.OnOk, Prelude.is_ok, Prelude.◌≡◌, Thread.IsSync};
+ghost use Rattle.std.specs.Prelude.{All, OnOk, is_ok, ◌≡◌};
+ghost use Rattle.std.specs.Thread.{IsSync};
 ghost use Rattle.rt_code.specs.Lines.{HasLines};
 ghost use Rattle.rt_core.specs.Machine.{IsFresh};
 ghost use Rattle.rt_outside.specs.Faults.{HasCause};

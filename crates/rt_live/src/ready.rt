@@ -1,5 +1,6 @@
 // What a run takes memory for, and the run of it to its end.
-ghost use Rattle.std.specs.{List.AllByRecursion, Prelude.IfOk, Prelude.OnErr, Prelude.OnOk, Prelude.◌≡◌};
+ghost use Rattle.std.specs.List.{AllByRecursion};
+ghost use Rattle.std.specs.Prelude.{IfOk, OnErr, OnOk, ◌≡◌};
 ghost use Rattle.rt_code.specs.Lines.{HasLines};
 ghost use Rattle.rt_core.specs.Machine.{IsFresh};
 ghost use Rattle.rt_outside.specs.Faults.{HasCause};
