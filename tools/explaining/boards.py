@@ -6,8 +6,7 @@ from .table import Phrase
 
 NAME = re.compile(r"[A-Za-z_][A-Za-z0-9_]*")
 MOST_TOLD = 12
-# what authors of other texts write in place of `input` and of `give`
-INPUTS = ("in", "inputs", "device", "reg", "register", "local")
+# what authors of other texts have in place of `give`
 GIVEN = ("set", "put", "write", "value", "input", "gives", "given", "receive", "rx")
 
 
@@ -32,7 +31,7 @@ def owner(app, name):
     return next((body for body in app.bodies if name in locals_of(body)), None)
 
 
-def board_line(app, number, source, lines, size, table):
+def board_line(app, number, source, lines, size, table, takes):
     """What is wrong with the last of these lines of a board that is refused with this number."""
     said, words = Line(source), words_with_places(source)
     if number == 1:
@@ -41,7 +40,7 @@ def board_line(app, number, source, lines, size, table):
         bad_line(app, said, words, table)
         names = {"T": [task.name.text for task in hardware(app)],
                  "R": [name for task in hardware(app) for name in locals_of(task)]}
-        write(said, ("input T R",), names)
+        write(said, ("input T R",), names, takes)
     elif number in (3, 4):
         wrong_task(app, said, number, words[1], table)
     elif number in (5, 6):
@@ -67,19 +66,18 @@ def bad_line(app, said, words, table):
         if words[0].startswith(("//", "--", ";", "/*")):
             said.helps = [HASH]
         elif words[0] == "app":
-            said.helps = ["this looks like an application; the application comes first, then the board"]
+            said.helps = ["an application begins so: it comes first, then the board"]
         elif words[0] == "give" or words[0] in WORDS:
-            said.helps = ["this looks like a script; the board comes first, then the script"]
+            said.helps = ["a line of a script begins so: the board comes first, then the script"]
         else:
-            near = words[0].lower().rstrip("s:") == "input" or words[0].lower() in INPUTS
-            said.helps = ["write `input`", forms] if near else [forms]
+            said.helps = [forms]
     elif len(words) != 3:
         said.at(words[-1] if len(words) < 3 else words[3],
                 "the form is `input T R`, with a task and its local resource")
         task_name, _, name = words[-1].rpartition(".")
         task = owner(app, name) if len(words) == 2 else None
         if task and task.binds and task_name in ("", task.name.text):
-            said.helps = [f"write `input {task.name.text} {name}`"]
+            said.helps = [f"`{task.name.text}` lists `{name}`"]
     else:
         wrong = next(word for word in words[1:] if not NAME.fullmatch(word))
         said.at(wrong, f"`input` wants the names of a task and of its local resource, and `{wrong}` is none")
@@ -98,7 +96,7 @@ def wrong_task(app, said, number, name, table):
     if bound:
         said.helps = [f"`{name}` is an interrupt, and the task `{bound.name.text}` binds it"]
     elif body and body.binds:
-        said.helps = [f"the task comes first: `input {body.name.text} {name}`"]
+        said.helps = [f"the task comes first, and `{body.name.text}` lists `{name}`"]
     elif name in ("init", "idle"):
         said.helps.append(f"`{name}` is no task, and no interrupt lets it begin")
     else:
@@ -114,8 +112,7 @@ def wrong_local(app, said, number, task_name, name, table):
         body = owner(app, name)
         whose = f"`{body.name.text}` lists it" if body else "no body lists it"
         said.cause = table.cause("board 6", N=name, T=task_name, W=Phrase(whose))
-        said.helps = [f"write `input {body.name.text} {name}`"] if body and body.binds else []
-        said.helps += [table.mending("board 6", N=name, T=task_name)]
+        said.helps = [table.mending("board 6", N=name, T=task_name)]
         return
     said.cause = table.cause("board 5", N=name)
     said.helps = [table.mending("board 5", T=task_name, R=told(listed))]
@@ -154,7 +151,7 @@ def unknown_input(app, said, name, inputs, table):
     said.helps = [table.mending("script 6", R=told(inputs))]
     body = owner(app, name)
     if body and body.binds:
-        said.helps.append(f"the board is to have `input {body.name.text} {name}`")
+        said.helps.append(f"a line `input {body.name.text} {name}` of a board names it")
     else:
         similar(said, "an input", name, inputs)
 
@@ -174,12 +171,12 @@ def given_line(app, board, number, source, table):
         return None
     if words[0] != "give":
         said.at(words[0], f"no line of a script begins with `{words[0]}`")
-        said.helps = ["write `give`: `give R V` gives the device of the input R the value V"]
+        said.helps = ["`give R V` gives the device of the input R the value V"]
     elif len(words) != 3:
         said.at(words[-1] if len(words) < 3 else words[3], "the form is `give R V`, with an input and its value")
     elif NUMERAL.fullmatch(words[1]) and NAME.fullmatch(words[2]):
         said.at(words[1], "the input comes first")
-        said.helps = [f"write `give {words[2]} {words[1]}`"]
+        said.helps = ["`give R V` gives the device of the input R the value V"]
     elif not NAME.fullmatch(words[1]):
         said.at(words[1], f"`give` wants the name of an input, and `{words[1]}` is none")
     else:
@@ -206,10 +203,10 @@ def wrong_value(said, word):
     """A value that is no number of 32 bits."""
     said.at(word, f"`{word}` is no number of 32 bits, which is at most {LARGEST:,} and has no leading zero")
     if NUMERAL.fullmatch(word) and int(word) <= LARGEST:
-        said.helps = [f"write `{int(word)}`"]
+        said.helps = [f"without zeros in front it is {int(word)}"]
     elif re.fullmatch(r"-\d+", word) and -int(word) <= 1 << 31:
         said.helps = [f"a value has no sign: in two's complement it is `{(1 << 32) + int(word)}`"]
     elif re.fullmatch(r"'.'", word):
-        said.helps = [f"a value is a number: write `{ord(word[1])}`"]
+        said.helps = [f"a value is a number, and that of this sign is {ord(word[1])}"]
     elif helped := plain_number(word):
         said.helps = [helped]

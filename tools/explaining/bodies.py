@@ -14,6 +14,7 @@ PARTED = r"(?:[^\w\s]{1,3})"
 STOPS = re.compile(r"stop|cancel|abort|kill|withdraw|clear", re.IGNORECASE)
 STATEMENTS = ("let", "if", "for", "lock", "emit", "pend", "spawn", "spawn_after", "cancel", "reschedule_after")
 # the words after which a name is declared
+VALUES = "`task t(priority = 1) with x, y { .. }`"
 NAMING = ("app", "task", "let", "for", "with")
 OF_APP, NEAR, ALIKE = ("bits", "dispatchers", "fpu"), 0.75, 0.6
 
@@ -33,8 +34,8 @@ def endless(syntax, found):
         return None
     name = piece.tokens[1].text
     if syntax.named.tasks.get(name):
-        return f"no body runs for ever: a handler runs once for each request of its interrupt"
-    return f"no body runs for ever: `spawn_after(d) {name}(..);` as its last statement runs it again d ticks later"
+        return "no body runs for ever: a handler runs once for each request of its interrupt"
+    return "no body runs for ever: a software task runs once for each message, and can send itself the next one"
 
 
 def values_in_head(syntax, found):
@@ -52,9 +53,9 @@ def values_in_head(syntax, found):
     values = [name for name in names[::2] if name not in CONTEXTS and not is_context(syntax, name)]
     if not values:
         return None
-    head = f"task {front[opened - 1].text}" + "(..)" * (front[-1].text == ",")
-    return ("options have names, as `priority = 1`, and the values of a message come after `with`: "
-            f"`{head} with {', '.join(values)} {{ .. }}`")
+    is_whole = front[-1].text == "(" and behind[-1] is between([front[opened]] + syntax.rest)[0][-1]
+    change = f" => task {front[opened - 1].text} with {', '.join(values)}" * is_whole
+    return f"options have names, as `priority = 1`, and the values of a message come after `with`: {VALUES}{change}"
 
 
 def is_context(syntax, name):
@@ -105,8 +106,7 @@ def split_name(syntax, found):
     names = {behind.text for token, behind in zip(tokens, tokens[1:]) if behind.kind == "name" and token.text != "app"}
     whole = [last.text + sign + syntax.token.text for sign in ("", "_")]
     return next((f"`{name}` is one word" for name in whole if name in names | WORDS
-                 and syntax.trials.is_further(last.at, syntax.token.end, name)
-                 and syntax.trials.stands(last.at, syntax.token.end, name)), None)
+                 and syntax.trials.takes(last.at, syntax.token.end, name)), None)
 
 
 def two_names(syntax, found):
@@ -117,10 +117,9 @@ def two_names(syntax, found):
     texts = [one.text for one in syntax.front + syntax.rest]
     if texts.count(last.text) > 1 or texts.count(token.text) > 1 or len(syntax.front) < 2:
         return None
-    if syntax.front[-2].text not in NAMING or not syntax.trials.reads_on(last.at, token.end, last.text + token.text):
+    if syntax.front[-2].text not in NAMING or not syntax.trials.takes(last.at, token.end, last.text + token.text):
         return None
-    whole = " or ".join(f"`{last.text}{sign}{token.text}`" for sign in ("", "_"))
-    return f"a name has no blank in it: write {whole}; or one of the two is too many"
+    return f"one name comes here, without a blank in it, and here are two: `{last.text}` and `{token.text}`"
 
 
 def no_let(syntax):
@@ -134,7 +133,7 @@ def no_let(syntax):
     own = [token for token in front[:-1] if token.at >= start and token.text == name]
     if own or name in syntax.named.resources:
         return None
-    return f"a variable is declared with `let`: `let {name} = ..;`"
+    return f"a variable is declared with `let`: `let x = 1;` => let {name} ="
 
 
 def outside(syntax, found):

@@ -22,13 +22,15 @@ def unclosed(syntax, found):
         return None
     first, word = opened[-1], syntax.token.text
     line = place_of(syntax.text, first.at)[0]
+    if word in ("shared", "local") and behind != ["{"] and is_balanced(syntax):
+        return f"`{word}` is a word of the language, and no statement begins with it"
     if word in ("shared", "local") and is_balanced(syntax):
         return f"`{word} {{ .. }}` comes before all bodies, and a body lists what it uses in its head: `{word} = [..]`"
     if word in BODIES and is_balanced(syntax):
         return f"`{word}` comes outside all other bodies, and the `{first.text}` of line {line} is open here"
-    told = f"the `{first.text}` of line {line} is not closed"
+    told = f"the `{first.text}` of line {line} is open here"
     if first.text == "{" and last is not first:
-        told += ", or one after it"
+        told += ", or one after it is"
         inner = outdented(syntax.text, [pair for pair in pairs if pair[0].at > first.at and pair[0].text == "{"])
         told += f": by the indentation that of line {place_of(syntax.text, inner.at)[0]}" if inner else ""
     return told + in_comment(syntax, first)

@@ -8,7 +8,11 @@ NO_WORDS = ("spawn_at", "reschedule_at", "unlock", "unpend", "clock")
 WITHDRAWS = ("unpend", "clear", "unset")
 NEARLY, SURELY = 0.75, 0.85
 LATER = re.compile(r"^(?:after|later|every|defer|periodic|schedule)")
-FEW = 4
+FORMS = {
+    "lock": "`lock a, b { .. }`", "emit": "`emit a;`", "pend": "`pend I;`", "spawn": "`spawn t(a, b);`",
+    "spawn_after": "`spawn_after(100) t(a, b);`", "cancel": "`cancel t(h);`",
+    "reschedule_after": "`reschedule_after(100) t(h);`",
+}
 
 
 class Named:
@@ -68,17 +72,15 @@ def without_task(syntax, found):
     if not word or syntax.token.text != "(":
         return None
     form = "cancel" if word[1] == "cancel" else f"reschedule_after({word['d']})"
+    general = "cancel" if word[1] == "cancel" else "reschedule_after(100)"
+    asks = f"the task of the message comes before the parentheses, and its handle in them: `{general} t(h);`"
     inner = [token.text for token in between(syntax.rest)[0]]
     named = syntax.named
     if len(inner) >= 3 and inner[0] in named.tasks and inner[1] == ",":
-        return f"the task comes before the parentheses: `{form} {inner[0]}({' '.join(inner[2:])});`"
-    handle = " ".join(inner) if len(inner) == 1 else "h"
-    asks = f"a `{form.split('(')[0]}` names the task of its message: "
+        return f"{asks} => {form} {inner[0]}({' '.join(inner[2:])})"
     names = [name for name in named.tasks if name in named.armed] or named.software
-    if len(names) == 1:
-        return f"{asks}`{form} {names[0]}({handle});`"
-    several = ", ".join(f"`{name}`" for name in names[:FEW])
-    return f"{asks}`{form} t({handle});`" + (f", t one of {several}" if several else "")
+    change = f" => {form} {names[0]}({inner[0]})" if len(names) == len(inner) == 1 else ""
+    return asks + change
 
 
 def without_handle(syntax, found):
@@ -86,8 +88,8 @@ def without_handle(syntax, found):
     word = re.search(r"\b(cancel|reschedule_after) (?:\( [^;{}]* \) )?(\w+)$", syntax.before)
     if not word or syntax.token.text != ";" or word[2] not in syntax.named.tasks:
         return None
-    form = "cancel" if word[1] == "cancel" else "reschedule_after(..)"
-    return f"a `{word[1]}` has the handle of the message in parentheses: `{form} {word[2]}(h);`"
+    form = "cancel" if word[1] == "cancel" else "reschedule_after(100)"
+    return f"a `{word[1]}` has the handle of the message in parentheses: `{form} t(h);`"
 
 
 def delayed(syntax, found):
@@ -136,11 +138,11 @@ def method(syntax):
     if not found or not syntax.front or syntax.front[-1].kind not in ("name", "number"):
         return None
     name = syntax.front[-1].text
-    if syntax.front[-1].kind == "name" and not is_known(syntax, name):
+    if syntax.front[-1].kind == "name" and not is_known(syntax, name) and name not in syntax.named.interrupts:
         return f"nothing is called `{name}` here, and there are no methods: a body has numbers, and `emit N;` shows one"
     if found[1] in CALL_WORDS:
-        return f"there are no methods, and the word comes first: `{found[1]} {name} ..`"
-    return f"there are no methods, and `{name}` is one number: what is to be done with it is written out"
+        return f"there are no methods, and a statement begins with its word, as {FORMS[found[1]]}"
+    return "there are no methods: a body has numbers, and the statements of the language alone"
 
 
 def unknown_word(syntax, found):
@@ -176,8 +178,7 @@ def nearly(syntax, found):
     words = CALL_WORDS if first != "=" else CALL_WORDS[:4]
     for one in ("spawn", "cancel"):
         if word.removeprefix(one) in syntax.named.tasks:
-            return f"a blank comes between two words: `{one} {word.removeprefix(one)}`"
+            return f"a blank comes between two words =>! {one} {word.removeprefix(one)}"
     last = syntax.front[-1]
-    near = [one for one in all_near(word.lower(), words, NEARLY)
-            if syntax.trials.is_further(last.at, last.end, one) and syntax.trials.stands(last.at, last.end, one)]
+    near = [one for one in all_near(word.lower(), words, NEARLY) if syntax.trials.takes(last.at, last.end, one)]
     return f"`{word}` is no word of the language: `{near[0]}` is" if len(near) == 1 else None

@@ -2,6 +2,7 @@
 import itertools
 import re
 
+from .advice import advised
 from .bodies import CONTEXTS
 from .tokens import between
 
@@ -14,6 +15,10 @@ CALLED = {
     "shared": "resource|share|shares|globals?|uses|access|reads|writes|mutex\\w*|locks?|share_with",
     "local": "locals|own|private|state|statics?|vars|variables|data",
 }
+OPTIONS = (
+    "`binds` takes the interrupt, `priority` the priority, `capacity` how many messages may be out, and `shared` and "
+    "`local` what the body uses"
+)
 FORM = "`task t(binds = I, priority = 1) { .. }`"
 FEW = 6
 
@@ -33,9 +38,10 @@ def named_otherwise(syntax, found):
     option, token = option_of(syntax.token.text) if syntax.token.kind in ("name", "word") else None, syntax.token
     if option not in found or ")" not in found or behind(syntax) != "=":
         return None
-    if not syntax.trials.is_further(token.at, token.end, option):
-        return None
-    return f"`{syntax.token.text}` is `{option}` here: `{option} = ..`"
+    taken = [one for one in OF_TASK if syntax.trials.takes(token.at, token.end, one)]
+    told = f"no option is called `{token.text}`"
+    change = advised(syntax, f"{told} =>! {option}") if taken == [option] else None
+    return change or f"{told}: {OPTIONS}"
 
 
 def outside_head(syntax, found):
@@ -83,7 +89,7 @@ def typed_values(syntax, found):
              if token.kind == "name" and (before is None or before.text == ",") and token.text not in CONTEXTS]
     if not names or len(names) > FEW:
         return None
-    return f"the values of a message come after `with`: `task t(..) with {', '.join(names)} {{ .. }}`"
+    return "the values of a message come after `with`: `task t(priority = 1) with x, y { .. }`"
 
 
 def opened(syntax):
@@ -96,7 +102,7 @@ def no_item(syntax, found):
     before = syntax.front[-1].text if syntax.front else ""
     if syntax.token.text != "," or before not in ("[", "{", ",") or "a name" not in found or syntax.in_body:
         return None
-    return "the `,` is one too many, or a name is missing before it"
+    return f"before a `,` comes a name, and none is between `{before}` and it"
 
 
 def lone_block(syntax, found):
@@ -113,5 +119,4 @@ def spawned_nothing(syntax, found):
     inner, tasks = [token.text for token in between(syntax.rest)[0]], syntax.named.software
     if inner[:1] and inner[0] in tasks:
         return None
-    told = f": `spawn {tasks[0]}(..);`" if len(tasks) == 1 else ": `spawn t(..);`"
-    return f"a spawn names its task before the parentheses{told}"
+    return "a spawn names its task before the parentheses: `spawn t(a, b);`"

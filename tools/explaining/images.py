@@ -2,6 +2,7 @@
 import re
 
 from . import rows
+from .advice import advised_line
 from .listing import image_of
 from .points import TooMany
 from .scripts import Line
@@ -13,7 +14,7 @@ TRACE = re.compile(r"\d+ [a-z]+\b")
 SCRIPT = re.compile(r"(?:#[^\n]*\n|\s)*(?:step|tick|pend|device) ")
 
 
-def image_line(number, lines, line, front, ended, size, table):
+def image_line(number, lines, line, front, ended, size, table, takes):
     """What is wrong with the first line of a listing with which the lines begin none; its text has this beginning, and
     its last line has its line feed or not."""
     source = lines[line - 1] if line <= len(lines) else ""
@@ -30,19 +31,19 @@ def image_line(number, lines, line, front, ended, size, table):
     elif number == 2 and (cause := rows.cause_of(lines, line, ended)):
         said.cause, said.helps = cause[0], list(cause[1:])
         if meant := rows.meant(source):
-            said.helps.insert(0, f"write `{meant}`")
+            said.helps[:0] = filter(None, [advised_line(takes, meant)])
     return said
 
 
 def other_text(said, front):
     """What a text is that is no listing, where its beginning tells."""
     if APPLICATION.match(front):
-        said.cause = "this is an application, and `verify` takes the listing of an image"
-        said.helps = ["`rtic build APP > LISTING` writes one, and `rtic verify LISTING` judges it"]
+        said.cause = "an application begins so, and `verify` takes the listing of an image"
+        said.helps = ["`rtic build APP > LISTING` makes one, and `rtic verify LISTING` judges it"]
     elif SCRIPT.match(front):
-        said.cause = "this looks like a script, and `verify` takes the listing of an image"
+        said.cause = "a script begins so, and `verify` takes the listing of an image"
     elif TRACE.match(front):
-        said.cause = "this looks like a trace, and `verify` takes the listing of an image"
+        said.cause = "a trace begins so, and `verify` takes the listing of an image"
     elif front.startswith(("#", "//", ";", "--")):
         said.cause = "a listing has no comments, and its first line is `image ..`"
         said.helps = []

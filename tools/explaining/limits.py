@@ -7,7 +7,7 @@ from .table import Phrase
 NAME = re.compile(r"[A-Za-z_][A-Za-z0-9_]*")
 
 
-def limits_line(app, number, source, lines, size, table):
+def limits_line(app, number, source, lines, size, table, takes):
     """What is wrong with the last of these lines of a limits text that is refused with this number."""
     said = Line(source)
     words = words_with_places(source)
@@ -18,7 +18,7 @@ def limits_line(app, number, source, lines, size, table):
         unknown(app, said, words[1], table)
     else:
         bad_line(said, words, lines, table)
-        write(said, ("every I N",), {"I": [task.binds.text for task in app.tasks if task.binds]})
+        write(said, ("every I N",), {"I": [task.binds.text for task in app.tasks if task.binds]}, takes)
     if said.cause is None:
         said.cause, said.helps = table.cause("limits 2"), [table.mending("limits 2")]
     return said
@@ -39,7 +39,7 @@ def bad_line(said, words, lines, table):
     elif not NAME.fullmatch(words[1]):
         said.at(words[1], f"`every` wants the name of an interrupt, and `{words[1]}` is none")
         if NAME.fullmatch(words[2]) and NUMERAL.fullmatch(words[1]):
-            said.helps = [f"the interrupt comes first: `every {words[2]} {words[1]}`"]
+            said.helps = ["the interrupt comes first, and then the number"]
     elif not NUMERAL.fullmatch(words[2]) or len(words[2]) > 9:
         said.at(words[2], f"`{words[2]}` is no number of one to nine digits")
         said.helps = ["it is a number of core steps, and has no unit"]

@@ -7,7 +7,7 @@ import subprocess
 import traceback
 
 from . import audits, boards, every, forms, images, limits, pages, scripts, words as wording
-from .lines import LINE_REFUSAL, refused_lines
+from .lines import LAST, LINE_REFUSAL, refused_lines
 from .refusals import NOT_ASKED, REFUSAL, Refusal, Telling
 from .report import Report, shown
 from .rules import counted
@@ -164,22 +164,36 @@ class Explained:
             self.bad_line(which, line, number, words, place)
         return self.report.line(f"{self.names[place]}: {counted(len(found), 'refused line')}")
 
+    def taking(self, place, line):
+        """Says of a text whether the program reads a file behind its line with that in the place of the line."""
+
+        def takes(put):
+            if not self.program.answers:
+                return False
+            lines, files = self.text(place).removesuffix("\n").split("\n"), list(self.handed[1:])
+            files[place] = self.program.file("line", "\n".join(lines[: line - 1] + [put] + lines[line:] + [LAST]))
+            found = LINE_REFUSAL.match(self.program.ask(self.words[0], *files)[1])
+            return bool(found) and int(found[2]) > line
+
+        return takes
+
     def bad_line(self, which, line, number, words, place):
         lines, size = self.first_lines(place, line), os.path.getsize(self.paths[place])
-        source = lines[line - 1] if line <= len(lines) else ""
+        source, takes = lines[line - 1] if line <= len(lines) else "", self.taking(place, line)
         if which == "image":
             text = self.text(0)
-            said = images.image_line(number, lines, line, text[:FRONT], text.endswith("\n"), size, self.table)
+            said = images.image_line(number, lines, line, text[:FRONT], text.endswith("\n"), size, self.table, takes)
         elif which == "board":
-            said = boards.board_line(tree_of(self.text(0)), number, source, lines, size, self.table)
+            said = boards.board_line(tree_of(self.text(0)), number, source, lines, size, self.table, takes)
         elif said := self.beside_board(which, number, source):
             pass
         elif which == "script":
-            said = scripts.script_line(tree_of(self.text(0)), number, source, lines, size, self.table)
+            said = scripts.script_line(tree_of(self.text(0)), number, source, lines, size, self.table, takes,
+                                       self.is_beside)
         elif which == "limits":
-            said = limits.limits_line(tree_of(self.text(0)), number, source, lines, size, self.table)
+            said = limits.limits_line(tree_of(self.text(0)), number, source, lines, size, self.table, takes)
         else:
-            said = scripts.trace_line(tree_of(self.text(0)), number, source, lines, line, self.table)
+            said = scripts.trace_line(tree_of(self.text(0)), number, source, lines, line, self.table, takes)
         self.report.head(self.names[place], line, said.start + 1, f"{which} {number} {words}")
         self.report.rows([(line, source)], said.start, said.length, "")
         self.report.sentences([("cause", said.cause)] + [("help", one) for one in said.helps])

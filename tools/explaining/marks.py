@@ -5,7 +5,7 @@ from .tokens import place_of
 
 BEGINS = r"(?:let|if|for|lock|emit|pend|spawn|spawn_after|cancel|reschedule_after|\}|\w+ =(?!=))"
 COMMENT = "a comment begins with `//` and ends with its line"
-PROSE = "no statement and no declaration is a sentence of words; if this is a comment, it begins with `//`"
+PROSE = "no statement and no declaration is a sentence of words, and a comment begins with `//`"
 LISTS = ("shared", "local", "dispatchers")
 AFTER_LIST = ("binds", "priority", "capacity", "shared", "local", "bits", "fpu", "with")
 OPTIONS = ("binds", "priority", "capacity", "shared", "local", "dispatchers", "fpu")
@@ -34,9 +34,9 @@ def unclosed_list(syntax, found):
         return None
     name, inner, token = syntax.front[opened - 2].text, syntax.front[opened + 1 :], syntax.token
     if token.text == ";" and len(syntax.rest) > 2 and syntax.rest[1].kind == "name" and syntax.rest[2].text in "];,":
-        return "commas separate what is in a list"
+        return "a list has names, with commas between them"
     if token.text == ";" and len(syntax.rest) > 1 and syntax.rest[1].text == "]":
-        return "no `;` comes in a list"
+        return "a list has names, with commas between them"
     if token.text == "=" and inner and inner[-1].text in ("fpu", "bits"):
         inner = inner[:-1]
     elif token.text not in AFTER_LIST + (")", "{", ";"):
@@ -45,10 +45,11 @@ def unclosed_list(syntax, found):
     last = inner[-2] if has_comma and len(inner) > 1 else inner[-1] if inner and not has_comma else syntax.front[opened]
     if last.kind != "name":
         return None
-    sign = "])" if token.text in ("{", ";", "with") else "]" if has_comma or token.text == ")" else "],"
-    if not syntax.trials.is_further(last.end, last.end, sign):
+    behind = next((token.text for token in syntax.rest if token.text in ("]", "[", ";", "}")), "")
+    if behind == "]":
         return None
-    return f"the list of `{name}` is not closed: `{sign}` comes after its last name"
+    line = place_of(syntax.text, syntax.front[opened].at)[0]
+    return f"the list of `{name}` is open here: nothing closes the `[` of line {line}"
 
 
 def stroke(syntax, found):
@@ -71,7 +72,7 @@ def grouped(syntax, found):
     whole = GROUPED.match(syntax.text, syntax.front[-1].at)
     if not whole:
         return None
-    return f"a number has no sign between its digits: write `{whole[0].replace(whole[1], '')}`"
+    return f"a number has no sign between its digits => {whole[0].replace(whole[1], '')}"
 
 
 def lettered(syntax, found):
@@ -87,17 +88,17 @@ def unnamed_option(syntax, found):
     if {"shared", ")"} <= found and "binds" not in found and syntax.token.text in syntax.named.interrupts:
         return "`binds` names one interrupt, and each interrupt has a task of its own"
     if {"binds", ")"} <= found and syntax.token.text in syntax.named.interrupts:
-        return f"options have names: `binds = {syntax.token.text}`"
+        return f"options have names, as `binds = I` => binds = {syntax.token.text}"
     if {"priority", ")"} <= found and syntax.token.kind == "number":
-        return f"options have names: `priority = {syntax.token.text}`"
+        return "options have names, as `priority = 1` and `capacity = 4`"
     return None
 
 
 def no_comma(syntax, found):
     """An option directly after another one."""
-    is_two = {",", ")"} <= found and syntax.token.text in OPTIONS and syntax.front[-1].text != ","
-    if is_two and syntax.trials.is_further(syntax.at, syntax.at, ","):
-        return f"a `,` comes between two options: write one after `{syntax.front[-1].text}`"
+    last = syntax.front[-1].text if syntax.front else ","
+    if {",", ")"} <= found and syntax.token.text in OPTIONS and last != ",":
+        return f"a `,` comes between two options, and none comes after `{last}`"
     return None
 
 
@@ -106,7 +107,7 @@ def typed(syntax, found):
     behind = syntax.rest[1].text if len(syntax.rest) > 1 else ""
     is_row = found == {"="} and syntax.token.kind == "name" and behind == "="
     if is_row and syntax.front[-2].text in ("{", ",", "lock_free"):
-        if not syntax.in_body and syntax.trials.is_further(syntax.front[-1].at, syntax.front[-1].end, ""):
+        if not syntax.in_body:
             return one_name(syntax.front[-1], syntax.token)
     return None
 
@@ -114,9 +115,8 @@ def typed(syntax, found):
 def one_name(first, second):
     """What is said of two names of a row, of which one is a type or a word, or which are one name."""
     if first.text in TYPES or first.text == second.text:
-        return f"a row is `{second.text} = ..`, with one name, and without a type"
-    joined = f"`{first.text}{second.text}` or `{first.text}_{second.text}`"
-    return f"a row has one name, without a blank in it: write {joined}, or leave one of the two out"
+        return f"a row is `a = 5`, with one name and without a type => {second.text}"
+    return f"a row has one name, without a blank in it, and here are two: `{first.text}` and `{second.text}`"
 
 
 def other_end(syntax, found):
@@ -175,21 +175,11 @@ def no_statement(syntax, found):
     name, first = syntax.front[-1].text, syntax.front[-2].text if len(syntax.front) > 1 else ""
     if not syntax.in_body or first not in (";", "{", "}"):
         is_sign = syntax.token.kind in ("sign", "foreign")
-        return "`=` comes here" if is_sign and syntax.trials.reads_on(syntax.at, sign_end(syntax), "=") else None
+        return "`=` comes here =>! =" if is_sign else None
     if syntax.begins_unknown and syntax.token.text not in OPERATORS:
         return f"no statement begins with `{name}`: one begins with {STATEMENTS}, or assigns"
     told = "no body has a value: " if syntax.token.text in OPERATORS else ""
     return f"{told}a statement is `{name} = ..;`, or begins with {STATEMENTS}"
-
-
-def sign_end(syntax):
-    """Where the signs end that begin at the place without a blank between them, as `<-`; names and numbers are none."""
-    end = syntax.token.end
-    for token in syntax.rest[1:]:
-        if token.at != end or token.kind not in ("sign", "foreign") or token.text in CLOSED:
-            break
-        end = token.end
-    return end
 
 
 def ended_early(syntax, found):
@@ -202,7 +192,7 @@ def ended_early(syntax, found):
     behind = syntax.rest[1].text if len(syntax.rest) > 1 else ""
     if syntax.token.text in ("let", "if", "for", "lock", "emit", "pend", "spawn") or behind == "=":
         line = place_of(syntax.text, syntax.front[-1].at)[0]
-        return f"no body is open here: a `}}` of line {line} or before is one too many, or a head is missing"
+        return f"no body is open here: the `}}` of line {line} closes the last one"
     return None
 
 
@@ -235,7 +225,7 @@ def uncalled(syntax, found):
 def unopened(syntax, found):
     """A parenthesis that closes none, behind an expression."""
     if syntax.token.text == ")" and "+" in found and ")" not in found:
-        return "this `)` has no `(`: one is missing before it, or it is one too many"
+        return "this `)` closes no `(`: a `(` is missing before it, or a `)` is one too many, this one or one before it"
     return None
 
 
@@ -246,14 +236,14 @@ def lone_number(syntax, found):
         return None
     if rest[1].text != CLOSED[syntax.token.text]:
         return None
-    return f"a number has no `{syntax.token.text}` and `{rest[1].text}` round it here: write `{rest[0].text}`"
+    return f"a number has no `{syntax.token.text}` and `{rest[1].text}` round it here => {rest[0].text}"
 
 
 def last_comma(syntax, found):
     """A comma after the last name, where only another name may come."""
     if found != {"a name"} or not syntax.front or syntax.front[-1].text != "," or syntax.token.kind != "sign":
         return None
-    return f"the `,` before `{syntax.token.text}` is one too many, or a name is missing after it"
+    return f"after a `,` comes a name, and none is between it and `{syntax.token.text}`"
 
 
 def open_parentheses(syntax, found):
@@ -273,7 +263,7 @@ def open_parentheses(syntax, found):
     last = opened[-1]
     behind = next(token for token in syntax.front + [syntax.token] if token.at > last.at)
     told = f"the `(` before `{behind.text}` is open here" if len(opened) == 1 else f"{len(opened)} `(` are open here"
-    return f"{told}: a `)` is missing, here or earlier, or a `(` is one too many"
+    return f"{told}, and closed by no `)`"
 
 
 def closes_none(syntax, found):
@@ -286,7 +276,7 @@ def closes_none(syntax, found):
 def merge_marks(syntax, found):
     """The marks that a version control leaves where two changes met."""
     if re.match(r"(<<<<<<<|=======|>>>>>>>|\|\|\|\|\|\|\|)( |\r?$)", line_of(syntax)[0]):
-        return "this is a mark of an unresolved merge: keep one of the two sides, and take all such lines out"
+        return "no line of an application begins so: version control leaves such marks where two changes meet"
     return None
 
 
@@ -302,11 +292,11 @@ def pasted(syntax, found):
     if syntax.depth and not syntax.in_body:
         return None
     number = re.match(r"\s*(\d+ ?[:|)]?\.?\s*)[A-Za-z}{\[/]", line) if is_first else None
-    if number and re.match(r"\s*\d+ ?([:|)]\s*|\.?\s+)", line) and syntax.trials.reads_on(
-            syntax.at, syntax.at + len(number[1]), ""):
-        return f"this looks like the number of a line: without `{line.split()[0]}` the text is read"
-    if is_first and re.match(r"\s*[$%>] ?\S+ \S+ ?\S*\s*$", line) and "=" not in line:
-        return "this looks like a line of a terminal"
+    if number and re.match(r"\s*\d+ ?([:|)]\s*|\.?\s+)", line):
+        return f"no statement and no declaration begins with a number => ~{number[1].strip()}"
+    prompt = re.match(r"\s*([$%>]) ?\S+ \S+ ?\S*\s*$", line) if is_first and "=" not in line else None
+    if prompt:
+        return f"no line of an application begins with `{prompt[1]}`, as one of a terminal does"
     return None
 
 

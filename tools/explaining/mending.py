@@ -8,6 +8,7 @@ import functools
 import re
 from dataclasses import dataclass
 
+from .advice import WHOLE
 from .expected import END, NAME, NUMBER
 from .pieces import pieces_of
 from .tokens import SIGNS, WORDS, nearest, offset_of, tokens_of
@@ -31,7 +32,7 @@ FILLS = ("1", "x")
 ALIKE = 0.6
 # how far a change goes: a sign put in, two tokens that change places, a sign for another one; a sign taken out; more
 LITTLE, MORE, MUCH = 1, 2, 3
-TAKEN, ELSEWHERE, REFUSED_THEN, READ_ON = 0, 1, 2, 3
+TAKEN, REFUSED_THEN, READ_ON = 0, 1, 2
 
 
 @dataclass
@@ -189,9 +190,9 @@ def changes(syntax, found):
 
 
 def place_in(text, output):
-    """The offset of the refusal in an answer of the program, and its words."""
-    found = re.match(r"(\d+):(\d+) (E\d\d [^\n]*)", output)
-    return offset_of(text, int(found[1]), int(found[2])), int(found[1]), found[3]
+    """The offset of the refusal in an answer of the program."""
+    found = re.match(r"(\d+):(\d+) E\d\d ", output)
+    return offset_of(text, int(found[1]), int(found[2]))
 
 
 def is_idle(token, syntax, found):
@@ -223,31 +224,23 @@ def loses_nothing(row, verdict, syntax, found):
 
 
 def judged(program, syntax, rows):
-    """Each change with the verdict of the program, and what is to be said of it: those that the program takes, or reads
-    on behind."""
+    """Each change with the verdict of the program: those that the program takes, or reads on behind."""
     stop = next((piece.stop for piece in pieces_of(syntax.text) if piece.start <= syntax.at < piece.stop), 0)
     for row, (status, output) in zip(rows, program.formats([row.made(syntax.text) for row in rows])):
         text = row.made(syntax.text)
         if status == 0:
             status, output = program.ask("check", program.file("mended", text))
-            told = "" if status == 0 else refused_then(syntax, text, output)
-            verdict = TAKEN if status == 0 else REFUSED_THEN if told else ELSEWHERE
-            if told is not None:
-                yield row, verdict, f"the whole text is read{told}"
-        else:
-            at, line, _ = place_in(text, output)
-            if at > stop + len(text) - len(syntax.text):
-                yield row, READ_ON, f"the text is read as far as line {line}"
+            if status == 0 or is_behind(syntax, text, output):
+                yield row, TAKEN if status == 0 else REFUSED_THEN
+        elif place_in(text, output) > stop + len(text) - len(syntax.text):
+            yield row, READ_ON
 
 
-def refused_then(syntax, text, output):
-    """What is said of a change after which a rule is broken: of an unknown name, or in the declaration or the task."""
-    at, line, words = place_in(text, output)
+def is_behind(syntax, text, output):
+    """Whether a rule that is broken after a change is so behind the place, or in another declaration or task."""
+    at = place_in(text, output)
     piece = next(piece for piece in reversed(pieces_of(text)) if piece.start <= at)
-    is_near = piece.start <= syntax.at < piece.stop or words.startswith("E05")
-    if is_near and at <= syntax.at:
-        return None
-    return f", and then line {line} is refused: {words}" * is_near
+    return at > syntax.at or not piece.start <= syntax.at < piece.stop
 
 
 class Mending:
@@ -265,18 +258,15 @@ class Mending:
 
     def slip(self, syntax, found):
         """What is said of the one change that is certain, or None."""
-        likely = [row for row in self.rows if row[1] == TAKEN]
-        likely = likely or [row for row in self.rows if row[1] == ELSEWHERE and row[0].cost == LITTLE and row[0].put]
-        least = [row for row in likely if row[0].cost == likely[0][0].cost]
-        if not least or least[0][0].cost > MORE:
+        likely = [row for row, verdict in self.rows if verdict == TAKEN]
+        row, *others = [row for row in likely if row.cost == likely[0].cost] or [None]
+        if row is None or row.cost > MORE:
             return None
-        row, _, told = least[0]
-        others = [other for other, _, _ in least[1:]]
         if is_order(row, syntax):
-            others = [other for other, _, _ in likely if other is not row and is_order(other, syntax)]
+            others = [other for other in likely if other is not row and is_order(other, syntax)]
         if not is_of_marks(row, syntax) or self.has_rival(row, others):
             return None
-        return f"{row.told} {told}"
+        return f"{row.told} {WHOLE}"
 
     def has_rival(self, row, others):
         """Whether another change of the size makes another text that the program reads: one of these; the same bracket
@@ -297,22 +287,22 @@ class Mending:
 
     def takes_without(self, token):
         """Whether the program takes the text without the token before the place."""
-        return any(row.start == token.at and not row.put and verdict == TAKEN for row, verdict, _ in self.rows)
+        return any(row.start == token.at and not row.put and verdict == TAKEN for row, verdict in self.rows)
 
     def takes_less(self):
         """Whether the program takes the text without the token at the place."""
         return any(row.start == self.syntax.at and not row.put and row.stop == self.syntax.token.end
-                   and verdict == TAKEN for row, verdict, _ in self.rows)
+                   and verdict == TAKEN for row, verdict in self.rows)
 
     def takes_other(self):
         """Whether the program takes the text with another sign at the place."""
         return any(row.start == self.syntax.at and row.put and row.stop > row.start and row.cost == LITTLE
-                   and verdict == TAKEN for row, verdict, _ in self.rows)
+                   and verdict == TAKEN for row, verdict in self.rows)
 
     def takes(self, text, most=READ_ON):
         """Whether the program reads on with a sign put before the place, or does no worse than this."""
         return any(row.put.strip() == text and row.start == row.stop and verdict <= most
-                   for row, verdict, _ in self.rows)
+                   for row, verdict in self.rows)
 
 
 def replaced(row, syntax):

@@ -1,5 +1,6 @@
 """The program that is explained: it is run with the caller's words, and asked about texts."""
 import concurrent.futures
+import functools
 import os
 import pathlib
 import subprocess
@@ -85,6 +86,11 @@ class Program:
             self.look()
         return self.asked is not None
 
+    @functools.cached_property
+    def asked_beside(self):
+        """The second program that answers at once, or the one that answers otherwise."""
+        return asked_program(BESIDE.name) or str(BESIDE)
+
     def look(self):
         """Looks for a program that answers at once."""
         self.asked = asked_program()
@@ -97,8 +103,11 @@ class Program:
     def whole(self, command, *files):
         """The status and the output of the program on these files."""
         self.asks += 1
+        path = self.asked
+        if is_of_beside([command]):
+            path, command = self.asked_beside, command.split(" ")[1]
         done = subprocess.run(
-            [self.asked, command, *files], stdin=subprocess.DEVNULL, stdout=subprocess.PIPE, stderr=subprocess.DEVNULL,
+            [path, command, *files], stdin=subprocess.DEVNULL, stdout=subprocess.PIPE, stderr=subprocess.DEVNULL,
             timeout=60 + 4 * self.took, check=False,
         )
         return done.returncode, done.stdout.decode("latin-1")

@@ -89,7 +89,7 @@ def other_line(source, word):
     if not source.strip():
         return ("the line is empty",)
     if word == "trace":
-        return ("the listing ends before the line `trace`", "leave out that line and what comes after it")
+        return ("the listing ends before the line `trace`, with which a trace begins",)
     if word.startswith(COMMENTS):
         return ("a listing has no comments",)
     near = nearest(word, ORDER, 0.7)

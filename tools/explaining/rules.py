@@ -126,14 +126,15 @@ class Rules:
         if name in ("true", "false"):
             self.helps = ["`true` is 1 and `false` is 0"]
         elif name.lower() in OF_NUMBERS:
-            self.helps = [f"there is no `{name}`: write {OF_NUMBERS[name.lower()]}"]
+            number = OF_NUMBERS[name.lower()]
+            self.helps = [f"there is no `{name}`: a value is a number, and elsewhere this one is {number}"]
         elif name in LIKE_DIGITS:
             self.help(f"if a digit is meant, it is `{LIKE_DIGITS[name]}`")
         elif hexadecimal := HEXADECIMAL.fullmatch(name):
             digits = hexadecimal["a"] or hexadecimal["b"] or hexadecimal["c"] or name
-            self.help(f"a hexadecimal number begins with `0x`: `0x{digits}`")
+            self.help(f"if a hexadecimal number is meant: it begins with `0x`, as `0x{digits}`")
         elif binary := BINARY.fullmatch(name):
-            self.help(f"there are no binary numbers: `{name}` is {int(binary[1], 2)}")
+            self.help(f"if a binary number is meant: there are none, and it is {int(binary[1], 2)}")
         elif wanted == "value" and CONSTANT.fullmatch(name):
             self.help("if a constant is meant: there are none, and a number is written where it is used")
         self.similar(name, wanted, use)
@@ -163,8 +164,8 @@ class Rules:
         if task is None or self.app.task(name) or not (use.around.variable(name) or self.declared(name)):
             return False
         self.row(table, "E05 task", N=name)
-        form = use.role if use.role == "cancel" else f"{use.role}(..)"
-        self.helps = [f"the task comes first, and its handle in the parentheses: `{form} {task.name.text}({name});`"]
+        form = use.role if use.role == "cancel" else f"{use.role}(100)"
+        self.helps = [f"the task comes first, and its handle in the parentheses: `{form} t(h);`"]
         return True
 
     def wanted(self):
@@ -365,7 +366,7 @@ class Rules:
         spawned = {use.token.text for body in app.bodies for use in uses_of(body) if use.role in CALLS}
         for task in app.tasks:
             if task.is_software and task.name.text not in spawned:
-                self.help(f"nobody spawns `{task.name.text}`; a task that serves an interrupt has `binds = ..` among "
+                self.help(f"nobody spawns `{task.name.text}`; a task that serves an interrupt has `binds = I` among "
                           "its options")
         self.unused()
 
@@ -426,10 +427,10 @@ class Rules:
         who = f"`{body.name.text}` alone lists `{name}`" if body.lists(name) else f"no other body uses `{name}`"
         if users == {"init"}:
             who = who.replace("no other body uses", "beside `init` no other body uses")
-            self.help(f"{who}{', and `init` uses it' * bool(body.lists(name))}: with its first value in "
-                      f"`local {{ {name} = .. }}`, listed in `local = [{name}]`, it needs no lock")
+            self.help(f"{who}{', and `init` uses it' * bool(body.lists(name))}; what one body alone uses can be local, "
+                      "with its first value in the declaration, and needs no lock")
         elif not users:
-            self.help(f"{who}: declared in `local {{ {name} = .. }}` and listed in `local = [{name}]` it needs no lock")
+            self.help(f"{who}; what one body alone uses can be local, and needs no lock")
 
     def e12(self, table):
         body, use = self.use()

@@ -2,6 +2,7 @@
 import difflib
 import re
 
+from .advice import advised_line
 from .meant import line_of
 from .table import Phrase
 
@@ -32,10 +33,10 @@ def plain_number(word):
     """How a number is written in a line, where a word is nearly one; or None."""
     bare = word.rstrip(",;:.")
     if re.fullmatch(r"0[xX][0-9a-fA-F]+", bare):
-        return f"numbers are decimal: write `{int(bare, 16)}`"
+        return f"numbers are decimal: `{bare}` is {int(bare, 16)}"
     joined = re.sub(r"(?<=\d)[_,'](?=\d)", "", bare)
     if NUMERAL.fullmatch(joined) and joined != word and len(joined) <= MOST_DIGITS:
-        return f"write `{joined}`, with no other sign in it or after it"
+        return "a number is its digits alone, with no other sign in it or after it"
     return UNITS if UNIT.fullmatch(bare.lstrip("0123456789")) and bare[0].isdigit() else None
 
 
@@ -59,7 +60,7 @@ def words_with_places(source):
     return [found.group() for found in re.finditer(r"[^ ]+", source)]
 
 
-def script_line(app, number, source, lines, size, table):
+def script_line(app, number, source, lines, size, table, takes, is_beside=False):
     """What is wrong with the last of these lines of a script that is refused with this number."""
     said = Line(source)
     words = words_with_places(source)
@@ -67,12 +68,14 @@ def script_line(app, number, source, lines, size, table):
         said.cause = table.cause("script 1", A=Phrase(f"{size:,}"))
         said.helps = [table.mending("script 1")]
     elif number == 2:
-        bad_line(app, said, words, table)
+        forms = table.mending("script beside" if is_beside else "script 2")
+        bad_line(app, said, words, forms)
         # a number before a name may be a moment, and one after `every` a distance
         is_moment = NUMERAL.fullmatch(words[0] if words else "") and not set(words) & set(WORDS)
         if not is_moment and not {"every", "each", "per"} & set(words):
-            forms = LINES if re.search("dev", source, re.IGNORECASE) else LINES[:OF_THE_CORE]
-            write(said, forms, {"I": [row[0].text for row in app.interrupts]})
+            of_lines = LINES if re.search("dev", source, re.IGNORECASE) else LINES[:OF_THE_CORE]
+            write(said, of_lines, {"I": [row[0].text for row in app.interrupts]}, takes)
+        said.helps = said.helps or [forms]
     elif number == 3:
         unknown_interrupt(app, said, words[words.index("pend") + 1], table)
     elif number == 4:
@@ -85,11 +88,10 @@ def script_line(app, number, source, lines, size, table):
     return said
 
 
-def write(said, forms, names):
-    """The line that was meant comes first of the helps, where it is known."""
-    if meant := line_of(said.source, forms, names):
-        said.helps = [f"write `{meant}`"] + [one for one in said.helps if one != f"write `{meant}`"
-                                             and not one.endswith("write a line for each")]
+def write(said, forms, names, takes):
+    """The line that was meant comes first of the helps, where it is known, and the program takes it."""
+    if (meant := line_of(said.source, forms, names)) and (told := advised_line(takes, meant)):
+        said.helps = [told] + said.helps
 
 
 def events_of(line):
@@ -103,9 +105,8 @@ def events_of(line):
     return int(behind[0]) if behind else 1
 
 
-def bad_line(app, said, words, table):
+def bad_line(app, said, words, forms):
     source = said.source
-    forms = table.mending("script 2")
     if "\t" in source.strip(" \t\r"):
         return said.at("\t", "words are separated by spaces, and this is a tab")
     if source != source.strip(" \t") or source.endswith("\r"):
@@ -116,17 +117,15 @@ def bad_line(app, said, words, table):
         if words[0].startswith(("//", "--", ";", "/*")):
             said.helps = [HASH]
         elif words[0] == "app":
-            said.helps = ["this looks like an application; the application comes first, then the script"]
+            said.helps = ["an application begins so: it comes first, then the script"]
         elif words[0].lower() in WORDS:
-            said.helps = [f"write `{words[0].lower()}`"]
+            said.helps = [f"words have small letters: `{words[0].lower()}`"]
         elif joined := re.fullmatch(r"(step|tick|device)(\d+)", words[0]):
-            said.helps = [f"a blank comes between two words: `{joined[1]} {joined[2]}`"]
-        elif near := similar_word(words[0]):
-            said.helps = [f"write `{near}`", forms]
+            said.helps = ["a blank comes between two words", forms]
         elif words[0] in ("repeat", "loop", "for", "while", "times", "end", "done"):
             said.helps = ["a script has no loops: `pend I N` requests N times, and `step N` takes N steps"]
         elif (NUMERAL.fullmatch(words[0]) or words[0].lower() in TIMES) and any(word in WORDS for word in words[1:]):
-            said.helps = ["a line has no time in front: `step N` before it lets N core steps pass"]
+            said.helps = ["a line has no time in front; a line `step N` lets N core steps pass", forms]
         elif words[0].startswith(("spawn", "cancel", "reschedule", "emit")):
             said.helps = ["a script requests interrupts alone: `pend I`, and the task that binds I sends the message"]
         else:
@@ -136,19 +135,10 @@ def bad_line(app, said, words, table):
     if any(word.startswith(("#", "//")) for word in words):
         said.helps = [HASH]
     elif words[0] != "device" and any(word in WORDS for word in words[1:]):
-        said.helps = ["a line says one thing: write a line for each"]
+        said.helps = ["a line says one thing"]
     elif not said.helps and (told := plain_number(source[said.start :][: said.length])):
         said.helps = [told]
     return said
-
-
-def similar_word(word):
-    """The word of a script that is nearly written, or meant by another one."""
-    if word.lower().rstrip("s;:,") in WORDS:
-        return word.lower().rstrip("s;:,")
-    if word.lower() in ("wait", "run", "sleep", "delay", "cycle", "cycles", "advance"):
-        return "step"
-    return next(iter(difflib.get_close_matches(word.lower(), WORDS, 1, 0.7)), None)
 
 
 def short_words(app, said, words):
@@ -171,10 +161,10 @@ def short_words(app, said, words):
         rows = [row[0].text for row in app.interrupts if len(words) > 1 and words[1] == str(row[1].value)]
         said.helps = [f"the interrupt of number {words[1]} is `{rows[0]}`"] if rows else []
         if len(words) == 3 and NUMERAL.fullmatch(words[1]) and re.fullmatch(r"[A-Za-z_]\w*", words[2]):
-            said.helps = [f"the interrupt comes first: `pend {words[2]} {words[1]}`"]
+            said.helps = ["the interrupt comes first, and then how often it is requested"]
         return ended_with_sign(said, words[1] if len(words) > 1 else "", words[2:])
     if words[2] in [row[0].text for row in app.interrupts]:
-        said.helps = ["a line requests one interrupt: write a line for each"]
+        said.helps = ["a line requests one interrupt"]
     if len(words) > 3:
         return said.at(words[3], "at most one number comes after `pend I`")
     return said.at(words[2], f"`{words[2]}` is no number of one to nine digits")
@@ -184,9 +174,9 @@ def ended_with_sign(said, word, behind):
     """A sign that other languages have after a word: a line has none, and one interrupt."""
     name = word.rstrip(",;:")
     if name != word and re.fullmatch(r"[A-Za-z_]\w*", name):
-        said.helps = [f"write `{name}`, with no sign after it"]
+        said.helps = ["no sign comes after a name"]
         if behind and not NUMERAL.fullmatch(behind[0]):
-            said.helps = ["a line requests one interrupt: write a line for each"]
+            said.helps = ["a line requests one interrupt"]
     return said
 
 
@@ -208,7 +198,7 @@ def similar(said, kind, name, names):
         said.helps.append(f"{kind} of a similar name is `{near[0]}`")
 
 
-def trace_line(app, number, source, lines, line, table):
+def trace_line(app, number, source, lines, line, table, takes):
     """What is wrong with a line of a trace that is refused with this number."""
     said = Line(source)
     if number == 1:
@@ -218,7 +208,7 @@ def trace_line(app, number, source, lines, line, table):
     else:
         bad_item(app, said, lines, line, table)
         if not any(re.fullmatch(r"total \d+", one) for one in lines[: line - 1]):
-            write(said, items(), names_in(app))
+            write(said, items(), names_in(app), takes)
     return said
 
 
@@ -261,17 +251,15 @@ def bad_item(app, said, lines, line, table):
         said.cause = "the form is `total N`"
     elif words == ["trace"]:
         said.cause = "the line `trace` ends a listing, and none comes before it"
-        said.helps = ["leave it out, or the listing in front in"]
     elif not re.fullmatch(r"[0-9]+", words[0]):
         said.at(words[0], f"a line begins with a number, that of the core steps before it, and `{words[0]}` is none")
         if words[0] in ROWS:
-            said.helps = ["this is a line of a listing, and the listing's first line, `image ..`, is not in front: "
-                          "leave out all lines down to the line `trace`"]
+            said.helps = ["a line of a listing begins so, and the listing's first line, `image ..`, is not in front"]
         elif re.match(r"\d+[,;:\t]", words[0]):
             said.helps = ["one space comes between two words, and no other sign"]
         elif words[0] in ("step", "pend", "tick", "device", "#", "app"):
             looks = "an application" if words[0] == "app" else "a script"
-            said.helps = [f"this looks like {looks}; `audit` takes an application and then a trace"]
+            said.helps = [f"{looks} has such lines, and `audit` takes an application and then a trace"]
     else:
         bad_words(app, said, words)
     if said.cause is None:

@@ -9,6 +9,7 @@ from .points import INIT, MOST_OPEN, THREAD, Walk, executed, inside_after
 
 WORD = 4
 MOST_STACK = 1 << 20
+ON_MARK = "where no mask is needed, a section is entered on `mark`"
 CLOSING = {"mark": "mark", "raise": "restore", "mask": "unmask"}
 MESSAGES = (
     "`verify` answers so to every image of `build` whose application has software tasks or a monotonic, because the "
@@ -44,12 +45,12 @@ def nesting(image, walk):
     here = image.code[point.address] if point.address < len(image.code) else image.code[point.source]
     if len(point.inside) > MOST_OPEN:
         return at_point(point, here, f"{len(point.inside)} sections are open at {point.address}, and {MOST_OPEN} is "
-                        "the most", ["leave a section before so many are entered"])
+                        "the most", ["at most so many sections are open at once"])
     ways = [f"{one.came(image)} {one.open_sections()}" for one in (known, point)]
     cause = f"{point.who()} comes to the address {point.address} in two ways: {ways[0]}, and {ways[1]}"
     notes = [(f"it comes to {one.address} from here {one.open_sections()}", image.code[one.source].line)
              for one in (known, point) if one.source is not None]
-    help_ = "let each way to an address open the same sections, in the same order and by the same instructions"
+    help_ = "each way to an address opens the same sections, in the same order and by the same instructions"
     return Breach(here.line, f"two ways lead to {point.address}", cause, [help_], notes, point)
 
 
@@ -59,13 +60,14 @@ def numbers(image, walk):
         first = next(one for one in image.rows if one.number == row.number)
         if first is not row:
             return Breach(row.line, "this number is taken", f"`{first.name}` has the number {row.number} already",
-                          ["give each interrupt a number of its own"], [(f"`{first.name}` is here", first.line)])
+                          ["each interrupt has a number of its own"], [(f"`{first.name}` is here", first.line)])
     step = 1 << (8 - image.bits)
     for row in image.enabled:
         if row.value % step:
             below = row.value - row.value % step
             return Breach(row.line, f"{row.value} is no multiple of {step}", f"with {image.bits} bits the priority "
-                          f"value of `{row.name}` is a multiple of {step}, and it is {row.value}", [f"write {below}"])
+                          f"value of `{row.name}` is a multiple of {step}, and it is {row.value}",
+                          [f"the next multiple below it is {below}"])
     return stack(image)
 
 
@@ -89,7 +91,7 @@ def stack(image):
         notes.append((f"the greatest frame of the value {value}, {row.frame} words, is that of `{row.name}`; an entry "
                       f"has {image.entry_words}", row.line))
     return Breach(1, "", f"the stack region has {image.stack:,} bytes, and {need:,} are needed: {', '.join(parts)}",
-                  [f"write {need} as the third number"], notes)
+                  ["the third number of this line is the size of the stack region"], notes)
 
 
 def addresses(image, walk):
@@ -104,7 +106,7 @@ def addresses(image, walk):
             instr = image.code[point.source]
             ends = "`ret`" if point.is_handler else "a `jump` or `wait`" if point.owner == THREAD else "`serve`"
             runs = instr.word not in ("jump", "jumpz") or point.address == point.source + 1
-            help_ = f"the code of {point.who()} ends with {ends}" if runs else "jump to an address of the code"
+            help_ = f"the code of {point.who()} ends with {ends}" if runs else "a jump leads to an address of the code"
             label = f"{point.who()} goes on from here to {point.address}"
             return Breach(instr.line, label, cause, [help_], point=point)
     return None
@@ -135,17 +137,18 @@ def operand(image, point, instr):
     if slot is not None:
         where = f"the last number of its `irq` row, in line {point.owner.line}" if point.is_handler else "in line 1"
         return (f"there is no slot {slot}: the frame of {point.who()} has {frame} words, {where}",
-                ["use a slot that is there, or give it a larger frame, for which the stack region has room"])
+                ["slots count from 0 to one below the words of the frame, for which the stack region has room"])
     if instr.cell is not None and instr.cell >= len(image.cells):
         return (f"there is no cell {instr.cell}: the image has {len(image.cells)}, and they count from 0",
-                ["touch a cell that is there, or add its `cell` line"])
+                ["each cell has a `cell` line"])
     ends = {"ret": point.is_handler, "serve": point.owner == INIT}
     if not ends.get(instr.word, True):
         whose = "a handler" if instr.word == "ret" else "`init`"
         return (f"`{instr.word}` ends {whose}, and {point.who()} comes here",
-                ["end `init` with `serve`, the thread in a loop, and each handler with `ret`"])
+                ["`init` ends with `serve`, the thread in a loop, and each handler with `ret`"])
     if instr.word in ends and point.inside:
-        return f"`{instr.word}` comes where a section is open: {point.inside[-1].told()}", ["leave it before"]
+        return (f"`{instr.word}` comes where a section is open: {point.inside[-1].told()}",
+                ["a body leaves each section before it ends"])
     return None
 
 
@@ -190,10 +193,10 @@ def leaves(point, instr):
     closing = (CLOSING[last.word],) + (() if last.slot is None else (str(last.slot),))
     entered = [(f"{last.told()} was entered last", last.at)]
     if last.name != name:
-        return f"`{name}` is left, and `{last.name}` was entered last", [f"leave `{last.name}` first"], entered
+        return f"`{name}` is left, and `{last.name}` was entered last", ["what was entered last is left first"], entered
     if (instr.word,) + instr.operands != closing:
         told = " ".join(closing)
-        return f"`{name}` was entered on `{last.word}`, so it is left on `{told}`", [f"write `{told}`"], entered
+        return f"`{name}` was entered on `{last.word}`, so it is left on `{told}`", [], entered
     return None
 
 
@@ -213,7 +216,7 @@ def saved(point, instr):
     if last is None:
         return None
     return (f"this writes the slot {instr.written}, in which the section {last.told()} saved the mask",
-            ["use another slot"], [("it was saved here", last.at)])
+            ["what an open section saved stays in its slot until it is left"], [("it was saved here", last.at)])
 
 
 def masked(point, instr):
@@ -224,14 +227,14 @@ def masked(point, instr):
             return "a `raise` to 0 masks nothing", [], []
         if value >= point.execution:
             return (f"this raises to {value}, and the execution priority is {point.execution} here already",
-                    [f"raise to a value below {point.execution}; where none is needed, enter on `mark`"],
+                    [f"a `raise` is to a value below {point.execution}", ON_MARK],
                     [("it was raised here", one.at) for one in point.inside if one.value == point.execution])
     if instr.word == "mask" and point.owner == INIT:
-        return "`init` runs with all interrupts masked already", ["enter on `mark`"], []
+        return "`init` runs with all interrupts masked already", [ON_MARK], []
     if instr.word == "mask":
         first = next((one for one in point.inside if one.word == "mask"), None)
         if first:
-            return "all interrupts are masked here already", ["enter on `mark`"], [("they are masked here", first.at)]
+            return "all interrupts are masked here already", [ON_MARK], [("they are masked here", first.at)]
     return None
 
 
@@ -246,7 +249,8 @@ def ceilings(image, walk):
     for point, instr in entering:
         first = next((one for one in point.inside if one.name == instr.entered), None)
         if first:
-            return at_point(point, instr, f"`{instr.entered}` is open here already", ["take the inner section out"],
+            return at_point(point, instr, f"`{instr.entered}` is open here already",
+                            ["a section that is open is not entered again"],
                             [("it was entered here", image.code[first.at].line)])
         if instr.entered in lowest:
             other, there = lowest[instr.entered]
@@ -260,7 +264,7 @@ def not_held_off(image, point, instr, value, other, there):
     """A section inside which someone who enters it too can come."""
     cause = (f"inside `{instr.entered}` the execution priority is {value}, and {other.who()}, of the value "
              f"{other.value}, enters it too")
-    help_ = f"enter it on a `raise` to {other.value} at the most" if other.value else "enter it on `mask`"
+    help_ = f"it is entered on a `raise` to {other.value} at the most" if other.value else "it is entered on `mask`"
     return at_point(point, instr, cause, [help_], [(f"{other.who()} enters it here", there.line)])
 
 
@@ -292,7 +296,7 @@ def unguarded(image, cell, rows, names):
     where = f"outside `{best}`, inside which others touch it" if best else "and no section is round all touches"
     cause = (f"{point.who()}, of the value {point.value}, {verb[instr.word]} the cell {cell}, `{image.cells[cell]}`, "
              f"{where}; {other.who()}, of the value {other.value}, {verb[there.word]} it {other.open_sections()}")
-    help_ = f"enter `{best}` before it" if best else "enter the same section round each of them"
+    help_ = f"`{best}` is entered before it elsewhere" if best else "the same section is round each of them"
     told = [(f"{other.who()} {verb[there.word]} it here", there.line)]
     storing = next((row for row in rows if row[1].word == "store"), None)
     if "store" not in (instr.word, there.word):

@@ -2,6 +2,7 @@
 import re
 import unicodedata
 
+from .advice import signed
 from .habits import NO_TEXTS, QUOTABLE, UNQUOTED
 
 SIGNS_FOR = {"×": "*", "÷": "/", "≤": "<=", "≥": ">=", "≠": "!=", "∧": "&", "∨": "|", "…": ".."}
@@ -34,27 +35,28 @@ def is_hidden(sign):
 def sign_help(sign, syntax, size):
     """How to mend a sign of this many bytes at the place, or None."""
     if sign == "\ufeff" and syntax.at == 0:
-        return "the file begins with a mark of the order of bytes: save it without one"
+        return signed(syntax, size, "", "the file begins with a mark of the order of bytes, which no text here has")
     if unicodedata.category(sign) == UNSEEN:
-        return "this sign is not seen, and belongs to no text here: take it out"
+        return signed(syntax, size, "", "this sign is not seen, and belongs to no text here")
     if unicodedata.category(sign) in BLANKS:
-        return in_number(syntax, size) or "this looks like a blank and is none: write a space"
+        return in_number(syntax, size) or signed(syntax, size, " ", "this sign is none of the blanks of a text here")
     if sign in DASHES:
-        return "this dash is no minus: write `-`"
+        return signed(syntax, size, "-", "this dash is no minus")
     if sign in SIGNS_FOR:
-        return f"write `{SIGNS_FOR[sign]}`"
+        return signed(syntax, size, SIGNS_FOR[sign],
+                      f"no token begins so, and the sign of one byte is `{SIGNS_FOR[sign]}`")
     if sign in QUOTES + ASCII_QUOTES and is_alone(syntax, size):
-        return "this quote has no other one, and texts have no place here"
+        return "no token begins with this sign, and there are no texts"
     if sign in QUOTES:
         quoted = re.match(r"[^\w\n]+([A-Za-z_]\w*)[^\w\n]", syntax.text[syntax.at :], re.ASCII)
         return UNQUOTED.replace("<x>", quoted[1]) if quoted and re.search(QUOTABLE, syntax.before) else NO_TEXTS
     plain = unicodedata.normalize("NFKC", sign)
     if plain != sign and len(plain) == 1 and plain.isascii() and plain.isprintable():
-        return f"write `{plain}`, the sign of one byte"
+        return signed(syntax, size, plain, f"no token begins so, and the sign of one byte is `{plain}`")
     if is_other_letter(sign) and behind_number(syntax):
         return NO_DIGIT
     if is_other_letter(sign):
-        return "it may look like one of a to z and is none: write the name anew, with the letters a to z and A to Z"
+        return "names have the letters a to z and A to Z, digits and `_`, and this letter is none of them"
     return None
 
 
@@ -71,7 +73,7 @@ def in_number(syntax, size):
     digits = re.match(r"\d+", syntax.text[syntax.at + size :])
     if not digits or not behind_number(syntax):
         return None
-    return f"a number has no sign between its digits: write `{syntax.front[-1].text}{digits[0]}`"
+    return f"a number has no sign between its digits => {syntax.front[-1].text}{digits[0]}"
 
 
 def behind_number(syntax):

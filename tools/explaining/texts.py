@@ -2,6 +2,7 @@
 import functools
 import re
 
+from .advice import advised
 from .bodies import endless, handed, no_let, other_option, outside, split_name, two_names, values_in_head
 from .braces import unclosed
 from .calls import Named, called, delayed, is_known, method, nearly, sent_by_sign, unknown_word
@@ -118,14 +119,15 @@ def foreign(syntax, program, table):
 
 def foreign_help(sign, syntax, size, program, table):
     """How to mend a byte that no token begins with."""
-    help_ = pasted(syntax, None) or sign_help(sign, syntax, size) or no_let(syntax)
+    ways = (lambda: pasted(syntax, None), lambda: sign_help(sign, syntax, size), lambda: no_let(syntax))
+    help_ = next(filter(None, (advised(syntax, way()) for way in ways)), None)
     if not ends_line(syntax, size):
         help_ = help_ or sent_by_sign(syntax, None) or looked_up(FOREIGN, syntax) or method(syntax)
     if not help_ and size == 1 and program.answers:
         found = may_stand(program, syntax.text[: syntax.at]) or set()
         mending = Mending(syntax, found, program)
         help_ = mending.slip(syntax, found)
-    return help_ or looked_up(FOREIGN_GUESSES, syntax) or table.mending("E02")
+    return advised(syntax, help_) or looked_up(FOREIGN_GUESSES, syntax) or table.mending("E02")
 
 
 def ends_line(syntax, size):
@@ -142,7 +144,7 @@ def syntax_help(syntax, found, program, table):
         ways += [functools.partial(one, mending) for one in (missing, other_type, no_end, no_first)]
         ways += [two_names, mending.slip]
     ways += [habits_of(GUESSES), *IN_DOUBT, *LAST]
-    return next(filter(None, (way(syntax, found) for way in ways)), None)
+    return next(filter(None, (advised(syntax, way(syntax, found)) for way in ways)), None)
 
 
 def habits_of(rows):
@@ -165,7 +167,7 @@ def form(syntax, found):
 def returns(syntax, found):
     """A comment that goes on after a carriage return, because that alone ends no line."""
     if re.search(r"//[^\n]*\r[^\n]", syntax.text[: syntax.at]):
-        return "a carriage return alone ends no comment: save the file with line feeds"
+        return "a carriage return alone ends no comment: each line ends with a line feed"
     return None
 
 
@@ -179,15 +181,16 @@ def misspelt(syntax, found):
             words = ("lock_free",) if not syntax.in_body else ()
     if name.kind != "name" or syntax.in_body and name is not syntax.token and is_known(syntax, name.text):
         return None
+    if name.text.lower() in words:
+        return f"words of the language have small letters: `{name.text.lower()}`"
     if glue := grown(syntax, name.text, words):
         return glue
     is_assigned = len(syntax.rest) > 1 and syntax.rest[1].text == "=" and is_known(syntax, syntax.token.text)
     if found == {"="} and syntax.in_body and is_assigned and name.text.lower() not in words:
         return None
     ratio = OF_ONE if len(found) == 1 and len(name.text) >= SHORT else OF_MANY
-    holds = syntax.trials.is_further if name is syntax.token else syntax.trials.reads_on
     near = [word for word in all_near(name.text.lower(), words, ratio)
-            if holds(name.at, name.end, word) and syntax.trials.stands(name.at, name.end, word)]
+            if syntax.trials.takes(name.at, name.end, word)]
     return f"`{name.text}` is no word of the language: `{near[0]}` is" if len(near) == 1 else None
 
 
@@ -200,9 +203,8 @@ def grown(syntax, name, words):
             continue
         start = syntax.at if syntax.token.text == name else syntax.front[-1].at
         is_longer = word in ("task", "with") and len(rest) >= SHORT
-        trials, change = syntax.trials, (start, start + len(name), f"{word} {rest}")
-        if (rest in known or is_longer) and trials.is_further(*change) and trials.stands(*change):
-            return f"a blank comes between two words: `{word} {rest}`"
+        if (rest in known or is_longer) and syntax.trials.takes(start, start + len(name), f"{word} {rest}"):
+            return f"a blank comes between two words =>! {word} {rest}"
     return None
 
 
@@ -239,14 +241,14 @@ def missing(mending, syntax, found):
         return None
     last = syntax.front[-1]
     new_line = "\n" in syntax.text[last.end : syntax.at]
-    further = syntax.token.kind != "name" and syntax.trials.is_further(last.end, syntax.at, ";")
-    if not mending.takes(";") and not further:
+    begins = syntax.token.text in (*STATEMENTS, *DECLARED, "}")
+    if not begins and not mending.takes(";"):
         return None
     if syntax.token.kind == "word" or syntax.token.text == "}" or new_line and syntax.token.kind == "name":
         line, between = place_of(syntax.text, last.at)[0], syntax.text[last.end : syntax.at]
         comment = between.split("\n", 1)[0].strip().startswith("//") and ";" in between
         hidden = "; what follows `//` is a comment" * comment
-        if mending.takes(";"):
+        if mending.takes(";", TAKEN):
             return f"a `;` is missing after `{last.text}` in line {line}{hidden}"
         return f"a statement or declaration ends with `;`, and none comes after `{last.text}` in line {line}{hidden}"
     return None
@@ -300,7 +302,7 @@ def no_name(syntax, found):
 
 def chained(syntax, found):
     if syntax.token.text in ("==", "!=", "<", "<=", ">", ">=") and "+" in found:
-        return "comparisons do not chain: write `(a < b) & (b < c)`"
+        return "comparisons do not chain: `(a < b) & (b < c)` joins two"
     return None
 
 

@@ -30,7 +30,7 @@ class Warnings:
                 spawned = any(other == name for _, other in spawns)
                 who = "nobody that runs" if spawned else "nobody"
                 self.warn(task.name, f"{who} spawns the task `{name}`, so it never runs",
-                          "if an interrupt is to run it, write `binds = I` into its options")
+                          "a task that an interrupt runs has `binds = I` among its options")
 
     def interrupts(self):
         app = self.app
@@ -76,9 +76,9 @@ class Warnings:
         if any(body.lists(name.text).by_ref for body in bodies) or len({body.level for body in bodies}) > 1:
             return
         alone = f": it is `{bodies[0].name.text}` alone" if len(bodies) == 1 else ""
-        more = "; or make it a local resource" if alone else ""
+        more = "; what one body alone uses can be local" if alone else ""
         self.warn(name, f"all users of `{name.text}` have the priority {bodies[0].level}{alone}",
-                  f"declare it as `lock_free {name.text}`, and use it without a lock{more}")
+                  f"what tasks of one priority use can be `lock_free {name.text}`, and needs no lock{more}")
 
     def dropped(self):
         """Spawns whose answer is dropped in a loop, or more often in one body than there are places: the first ones."""
@@ -98,12 +98,7 @@ class Warnings:
                 warned.add(key)
                 self.warn(use.node.word, f"the answer of this spawn is dropped, {told} to `{task.name.text}`, whose "
                           f"capacity is {task.places}",
-                          f"look at the answer, `let sent = {called(use)};`, which is 0 where no place was left")
-
-
-def called(use):
-    """A spawn as it is written, without its values."""
-    return f"{use.role}{'(..)' if use.role == 'spawn_after' else ''} {use.token.text}(..)"
+                          "the answer, the value of `let sent = spawn t(a, b);`, is 0 where no place was left")
 
 
 def warnings_of(app):

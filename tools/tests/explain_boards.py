@@ -16,7 +16,9 @@ sys.dont_write_bytecode = True
 from explaining.main import explained_call
 from explaining.program import Program, asked_program
 
+# of a board that is a right line and then one of no form, as tools/explain asks, it says that the second one is refused
 STUB = """#!/bin/sh
+[ "$(cat "$3" 2>/dev/null)" != "$(printf 'input rx received\\n?')" ] || { echo 'board:2 2 bad line'; exit 3; }
 printf '%s\\n' "$ANSWER"
 exit "$STATUS"
 """
@@ -33,22 +35,23 @@ task digest(priority = 1, local = [crc]) with value { crc = crc ^ value; }
 BOARD = "input rx received\ninput pin level\n"
 # A row: a board, the third text or none where a right one is meant, the answer, and sentences that must come.
 BOARDS = (
-    ("in rx received", "1 2 bad line", "no line of a board begins with `in`", "write `input rx received`"),
-    ("Input rx received", "1 2 bad line", "no line of a board begins with `Input`", "write `input rx received`"),
+    ("in rx received", "1 2 bad line", "no line of a board begins with `in`", "the lines are `input T R` and `# ..`"),
+    ("Input rx received", "1 2 bad line", "no line of a board begins with `Input`",
+     "with `input rx received` in its place the line is read"),
     ("// the line", "1 2 bad line", "a comment begins with `#`, and has a line of its own"),
-    ("give received 5", "1 2 bad line", "this looks like a script; the board comes first, then the script"),
-    ("app a(bits = 4);", "1 2 bad line", "this looks like an application; the application comes first, then the board"),
+    ("give received 5", "1 2 bad line", "a line of a script begins so: the board comes first, then the script"),
+    ("app a(bits = 4);", "1 2 bad line", "an application begins so: it comes first, then the board"),
     ("input received", "1 2 bad line", "the form is `input T R`, with a task and its local resource",
-     "write `input rx received`"),
+     "`rx` lists `received`"),
     ("input rx received 0", "1 2 bad line", "the form is `input T R`, with a task and its local resource"),
-    ("input rx.received", "1 2 bad line", "write `input rx received`"),
+    ("input rx.received", "1 2 bad line", "`rx` lists `received`"),
     ("input rx received;", "1 2 bad line",
      "`input` wants the names of a task and of its local resource, and `received;` is none"),
     (" input rx received", "1 2 bad line", "a blank comes before the first word, or after the last"),
     ("input\trx received", "1 2 bad line", "words are separated by spaces, and this is a tab"),
     ("input uart received", "1 3 unknown task", "no task `uart` is declared", "hardware tasks are `rx`, `pin`"),
     ("input UART0 received", "1 3 unknown task", "`UART0` is an interrupt, and the task `rx` binds it"),
-    ("input received rx", "1 3 unknown task", "the task comes first: `input rx received`"),
+    ("input received rx", "1 3 unknown task", "the task comes first, and `rx` lists `received`"),
     ("input idle turns", "1 3 unknown task", "`idle` is no task, and no interrupt lets it begin"),
     ("input digest crc", "1 4 software task", "`digest` is a software task, whose values come with its messages",
      "a hardware task takes a device's value over, and sends it: these are `rx`, `pin`"),
@@ -57,11 +60,11 @@ BOARDS = (
     ("input pin lost", "1 5 unknown local",
      "`lost` is a shared resource: a device writes a local one, and the task takes it over"),
     ("input pin received", "1 6 local of another", "`pin` does not list `received`: `rx` lists it",
-     "write `input rx received`"),
+     "a device writes a local resource of the task whose interrupt it requests"),
     ("input rx turns", "1 6 local of another", "`rx` does not list `turns`: `idle` lists it",
      "a device writes a local resource of the task whose interrupt it requests"),
     ("# two\ninput rx received\n\ninput rx received", "4 7 named twice", "`received` is an input already, by line 2",
-     "take one of the two lines out"),
+     "a board names each input once"),
     ("#" * (1 << 20) + "\n", "1 1 too long", "the board has 1,048,577 bytes, and 1,048,576 is the most"),
 )
 SCRIPTS = (
@@ -70,18 +73,19 @@ SCRIPTS = (
     ("give crc 5", "1 6 unknown input", "the board has no input `crc`"),
     ("device 1 pend D 2 from 5", "1 7 no input",
      "the board has no input of a task that binds `D`, so the words are for nothing",
-     "leave out `from 5`, or let the board name an input of that task"),
+     "words stand behind a request where the board names an input of its task"),
     ("give received", "1 2 bad line", "the form is `give R V`, with an input and its value"),
     ("give received 5 6", "1 2 bad line", "the form is `give R V`, with an input and its value"),
-    ("give 5 received", "1 2 bad line", "the input comes first", "write `give received 5`"),
-    ("give received 0x41", "1 2 bad line", "numbers are decimal: write `65`"),
-    ("give received 'A'", "1 2 bad line", "a value is a number: write `65`"),
+    ("give 5 received", "1 2 bad line", "the input comes first",
+     "`give R V` gives the device of the input R the value V"),
+    ("give received 0x41", "1 2 bad line", "numbers are decimal: `0x41` is 65"),
+    ("give received 'A'", "1 2 bad line", "a value is a number, and that of this sign is 65"),
     ("give received -2", "1 2 bad line", "a value has no sign: in two's complement it is `4294967294`"),
-    ("give received 007", "1 2 bad line", "write `7`"),
+    ("give received 007", "1 2 bad line", "without zeros in front it is 7"),
     ("give received 4294967296", "1 2 bad line",
      "`4294967296` is no number of 32 bits, which is at most 4,294,967,295 and has no leading zero"),
     ("set received 5", "1 2 bad line", "no line of a script begins with `set`",
-     "write `give`: `give R V` gives the device of the input R the value V"),
+     "`give R V` gives the device of the input R the value V"),
     ("step x", "1 2 bad line", "`x` is no number of one to nine digits"),
     ("pend UART", "1 3 unknown interrupt", "no interrupt `UART` is declared"),
 )
