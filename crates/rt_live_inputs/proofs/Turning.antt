@@ -11,7 +11,7 @@ use Rattle.rt_ids.specs.Event.{Arrive, Event, Step, Tick, steps}
 use Rattle.rt_app.specs.Tree.{App}
 use Rattle.rt_code.specs.Image.{Image}
 use Rattle.rt_core.specs.Machine.{Machine}
-use Rattle.rt_lines.specs.Operand.{IsDeclared}
+use Rattle.rt_ids.specs.Naming.{IsDeclared}
 use Rattle.rt_run.proofs.Advancing.{steps-append}
 use Rattle.rt_run.proofs.Known.{ticks}
 use Rattle.rt_words.specs.Lines.{Line, Row}

@@ -4,7 +4,7 @@ ghost use Rattle.atomic_table.specs.Seated.{TableId};
 ghost use Rattle.rt_app.specs.View.{app_of};
 ghost use Rattle.rt_ids.specs.Arrivals.{arrivals};
 ghost use Rattle.rt_ids.specs.Event.{Arrive};
-ghost use Rattle.rt_lines.specs.Operand.{IsDeclared};
+ghost use Rattle.rt_ids.specs.Naming.{IsDeclared};
 ghost use Rattle.rt_live.specs.Able.{BitsMayArrive};
 ghost use Rattle.rt_inputs.specs.Inputs.{Comes};
 ghost use Rattle.rt_inputs.specs.Inside.Ran.{moment};

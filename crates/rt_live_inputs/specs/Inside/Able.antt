@@ -4,7 +4,7 @@ use Rattle.std.specs.List.{AllByRecursion}
 use Rattle.atomic_table.specs.Seated.{TableId}
 use Rattle.rt_app.specs.Tree.{App}
 use Rattle.rt_core.specs.Machine.{Machine}
-use Rattle.rt_lines.specs.Operand.{IsDeclared}
+use Rattle.rt_ids.specs.Naming.{IsDeclared}
 use Rattle.rt_words.specs.Lines.{Line, Row, word_count}
 use Rattle.rt_words.specs.Object.{IsPending}
 use Rattle.rt_words.specs.Row.{bit_in_row}

@@ -2,7 +2,7 @@ use Rattle.std.proofs.Common.{◌+◌, ◌≤◌, zero, [], ◌∷◌, refl, sym
 use Rattle.rt_app.specs.View.{app_of}
 use Rattle.rt_ids.specs.Event.{Arrive}
 use Rattle.rt_code.specs.Image.{Image}
-use Rattle.rt_lines.specs.Operand.{IsDeclared}
+use Rattle.rt_ids.specs.Naming.{IsDeclared}
 use Rattle.rt_inputs.specs.Inputs.{Comes, Gives}
 use Rattle.rt_inputs.specs.Inside.Ran.{moment}
 use Rattle.rt_live_inputs.proofs.Going.{can_fewer, can_then, goes_on, same_image}

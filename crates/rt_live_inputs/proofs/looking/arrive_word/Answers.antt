@@ -4,7 +4,7 @@ use Rattle.rt_app.specs.View.{app_of}
 use Rattle.rt_ids.specs.Arrivals.{arrivals_below}
 use Rattle.rt_ids.specs.Event.{Arrive}
 use Rattle.rt_code.specs.Image.{Image}
-use Rattle.rt_lines.specs.Operand.{IsDeclared}
+use Rattle.rt_ids.specs.Naming.{IsDeclared}
 use Rattle.rt_live.proofs.Looking.{bit_skips}
 use Rattle.rt_inputs.specs.Inputs.{Comes}
 use Rattle.rt_inputs.specs.Inside.Ran.{moment}

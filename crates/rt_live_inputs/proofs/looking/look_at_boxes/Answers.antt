@@ -3,7 +3,7 @@ use Rattle.std.proofs.lemmas.Option.{slice_get-get_or}
 use Rattle.rt_lemmas.proofs.Membership.{all_at}
 use Rattle.rt_app.specs.View.{app_of}
 use Rattle.rt_code.specs.Image.{Image}
-use Rattle.rt_lines.specs.Operand.{IsDeclared}
+use Rattle.rt_ids.specs.Naming.{IsDeclared}
 use Rattle.rt_inputs.specs.Inside.Ran.{moment}
 use Rattle.rt_values.specs.Sides.{TakerSide}
 use Rattle.rt_live_inputs.specs.declared.boxes.BoxKind.{BoxKind}
