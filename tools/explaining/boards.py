@@ -201,7 +201,7 @@ def due_input(app, board, lines):
 
 def wrong_value(said, word):
     """A value that is no number of 32 bits."""
-    said.at(word, f"`{word}` is no number of 32 bits, which is at most {LARGEST:,} and has no leading zero")
+    said.at(word, f"`{word}` is no decimal number of 32 bits, which is at most {LARGEST:,} and has no leading zero")
     if NUMERAL.fullmatch(word) and int(word) <= LARGEST:
         said.helps = [f"without zeros in front it is {int(word)}"]
     elif re.fullmatch(r"-\d+", word) and -int(word) <= 1 << 31:

@@ -197,7 +197,7 @@ class Explained:
         self.report.head(self.names[place], line, said.start + 1, f"{which} {number} {words}")
         self.report.rows([(line, source)], said.start, said.length, "")
         self.report.sentences([("cause", said.cause)] + [("help", one) for one in said.helps])
-        self.page(pages.OF_LINES[which])
+        self.page(pages.OF_LINES["board" if self.is_beside and which != "limits" else which])
 
     def page(self, section):
         """The section of the documents that says more."""

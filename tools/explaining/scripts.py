@@ -131,7 +131,7 @@ def bad_line(app, said, words, forms):
         else:
             said.helps = [forms]
         return said
-    short_words(app, said, words)
+    short_words(app, said, words, "from V" in forms)
     if any(word.startswith(("#", "//")) for word in words):
         said.helps = [HASH]
     elif words[0] != "device" and any(word in WORDS for word in words[1:]):
@@ -141,8 +141,8 @@ def bad_line(app, said, words, forms):
     return said
 
 
-def short_words(app, said, words):
-    """What is wrong after the first word."""
+def short_words(app, said, words, has_words):
+    """What is wrong after the first word, in a script where devices may give words or in another."""
     if words[0] in ("step", "tick"):
         if len(words) == 3 and UNIT.fullmatch(words[2]):
             said.helps = [UNITS]
@@ -165,6 +165,8 @@ def short_words(app, said, words):
         return ended_with_sign(said, words[1] if len(words) > 1 else "", words[2:])
     if words[2] in [row[0].text for row in app.interrupts]:
         said.helps = ["a line requests one interrupt"]
+    if has_words and words[2] in ("from", "seed"):
+        return said.at(words[2], f"`{words[2]}` comes behind a number of requests")
     if len(words) > 3:
         return said.at(words[3], "at most one number comes after `pend I`")
     return said.at(words[2], f"`{words[2]}` is no number of one to nine digits")

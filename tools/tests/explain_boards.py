@@ -74,6 +74,8 @@ SCRIPTS = (
     ("device 1 pend D 2 from 5", "1 7 no input",
      "the board has no input of a task that binds `D`, so the words are for nothing",
      "words stand behind a request where the board names an input of its task"),
+    ("device 1 pend D from 65", "1 2 bad line", "`from` comes behind a number of requests"),
+    ("device 1 pend UART0 seed 3", "1 2 bad line", "`seed` comes behind a number of requests"),
     ("give received", "1 2 bad line", "the form is `give R V`, with an input and its value"),
     ("give received 5 6", "1 2 bad line", "the form is `give R V`, with an input and its value"),
     ("give 5 received", "1 2 bad line", "the input comes first",
@@ -83,7 +85,7 @@ SCRIPTS = (
     ("give received -2", "1 2 bad line", "a value has no sign: in two's complement it is `4294967294`"),
     ("give received 007", "1 2 bad line", "without zeros in front it is 7"),
     ("give received 4294967296", "1 2 bad line",
-     "`4294967296` is no number of 32 bits, which is at most 4,294,967,295 and has no leading zero"),
+     "`4294967296` is no decimal number of 32 bits, which is at most 4,294,967,295 and has no leading zero"),
     ("set received 5", "1 2 bad line", "no line of a script begins with `set`",
      "`give R V` gives the device of the input R the value V"),
     ("step x", "1 2 bad line", "`x` is no number of one to nine digits"),
@@ -95,7 +97,7 @@ TRACES = (
     (START + "1 input crc 5", "4 4 unknown input", "the board has no input `crc`",
      "its inputs are `received`, `level`"),
     (START + "1 input received 4294967296", "4 2 bad line",
-     "`4294967296` is no number of 32 bits, which is at most 4,294,967,295 and has no leading zero"),
+     "`4294967296` is no decimal number of 32 bits, which is at most 4,294,967,295 and has no leading zero"),
     (START + "1 inputs received 5", "4 2 bad line", "no item is called `inputs`"),
 )
 WRONG = (
