@@ -1,6 +1,6 @@
 // Runs a core for so many steps on a small image with so many declared interrupts, and prints what it showed: `thread N
-// I` spins in the thread, `handler N I` in a handler that does arithmetic, and `waiting N I` waits for an interrupt. With
-// `pended` behind it the interrupt 1 is not enabled, and pending throughout. bench/run times it.
+// I` spins in the thread, `handler N I` in a handler that does arithmetic, and `waiting N I` waits for an interrupt.
+// With `pended` behind it the interrupt 1 is not enabled, and pending throughout. bench/run times it.
 // Promises: nothing: it is a program to be timed.
 // Stands on: rt_ids, rt_code, rt_image_tables, rt_core, rt_trace.
 // Read next: bench/run.

@@ -2,8 +2,8 @@
 -- software tasks.
 use Rattle.std.proofs.Common.{◌≡◌, false, [], ◌∷◌, refl, codes, Some, None}
 use Rattle.rt_actions.specs.Content.{Values}
-use Rattle.rt_actions.specs.Action.{Enters, Leaves, Emits, Posts, Clocks, Places, FindsFull, Readies, Starts, Frees, Arms}
-use Rattle.rt_actions.specs.Action.{Fires, SetsAlarm, Ends, Returns}
+use Rattle.rt_actions.specs.Action.{Enters, Leaves, Emits, Posts, Clocks, Places, FindsFull, Readies, Starts, Frees}
+use Rattle.rt_actions.specs.Action.{Arms, Fires, SetsAlarm, Ends, Returns}
 use Rattle.rt_ids.specs.Lists.{those_below}
 use Rattle.rt_ids.specs.declared.op.Op.TheVariants as op
 use Rattle.rt_ids.specs.declared.ids.BodyId.TheVariants as body

@@ -7,8 +7,8 @@ use Rattle.std.specs.Prelude.{if◌then◌else◌}
 use Rattle.rt_ids.specs.Lists.{or_zero, then_from}
 use Rattle.rt_actions.specs.Location.{Guarded}
 use Rattle.rt_actions.specs.Content.{Message, Values, number, timer_content, delays, message_of_handle}
-use Rattle.rt_actions.specs.Action.{Action, Enters, Leaves, Posts, Clocks, Places, FindsFull, Readies, Frees, Arms, Cancels}
-use Rattle.rt_actions.specs.Action.{Moves, SetsAlarm}
+use Rattle.rt_actions.specs.Action.{Action, Enters, Leaves, Posts, Clocks, Places, FindsFull, Readies, Frees, Arms}
+use Rattle.rt_actions.specs.Action.{Cancels, Moves, SetsAlarm}
 use Rattle.rt_actions.specs.Doing.{Doing, does}
 use Rattle.rt_ids.specs.declared.limits.TheConstants.{LONGEST_DELAY}
 use Rattle.rt_ids.specs.declared.ids.Section.TheVariants as section

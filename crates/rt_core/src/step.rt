@@ -409,8 +409,8 @@ impl Core {
         self.go(came)
     }
 
-    /// Silent core steps, and behind them one that is begun and not done: at least one, and at most as many as are left.
-    /// It counts down those that are left, writes the code address at which the last of them began and what its
+    /// Silent core steps, and behind them one that is begun and not done: at least one, and at most as many as are
+    /// left. It counts down those that are left, writes the code address at which the last of them began and what its
     /// instruction answered, and leaves the number of steps in the core as it was.
     #[inline(never)]
     fn advance(

@@ -42,10 +42,12 @@ abbrev pub is_arm : ℕ → What → Bool
 is_arm t (what.Arm u instant) = u == t
 is_arm t w = false
 
+-- whether it is `fire`: the timer sends a message at its instant
 abbrev pub is_fire : ℕ → What → Bool
 is_fire t (what.Fire u) = u == t
 is_fire t w = false
 
+-- whether it is `cancel`: a message that waits for its instant is taken back
 abbrev pub is_cancel : ℕ → What → Bool
 is_cancel t (what.Cancel u handle) = u == t
 is_cancel t w = false

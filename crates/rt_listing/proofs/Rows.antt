@@ -1,5 +1,5 @@
 -- Worked examples: what the definition computes is what a person worked out.
-use Rattle.std.proofs.Common.{◌≡◌, true, false, [], ◌∷◌, refl, Some, None, codes}
+use Rattle.std.proofs.Common.{◌≡◌, true, false, [], ◌∷◌, ◌++◌, refl, Some, None, codes}
 use Rattle.std.specs.Fmt.{digits}
 use Rattle.rt_ids.specs.declared.ids.BodyId.TheVariants as body
 use Rattle.rt_code.specs.Image.{Image}
@@ -26,7 +26,8 @@ two_image = record {
 
 two_listing : listing two_image
     ≡ codes
-    "image 1 4 40 0 8 0\nirq A 3 224 5 2\nirq B 7 224 2 2\ncode 0 serve ; end init\ncode 1 wait\ncode 2 set 0 20\ncode 3 emit 0\ncode 4 ret\ncode 5 set 0 10\ncode 6 emit 0\ncode 7 ret\n"
+    "image 1 4 40 0 8 0\nirq A 3 224 5 2\nirq B 7 224 2 2\ncode 0 serve ; end init\ncode 1 wait\n"
+    ++ codes "code 2 set 0 20\ncode 3 emit 0\ncode 4 ret\ncode 5 set 0 10\ncode 6 emit 0\ncode 7 ret\n"
 unfolding two_image digits
 two_listing = refl
 

@@ -117,7 +117,8 @@ module _ {all left : List GivingDevice} {old new : List TakerSide} (far : Gather
         parts = popped_parts;
         takers_are =
             is x
-            ∙ ap (λ (ts : List TakerSide). slice_set ts (length rest) (gathered_one (get_or ts (length rest) x) d.giver))
+            ∙ ap (λ (ts : List TakerSide). slice_set ts (length rest)
+            (gathered_one (get_or ts (length rest) x) d.giver))
             now
             ∙ back_more (length rest) old d far.done x (gathers_within same);
       }

@@ -130,7 +130,8 @@ module _ (app : App) (board : Board) (m : Machine) (words : List ℕ) (fresh : I
             one = b.one;
             leads = from_reset (b.told ++ b.last) n b.leads;
             lines =
-                subst (λ (at : Moment). (b.told ++ b.last ≡ []) ⊎ TookAtLeast v t (front ++ text_at app board at b.told))
+                subst (λ (at : Moment). (b.told ++ b.last ≡ []) ⊎ TookAtLeast v t
+                (front ++ text_at app board at b.told))
                 same_start b.lines;
             all = b.all;
           },
@@ -142,7 +143,8 @@ module _ (app : App) (board : Board) (m : Machine) (words : List ℕ) (fresh : I
         → Puts (total_text n.steps) q r y z h i → Puts account r s z t i j → Came s n v t f j
     run_came n words' p q r s v x y z t f g h i j one two three four =
         came s n v t f j
-        (comes_of app board hs start (moment n words') front (total_text (steps (events_of hs))) account p q r s v x y z t f
+        (comes_of app board hs start (moment n words') front (total_text (steps (events_of hs)))
+        account p q r s v x y z t f
         g h i j one two
         (puts_other q r (total_text n.steps) (total_text (steps (events_of hs))) y z h i
         (λ went. ap total_text (all_steps app board hs p q start (moment n words') x y g h fresh.steps two went)) three)

@@ -136,7 +136,8 @@ module _ (app : App) (board : Board) (script : List GivenLine) (kinds : List Box
       ∙ ap (λ (ts : List TakerSide). took_all ts last.found) (took
       ∙ ap (λ (ts : List TakerSide). gathered_all ts ended) (own.takers_are
       ∙ ap (λ (ts : List TakerSide). took_all ts own.found) takers_are))))
-      (have_taken script kinds ms givers ended are gave many own.found last.found own_many (longs a.machine.image.names own.found own.each)
+      (have_taken script kinds ms givers ended are gave many own.found last.found own_many
+      (longs a.machine.image.names own.found own.each)
       (longs b.machine.image.names last.found last.each))
 
   pub has_gone : HasGone app board script kinds p r third takers3 a c x z f h

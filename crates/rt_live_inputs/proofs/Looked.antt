@@ -156,7 +156,8 @@ module _ {k : ℕ} {app : App} {board : Board} {u v : Bool} {line l : Line} {a b
       pub row_skips : (m : Line) → m ≡ line_with l (Latch (word_in_row l.here k) word ∷ []) → word ≡ 0
           → RowSoFar (k + 1) app board u v line m a b x y f g
       row_skips m call none =
-          row_more m call (goes_same app board [] (come (arrivals k word)) v v b b y y g g (sym (ap come (zero_arrives k word none)))
+          row_more m call (goes_same app board [] (come (arrivals k word)) v v b b y y g g
+          (sym (ap come (zero_arrives k word none)))
           (goes_none app board v b y g))
 
   -- all of them
@@ -245,7 +246,8 @@ boxes_none app board kinds u ts a x f = record {
   many = refl;
   small = tt;
   takers_are = sym (took_none ts);
-  goes = goes_same app board [] (flat_map box_happenings (zip kinds none_waited)) u u a a x x f f (sym (none_zipped kinds)) (goes_none app board u a x f);
+  goes = goes_same app board [] (flat_map box_happenings (zip kinds none_waited)) u u a a x x f f
+      (sym (none_zipped kinds)) (goes_none app board u a x f);
 }
 
 module _ {n : ℕ} {app : App} {board : Board} {kinds : List Box} {u v : Bool} {ts ts' : List TakerSide} {a b : Moment}
@@ -332,7 +334,8 @@ module _ {app : App} {board : Board} {u v : Bool} {line l : Line} {a b : Moment}
   looked_image : b.machine.image ≡ a.machine.image
   looked_image = same_image app board (map Comes (look_arrivals row.found)) u v a b x y f g row.goes
 
-  pub looked_take : {kinds : List Box} {n : ℕ} {mailboxes : List TableId} {takers : List TakerSide} → CanTake n a.machine kinds mailboxes takers
+  pub looked_take : {kinds : List Box} {n : ℕ} {mailboxes : List TableId} {takers : List TakerSide}
+      → CanTake n a.machine kinds mailboxes takers
       → CanTake n b.machine kinds mailboxes takers
   looked_take {kinds} can = record {
     kinds = can.kinds;

@@ -184,7 +184,8 @@ module _ (script : List GivenLine) (kinds : List Box) (ms : List TableId) (ds ds
         ∙ ap (λ (u : TakerSide). gathered_one u device.giver)
         (all_index (map new_taker ms) own k d (omega (arith, within, new_long))
         (long_for (map new_taker ms) own new_long own_long)
-        ∙ ap (λ (u : TakerSide). taken_by u (box_calls k own)) (new_index ms k d m (omega (arith, within, many.0))))) in (
+        ∙ ap (λ (u : TakerSide). taken_by u (box_calls k own)) (new_index ms k d m
+        (omega (arith, within, many.0))))) in (
           (
             ap (λ (u : TakerSide). u.gathered) is,
             ap (λ (u : TakerSide). u.calls) is

@@ -26,7 +26,8 @@ use Rattle.rt_inputs.proofs.Moved.{happened_more}
 use Rattle.rt_values.specs.Sides.{TakerSide}
 use Rattle.rt_values.specs.declared.call.Call.TheVariants.{Take}
 use Rattle.rt_live_inputs.specs.declared.boxes.BoxKind.{BoxKind as Box}
-use Rattle.rt_live_inputs.specs.Looking.{Found, Happens, Looks, InputTurn, box_happenings, happenings_of, look_happenings}
+use Rattle.rt_live_inputs.specs.Looking.{Found, Happens, Looks, InputTurn, box_happenings, happenings_of}
+use Rattle.rt_live_inputs.specs.Looking.{look_happenings}
 use Rattle.rt_live_inputs.specs.Looking.{looks}
 use Rattle.rt_live_inputs.specs.Inside.Able.{CanLatch, CanTake, CanTurn}
 use Rattle.rt_live_inputs.specs.Inside.Going.{CameOf}
@@ -105,7 +106,8 @@ module _ {app : App} {board : Board} {boxes : List Box} where
     each = tt;
     line_is = same_line l;
     takers_are = refl;
-    goes = goes_same app board hs (happenings_of boxes (map Happens hs) []) u w a b x y f g (sym (happenings_alone boxes hs)) goes;
+    goes = goes_same app board hs (happenings_of boxes (map Happens hs) []) u w a b x y f g
+        (sym (happenings_alone boxes hs)) goes;
   }
 
   pub turns_same : {us vs : List InputTurn} {u w : Bool} {l m : Line} {ts ts' : List TakerSide} {a b : Moment}
@@ -221,7 +223,8 @@ calls_left (t ∷ ts) [] n room = (omega (arith, room.0), fewer ts room.1)
     fewer : (ts : List TakerSide) → AllByRecursion (HasCalls (suc n)) ts → AllByRecursion (HasCalls n) ts
     fewer [] room = tt
     fewer (t ∷ ts) room = (omega (arith, room.0), fewer ts room.1)
-calls_left (t ∷ ts) (w ∷ ws) n room = (omega (arith, length-append t.calls (Take w ∷ []), room.0), calls_left ts ws n room.1)
+calls_left (t ∷ ts) (w ∷ ws) n room =
+    (omega (arith, length-append t.calls (Take w ∷ []), room.0), calls_left ts ws n room.1)
 
 calls_all : (ts : List TakerSide) (found : List Found) (n : ℕ)
     → AllByRecursion (HasCalls (length found + n)) ts → AllByRecursion (HasCalls n) (took_all ts found)

@@ -102,10 +102,12 @@ module _ (app : App) (board : Board) (script : List GivenLine) (m n : Machine) (
 
   pub image_kept : n.image ≡ m.image
   image_kept =
-      same_image app board (happenings_of kinds (turns script) gone.found) p q (moment m words) (moment n words') x y g h
+      same_image app board (happenings_of kinds (turns script) gone.found) p q (moment m words)
+      (moment n words') x y g h
       gone.goes
 
-  module _ (row : Row) (counted : List AccountRow) (none : held_in words ≡ no_words) (scripted : IsScript (plain script))
+  module _ (row : Row) (counted : List AccountRow) (none : held_in words ≡ no_words)
+      (scripted : IsScript (plain script))
       (named : HasNames m.image.names (asked script)) (kinds_are : kinds ≡ boxes script) (few : length kinds ≤ 8192)
       (gathered : AreGathered m.image.names (plain script) row line counted) (bits : List ℕ) (own : Tally)
       (one : OneHistory line bits) (told : IsTally line.here line.there line.calls own)
@@ -136,7 +138,8 @@ module _ (app : App) (board : Board) (script : List GivenLine) (m n : Machine) (
         (last : Puts (account_text names rows) r s z t i j) where
       abbrev are : AreHistories script gone.found
       are =
-          are_histories names script row line counted gone.found kinds takers bits scripted gathered one behind gone.many
+          are_histories names script row line counted gone.found kinds takers bits scripted gathered one behind
+          gone.many
           gone.each gone.latched kinds_are gone.taken histories
 
       told_rows : rows ≡ rows_of names (boxes script) are.entries are.calls
@@ -147,7 +150,8 @@ module _ (app : App) (board : Board) (script : List GivenLine) (m n : Machine) (
 
       all_came : Came app board m words fresh none script gone.found are declared rows told_rows front s n v t f j
       all_came =
-          run_came app board m words fresh none script gone.found are declared rows told_rows front n words' p q r s v x y
+          run_came app board m words fresh none script gone.found are declared rows told_rows front n words' p q r s v
+          x y
           z t f g h i j first
           (subst (λ (ks : List Box). CameOf app board (happenings_of ks (turns script) gone.found) p q (moment m words)
           (moment n words') x y g h) kinds_are gone.goes) third last

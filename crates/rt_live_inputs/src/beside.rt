@@ -103,7 +103,8 @@ pub(crate) fn beside<R: Threads + Sync, K: Sink, G: Gate + Sync>(
     join_mut(
         rt,
         &mut ||
-            requires { IsSync R.row × IsSync G.row × All (CanWork words.now) devices.now × AllCanGive boxes.now givers.now }
+            requires { IsSync R.row × IsSync G.row × All (CanWork words.now) devices.now
+                × AllCanGive boxes.now givers.now }
             ensures worked { AllWork devices.entry.now devices.exit.now }
             ensures gave { AllGave givers.entry.now givers.exit.now }
         { work_all(rt, words, boxes, gate, devices, givers) },

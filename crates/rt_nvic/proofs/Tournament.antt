@@ -1,6 +1,6 @@
 -- The tournament of keys: one leaf after another, and the least of all.
-use Rattle.std.proofs.Common.{◌≡◌, ◌≢◌, ℕ, zero, suc, ◌+◌, ◌-◌, ◌*◌, ◌/◌, ◌%◌, ◌<◌, ◌≤◌, ◌⊎◌, inl, inr, min, List, length}
-use Rattle.std.proofs.Common.{get_or, set, sym, ap, subst, ◌∙◌, ⊎_elim, arith, get_or-set_same, get_or-set_other}
+use Rattle.std.proofs.Common.{◌≡◌, ◌≢◌, ℕ, zero, suc, ◌+◌, ◌-◌, ◌*◌, ◌/◌, ◌%◌, ◌<◌, ◌≤◌, ◌⊎◌, inl, inr, min, List}
+use Rattle.std.proofs.Common.{length, get_or, set, sym, ap, subst, ◌∙◌, ⊎_elim, arith, get_or-set_same, get_or-set_other}
 use Rattle.std.proofs.lemmas.Bool.{cases_lt}
 use native.Mathlib.Decide.{ℕ_discrete}
 use Rattle.rt_nvic.specs.declared.sizes.TheConstants.{LEAVES, NODES}
@@ -43,7 +43,8 @@ but_one_above_by nodes p v i (no differs) some low e here within ne is =
 
 -- once the node above has the lesser of both
 pub but_one_above : (nodes : List ℕ) (p v : ℕ) → 0 < p → p < length nodes
-    → v ≡ min (get_or nodes (2 * p) 0) (get_or nodes (2 * p + 1) 0) → IsButOne nodes p → IsButOne (set nodes p v) (p / 2)
+    → v ≡ min (get_or nodes (2 * p) 0) (get_or nodes (2 * p + 1) 0) → IsButOne nodes p
+    → IsButOne (set nodes p v) (p / 2)
 but_one_above nodes p v some low e is = record {
   each = λ i here within ne. but_one_above_by nodes p v i (ℕ_discrete i p) some low e here within ne is;
 }

@@ -1,5 +1,5 @@
--- What a command of `rtic` reads: texts of these kinds, one of each of its sources, in this order. A kind has a bound on
--- the bytes of its texts, and a text is of its kind or is refused, not both (`OneOfEachKind`).
+-- What a command of `rtic` reads: texts of these kinds, one of each of its sources, in this order. A kind has a bound
+-- on the bytes of its texts, and a text is of its kind or is refused, not both (`OneOfEachKind`).
 use Rattle.std.specs.Prelude.{◌≡◌, ℕ, List, [], ◌∷◌}
 use Rattle.rt_ids.specs.declared.limits.TheConstants.{TEXT_BYTES, SCRIPT_BYTES, TRACE_BYTES}
 use Rattle.rt_ids.specs.declared.status.Status.{Status}
@@ -23,6 +23,7 @@ use Rattle.rt_top.specs.Refusal.{RefusesText, RefusesApplication, RefusesOther}
 use Rattle.rt_top.specs.SecondRefusal.{RefusesScript, RefusesTrace, RefusesLimits}
 use Rattle.rt_top.specs.Verified.{RefusesListing}
 
+-- what a text is that a command reads
 pub data TextKind : Type 0 where
   -- an application that need only be in the grammar and within the limits
   Tree : TextKind

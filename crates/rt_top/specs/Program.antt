@@ -1,5 +1,5 @@
--- What a program is: its commands, the words that name each, the kinds of the texts that each reads, and what each is to
--- write for them. `rtic` is one (`Rtic.antt`), and what is said of every program is said once, over such a record.
+-- What a program is: its commands, the words that name each, the kinds of the texts that each reads, and what each is
+-- to write for them. `rtic` is one (`Rtic.antt`), and what is said of every program is said once, over such a record.
 use Rattle.std.specs.Prelude.{ℕ, List, [], ◌∷◌}
 use Rattle.rt_ids.specs.declared.status.Status.{Status}
 

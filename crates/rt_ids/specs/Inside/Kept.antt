@@ -1,6 +1,6 @@
 -- The names that maps in order of insertion keep, with a table of interrupts by their numbers.
-use Rattle.std.specs.Prelude.{◌≡◌, ℕ, ◌==◌, List, map, position, Option, Some, None, slice_index_or, slice_set, unwrap_or}
-use Rattle.std.specs.Prelude.{Vec}
+use Rattle.std.specs.Prelude.{◌≡◌, ℕ, ◌==◌, List, map, position, Option, Some, None, slice_index_or, slice_set}
+use Rattle.std.specs.Prelude.{unwrap_or, Vec}
 use Rattle.std.specs.Global.{Global}
 use Rattle.rt_ids.specs.Names.{Names, AreNames}
 

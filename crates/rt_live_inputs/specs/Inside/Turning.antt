@@ -63,7 +63,8 @@ pub record LooksAtBoxes (app : App) (board : Board) (boxes : List Box) (was is :
   pub goes : CameOf app board (flat_map box_happenings (zip boxes waited)) was is old new before after faults faults'
 
 -- these turns were done
-pub record Turns (app : App) (board : Board) (boxes : List Box) (ts : List InputTurn) (was is : Bool) (line line' : Line)
+pub record Turns (app : App) (board : Board) (boxes : List Box) (ts : List InputTurn) (was is : Bool)
+    (line line' : Line)
     (takers takers' : List TakerSide) (old new : Moment) (before after : List ℕ) (faults faults' : ℕ) : Type 0 where
   pub found : List Found
   pub many : length found ≡ looks ts

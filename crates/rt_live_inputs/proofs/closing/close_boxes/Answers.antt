@@ -4,7 +4,8 @@ use Rattle.rt_lemmas.proofs.Lists.{all_behind}
 use Rattle.std.specs.List.{AllByRecursion}
 use Rattle.rt_values.specs.Sides.{TakerSide}
 use Rattle.rt_live_inputs.specs.declared.boxes.BoxKind.{BoxKind}
-use Rattle.rt_live_inputs.proofs.Ends.{closed_histories, closed_rows, closes_boxes, closes_more, closes_none, closes_parts}
+use Rattle.rt_live_inputs.proofs.Ends.{closed_histories, closed_rows, closes_boxes, closes_more, closes_none}
+use Rattle.rt_live_inputs.proofs.Ends.{closes_parts}
 use Rattle.rt_live_inputs.proofs.Ends.{closes_room, rows_fit}
 use Rattle.rt_live_inputs.proofs.closing.close_boxes.Goals as goal
 

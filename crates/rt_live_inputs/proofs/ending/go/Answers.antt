@@ -22,7 +22,8 @@ use Rattle.rt_live_inputs.proofs.ending.go.Goals as goal
 pub beside-requires-clause-can : goal.beside-requires-clause-can
 beside-requires-clause-can g c κs within =
     let q = c.requires in
-    can_start _ _ c.args.script.now _ _ _ _ _ _ _ _ c.args.givers.items q.can q.fresh q.lines q.script q.declared q.ready q.kinds q.takers q.givers _
+    can_start _ _ c.args.script.now _ _ _ _ _ _ _ _ c.args.givers.items q.can q.fresh q.lines q.script q.declared
+    q.ready q.kinds q.takers q.givers _
     (omega (arith, q.script.few))
 
 pub beside-requires-clause-work : goal.beside-requires-clause-work
@@ -75,7 +76,8 @@ last_turns-requires g c =
       can =
           can_turn_gathered _ _ c.gather_devices.ensures.line c.gather_boxes.ensures
           (can_turn_on c.beside.ensures.turns (c.own_steps-times.result + 2)
-          (can_start _ _ c.args.script.now _ _ _ _ _ _ _ _ c.args.givers.items q.can q.fresh q.lines q.script q.declared q.ready q.kinds q.takers
+          (can_start _ _ c.args.script.now _ _ _ _ _ _ _ _ c.args.givers.items q.can q.fresh q.lines q.script
+          q.declared q.ready q.kinds q.takers
           q.givers 3000000 (omega arith))
           (omega (arith, lines_happen script, c.own_steps-times.ensures, own_few script, q.script.few))
           (omega (arith, own_looks script, c.own_steps-times.ensures, own_few script, q.script.few)));

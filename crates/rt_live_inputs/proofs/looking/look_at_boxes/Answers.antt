@@ -8,7 +8,8 @@ use Rattle.rt_inputs.specs.Inside.Ran.{moment}
 use Rattle.rt_values.specs.Sides.{TakerSide}
 use Rattle.rt_live_inputs.specs.declared.boxes.BoxKind.{BoxKind}
 use Rattle.rt_live_inputs.proofs.Ends.{mailbox_at}
-use Rattle.rt_live_inputs.proofs.Looked.{boxes_all, boxes_at, boxes_can, boxes_image, boxes_none, boxes_skip, boxes_some}
+use Rattle.rt_live_inputs.proofs.Looked.{boxes_all, boxes_at, boxes_can, boxes_image, boxes_none, boxes_skip}
+use Rattle.rt_live_inputs.proofs.Looked.{boxes_some}
 use Rattle.rt_live_inputs.proofs.looking.look_at_boxes.Goals as goal
 
 pub loop-kind-init : goal.loop-kind-init

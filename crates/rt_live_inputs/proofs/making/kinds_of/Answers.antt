@@ -15,7 +15,8 @@ pub loop-line-preserved-then-has_box : goal.loop-line-preserved-then-has_box
 loop-line-preserved-then-has_box c =
     let kind : BoxKind = c.in-Some.kind in
     let known : List BoxKind = c.loop-line.kinds.items in
-    ap (λ (b : Bool). if b then known else known ++ kind ∷ []) (sym c.if-has_box.true ∙ c.has_box.ensures ∙ ap (λ (ks : List BoxKind). list_any (is_same kind) ks) c.deref.ensures.value)
+    ap (λ (b : Bool). if b then known else known ++ kind ∷ []) (sym c.if-has_box.true ∙ c.has_box.ensures
+    ∙ ap (λ (ks : List BoxKind). list_any (is_same kind) ks) c.deref.ensures.value)
     ∙ ap (λ (ks : List BoxKind). with_box ks kind) c.loop-line.invariant
     ∙ sym (boxes_with c.args.lines.now c.loop-line.line-index c.line-item.result c.loop-line-test.true c.line-item.is
     kind (ap option_to_list (sym c.in-Some.is) ∙ c.box_of.ensures))
@@ -25,7 +26,8 @@ loop-line-preserved c =
     let kind : BoxKind = c.in-Some.kind in
     let known : List BoxKind = c.loop-line.kinds.items in
     c.in_ok-push.ensures.items
-    ∙ ap (λ (b : Bool). if b then known else known ++ kind ∷ []) (sym c.if-has_box.false ∙ c.has_box.ensures ∙ ap (λ (ks : List BoxKind). list_any (is_same kind) ks) c.deref.ensures.value)
+    ∙ ap (λ (b : Bool). if b then known else known ++ kind ∷ []) (sym c.if-has_box.false ∙ c.has_box.ensures
+    ∙ ap (λ (ks : List BoxKind). list_any (is_same kind) ks) c.deref.ensures.value)
     ∙ ap (λ (ks : List BoxKind). with_box ks kind) c.loop-line.invariant
     ∙ sym (boxes_with c.args.lines.now c.loop-line.line-index c.line-item.result c.loop-line-test.true c.line-item.is
     kind (ap option_to_list (sym c.in-Some.is) ∙ c.box_of.ensures))

@@ -11,7 +11,8 @@ use Rattle.rt_live.proofs.Vocabulary.{take_at}
 use Rattle.rt_values.specs.Sides.{TakerSide}
 use Rattle.rt_live_inputs.specs.Inside.Going.{Puts}
 use Rattle.rt_live_inputs.specs.Inside.Making.{HasRoomFor, HaveHistories, with_takers}
-use Rattle.rt_live_inputs.proofs.Whole.{all_taken, image_kept, kinds_long, ran_all, ran_part, rows_have_room, steps_small}
+use Rattle.rt_live_inputs.proofs.Whole.{all_taken, image_kept, kinds_long, ran_all, ran_part, rows_have_room}
+use Rattle.rt_live_inputs.proofs.Whole.{steps_small}
 use Rattle.rt_live_inputs.proofs.running.run.Goals as goal
 
 pub put_total-requires : goal.put_total-requires
@@ -60,7 +61,8 @@ close_boxes-requires-clause-room g c =
     (λ i. (
       ap length (kinds ∙ sym c.deref-3.ensures.value) i,
       sym (c.deref_mut-4.ensures.value
-          ∙ take_at c.enter_left.new.rows _ _ (c.enter_left.auto.rows ∙ c.deref_mut-3.ensures.len) ∙ c.enter_left.ensures
+          ∙ take_at c.enter_left.new.rows _ _ (c.enter_left.auto.rows ∙ c.deref_mut-3.ensures.len)
+          ∙ c.enter_left.ensures
           ∙ ap (λ (rs : List AccountRow). map (settled_row 0 c.close-left.result.bits)
           (map (with_counts 0 0 0 c.close-left.result.own) rs)) (c.deref_mut-3.ensures.value
           ∙ take_at c.go.new.rows _ _ (c.go.auto.rows ∙ c.deref_mut-2.ensures.len))) i,

@@ -30,7 +30,8 @@ returns-in-Pends g c =
     (turns_happen (repeated c.in-Pends.count (Comes (Arrive c.in-Pends.irq) ∷ [])) c.often-in-Pends.ensures)
 
 pub returns-in-Gives : goal.returns-in-Gives
-returns-in-Gives g c = turns_same (sym (ap line_turns c.in-Gives.is)) (turns_happen (Gives c.in-Gives.local c.in-Gives.word ∷ []) c.happen.ensures)
+returns-in-Gives g c = turns_same (sym (ap line_turns c.in-Gives.is))
+    (turns_happen (Gives c.in-Gives.local c.in-Gives.word ∷ []) c.happen.ensures)
 
 pub returns-in-Device : goal.returns-in-Device
 returns-in-Device g c = turns_same (sym (ap line_turns c.in-Device.is)) turns_none

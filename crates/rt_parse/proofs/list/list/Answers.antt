@@ -12,8 +12,8 @@ returns-in_err-item g c =
     let open_ = sym c.goes_past.ensures ∙ c.loop-alloc-test.true in
     let count : c.len.result ≡ length c.loop-alloc.items.items =
     omega (arith, c.loop-alloc.items.ok.0, c.len.ensures) in
-    rw (p.1, p.2) (item_stops c.args.closing.now (adds_at g.T.ListItem.reads) c.loop-alloc.items.items c.loop-alloc.rest []
-    c.args.tokens c.in_err-item.field-0.0 open_
+    rw (p.1, p.2) (item_stops c.args.closing.now (adds_at g.T.ListItem.reads) c.loop-alloc.items.items c.loop-alloc.rest
+    [] c.args.tokens c.in_err-item.field-0.0 open_
     (not_added g.T.ListItem.reads c.loop-alloc.items.items c.loop-alloc.rest c.in_err-item.field-0.0 c.args.closing.now
     open_ (subst (λ n. Stops c.in_err-item.field-0.0 (g.T.ListItem.reads n c.loop-alloc.rest)) count
     c.in_err-item.ensures.given)) c.loop-alloc.invariant)
@@ -27,8 +27,8 @@ returns-in_err-rest g c =
     let got = added g.T.ListItem.reads c.loop-alloc.items.items c.loop-alloc.rest c.in_ok-item.item c.in_ok-item.behind
     c.args.closing.now open_ (ap (λ n. g.T.ListItem.reads n c.loop-alloc.rest) (sym count) ∙ c.in_ok-item.ensures.given)
     in
-    rw (p.1, p.2) (comma_stops c.args.closing.now (adds_at g.T.ListItem.reads) c.loop-alloc.items.items c.loop-alloc.rest []
-    c.args.tokens c.in_err-rest.field-0.0 _ c.in_ok-item.behind c.in_ok-item.ensures.shorter open_ got
+    rw (p.1, p.2) (comma_stops c.args.closing.now (adds_at g.T.ListItem.reads) c.loop-alloc.items.items c.loop-alloc.rest
+    [] c.args.tokens c.in_err-rest.field-0.0 _ c.in_ok-item.behind c.in_ok-item.ensures.shorter open_ got
     c.in_err-rest.ensures c.loop-alloc.invariant)
 
 pub loop-alloc-smaller : goal.loop-alloc-smaller
@@ -50,8 +50,8 @@ loop-alloc-preserved g c =
 pub returns-in_err-rest-2 : goal.returns-in_err-rest-2
 returns-in_err-rest-2 g c =
     let p = err_from_is_err_and c.from_residual-in_err-rest-2.result c.from_residual-in_err-rest-2.ensures.1 in
-    rw (p.1, p.2) (sign_stops c.args.closing.now (adds_at g.T.ListItem.reads) c.loop-alloc.items.items c.loop-alloc.rest []
-    c.args.tokens c.in_err-rest-2.field-0.0 (none_added g.T.ListItem.reads c.loop-alloc.items.items)
+    rw (p.1, p.2) (sign_stops c.args.closing.now (adds_at g.T.ListItem.reads) c.loop-alloc.items.items c.loop-alloc.rest
+    [] c.args.tokens c.in_err-rest-2.field-0.0 (none_added g.T.ListItem.reads c.loop-alloc.items.items)
     (sym c.goes_past.ensures ∙ c.loop-alloc-test.false) c.in_err-rest-2.ensures c.loop-alloc.invariant)
 
 pub returns : goal.returns

@@ -17,7 +17,8 @@ returns-clause-state c =
     let one : 1 - c.go_some.new.left ≡ 1 = omega (arith, c.go_some.ensures.fewer) in
     let done : stepping.step c.self.inside.program (core c.self.inside)
     ≡ (c.go_some.new.self.core, c.go_some.result) =
-    one_done c.self.inside.program (core c.self.inside) c.go_some.new.self.core (1 - c.go_some.new.left) c.go_some.result
+    one_done c.self.inside.program (core c.self.inside) c.go_some.new.self.core (1 - c.go_some.new.left)
+    c.go_some.result
     c.go_some.ensures.reached one in
     let there : c.go_some.new.self
     ≡ record { image = c.self.inside.program; core = c.go_some.new.self.core; steps = c.self.inside.steps + 1 } =
