@@ -19,8 +19,8 @@ use Rattle.rt_points.specs.Point.{Point, sections}
 use Rattle.rt_points.specs.declared.point.Owner.TheVariants.{Starting, Thread, Handling}
 use Rattle.rt_points.specs.ExecutionPriority.{owner_value}
 use Rattle.rt_judge.specs.Inside.Kept.{EntersBy, FreeAt}
-use Rattle.rt_judge.specs.Inside.Entering.{Enterer, priority_after, IsGreatestValue, IsLeastOrNone}
-use Rattle.rt_judge.specs.Inside.Entering.{IsEntering}
+use Rattle.rt_points.specs.Rules.{priority_after}
+use Rattle.rt_judge.specs.Inside.Entering.{Enterer, IsGreatestValue, IsLeastOrNone, IsEntering}
 use Rattle.rt_judge.specs.Inside.Entering.{TellsOfSections, least, with_entering, row_with_entering, rows_with_entering}
 use Rattle.rt_judge.specs.Inside.Entering.{EntersNone, AreApart}
 use Rattle.rt_judge.specs.Inside.Values.{outside_value}

@@ -60,7 +60,7 @@ module _ (img : Image) (owner : Owner) (starts : List Spot) (old new : Findings)
       some_of x y e = cc
 
 -- who runs behind an instruction is who ran, or the thread behind `init`
-serves : (i : Instr) (owner : Owner) → (owner_after i owner ≡ owner)
+pub serves : (i : Instr) (owner : Owner) → (owner_after i owner ≡ owner)
     ⊎ ((owner ≡ Starting) × (owner_after i owner ≡ Thread))
 serves instr.Serve Starting = inr (refl, refl)
 serves i owner = inl refl
@@ -205,7 +205,7 @@ looks_nowhere img index f none = record {
   finds = λ ps found. subst (λ (qs : List Point). Finds img qs f) (sym (append-nil ps)) found;
 }
 
-thread_only : (o : Owner) → IsBelow 0 o → IsThread o
+pub thread_only : (o : Owner) → IsBelow 0 o → IsThread o
 thread_only Starting is = inl refl
 thread_only Thread is = inr refl
 thread_only (Handling index) is = absurd (omega (arith, is))
@@ -213,7 +213,7 @@ thread_only (Handling index) is = absurd (omega (arith, is))
 pub looked_none : (img : Image) (a b : Findings) → Finds img [] a → Looks img IsThread a b → LookedBelow img 0 b
 looked_none img a b found looks = (a, found, looks_weaker img IsThread (IsBelow 0) a b thread_only looks)
 
-one_more : (n : ℕ) (o : Owner) → IsBelow (n + 1) o → IsBelow n o ⊎ IsOf n o
+pub one_more : (n : ℕ) (o : Owner) → IsBelow (n + 1) o → IsBelow n o ⊎ IsOf n o
 one_more n Starting is = inl tt
 one_more n Thread is = inl tt
 one_more n (Handling index) is = ⊎_elim (λ same. inr (ap Handling same)) (λ apart. inl (omega (arith, is, apart)))
@@ -224,7 +224,7 @@ pub looked_more : (img : Image) (n : ℕ) (a b : Findings) → LookedBelow img n
 looked_more img n a b looked looks =
     (looked.0, looked.1, looks_then img (IsBelow n) (IsOf n) (IsBelow (n + 1)) looked.0 a b (one_more n) looked.2 looks)
 
-below_more : (n m : ℕ) (o : Owner) → n ≤ m → IsBelow n o → IsBelow m o
+pub below_more : (n m : ℕ) (o : Owner) → n ≤ m → IsBelow n o → IsBelow m o
 below_more n m Starting le is = tt
 below_more n m Thread le is = tt
 below_more n m (Handling index) le is = omega (arith, le, is)

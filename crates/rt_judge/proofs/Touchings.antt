@@ -40,11 +40,11 @@ some_or true c P Q on one back (q, a, is) = (q, a, on q a is)
 some_or false true P Q on one back none = one refl
 some_or false false P Q on one back none = λ q a is. none q a (back refl q a is)
 
-store_test : (a : Access) → is_stored (Some a) ≡ true → IsStore a
+pub store_test : (a : Access) → is_stored (Some a) ≡ true → IsStore a
 store_test (Loads cell) is = absurd cc
 store_test (Stores cell) is = tt
 
-test_store : (a : Access) → IsStore a → is_stored (Some a) ≡ true
+pub test_store : (a : Access) → IsStore a → is_stored (Some a) ≡ true
 test_store (Loads cell) is = absurd is
 test_store (Stores cell) is = refl
 

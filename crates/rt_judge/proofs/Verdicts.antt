@@ -20,15 +20,14 @@ use Rattle.rt_points.specs.Leading.{IsPoint}
 use Rattle.rt_points.specs.ExecutionPriority.{owner_value}
 use Rattle.rt_points.specs.Point.{Point}
 use Rattle.rt_points.specs.Rules.{NestsInOneWay, HasRightNumbers, StaysInCode, OperatesWell, NotesWell, EntersWell}
-use Rattle.rt_points.specs.Rules.{GuardsCells}
+use Rattle.rt_points.specs.Rules.{GuardsCells, priority_after}
 use Rattle.rt_points.specs.Rules.{EntersAt, Touches, IsContended, IsGuardedBy}
 use Rattle.rt_points.specs.Rules.{IsStore, HasItsCell}
 use Rattle.rt_points.specs.declared.point.Owner.TheVariants.{Starting}
 use Rattle.rt_points.specs.declared.rule.Rule.{Rule}
 use Rattle.rt_points.specs.declared.rule.Rule.TheVariants as rule
 use Rattle.rt_judge.specs.Inside.Kept.{HasLine, OperatesAt, NotesAt, FreeAt}
-use Rattle.rt_judge.specs.Inside.Entering.{Enterer, IsEntering, IsLeastOrNone, holds_off}
-use Rattle.rt_judge.specs.Inside.Entering.{priority_after, none_or}
+use Rattle.rt_judge.specs.Inside.Entering.{Enterer, IsEntering, IsLeastOrNone, holds_off, none_or}
 use Rattle.rt_judge.specs.Inside.Touching.{Toucher, TellsOfTouching, SomeIfTrue, is_row_guarded}
 use Rattle.rt_judge.specs.Inside.Looks.{Looked}
 use Rattle.rt_judge.specs.declared.entering.Entering.{Entering}

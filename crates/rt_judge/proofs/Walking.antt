@@ -117,7 +117,7 @@ module _ (old new : Reached) (spot : Spot) (added : IsAdded old new spot) (absen
       (λ apart. added.others s.address apart ∙ has)
       (cases_eq spot.address s.address)
 
-  is_one : (s : Spot) → Has new s → (s ≡ spot) ⊎ Has old s
+  pub is_one : (s : Spot) → Has new s → (s ≡ spot) ⊎ Has old s
   is_one s has = ⊎_elim
       (λ same. inl (let n : s.inside ≡ spot.inside =
       some_of s.inside spot.inside (sym has ∙ ap new (sym same) ∙ has_new) in

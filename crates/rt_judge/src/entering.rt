@@ -28,11 +28,11 @@ pub struct Entering {
 #[derive(Drop)]
 pub struct Sections {
     /// One for each section that is entered.
-    rows: Vec<Entering>,
+    pub rows: Vec<Entering>,
     /// By the address of an entering the index at which its row was found: it is tried first the next time.
     places: Vec<usize>,
     /// Nobody enters a section that he is inside.
-    free: bool,
+    pub free: bool,
 }
 
 /// The lesser of two values that may not be there.
@@ -47,7 +47,7 @@ fn least(one: Option<u32>, other: Option<u32>) -> Option<u32>
 }
 
 /// The section that a note enters.
-fn entered_section(note: &Option<Note>) -> Option<Section>
+pub fn entered_section(note: &Option<Note>) -> Option<Section>
     ensures { MatchOption result (spec.EntersNone note.now) (λ x. note.now ≡ Some (Note.Enter x)) }
 {
     match *note {
@@ -58,7 +58,7 @@ fn entered_section(note: &Option<Note>) -> Option<Section>
 
 impl Entering {
     /// Whether each entering holds off everyone who enters.
-    fn holds_off(&self) -> bool
+    pub fn holds_off(&self) -> bool
         ensures { result ≡ spec.holds_off self.now }
     {
         match self.value {

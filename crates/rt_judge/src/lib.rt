@@ -4,17 +4,17 @@
 // Read next: src/verdict.rt, then src/walk.rt.
 #![tactic(auto)]
 
-mod entering;
-mod execution_priority;
-mod exits;
-mod findings;
-mod nesting;
-mod notes;
-mod numbers;
-mod operands;
-mod table;
-mod touching;
+pub mod entering;
+pub mod execution_priority;
+pub mod exits;
+pub mod findings;
+pub mod nesting;
+pub mod notes;
+pub mod numbers;
+pub mod operands;
+pub mod table;
+pub mod touching;
 pub mod verdict;
-mod walk;
+pub mod walk;
 
 pub use verdict::{Verified, judge};

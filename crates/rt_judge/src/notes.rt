@@ -39,7 +39,7 @@ fn closes_innermost(opened: &[Opened], section: Section, instr: &Instr) -> bool
 }
 
 /// Whether a note stands where it may.
-fn stands_on(owner: Owner, opened: &[Opened], note: &Option<Note>, instr: &Instr) -> bool
+pub fn stands_on(owner: Owner, opened: &[Opened], note: &Option<Note>, instr: &Instr) -> bool
     ensures { IsTrue result ↔ rules.StandsOn owner opened.now note.now instr.now }
 {
     match *note {
@@ -55,7 +55,7 @@ fn stands_on(owner: Owner, opened: &[Opened], note: &Option<Note>, instr: &Instr
 }
 
 /// Whether an instruction that changes a mask has its note.
-fn has_its_note(instr: &Instr, note: &Option<Note>) -> bool
+pub fn has_its_note(instr: &Instr, note: &Option<Note>) -> bool
     ensures { IsTrue result ↔ rules.HasItsNote instr.now note.now }
 {
     match *instr {
@@ -94,7 +94,7 @@ fn saves(kind: SectionKind, slot: u32) -> bool
 }
 
 /// Whether an instruction writes no slot that an open section saved.
-fn is_unsaved(opened: &[Opened], instr: &Instr) -> bool
+pub fn is_unsaved(opened: &[Opened], instr: &Instr) -> bool
     ensures { IsTrue result ↔ rules.IsUnsaved opened.now (rules.written_slot instr.now) }
 {
     match written_slot(instr) {
@@ -111,7 +111,7 @@ fn is_mask(kind: SectionKind) -> bool
 }
 
 /// Whether a mask is set where it has an effect and can be put back.
-fn masks_well(image: &Image, owner: Owner, opened: &[Opened], instr: &Instr) -> bool
+pub fn masks_well(image: &Image, owner: Owner, opened: &[Opened], instr: &Instr) -> bool
     ensures { (address : ℕ) → IsTrue result ↔ rules.MasksWell image.now (point address owner opened.now) instr.now }
 {
     match *instr {

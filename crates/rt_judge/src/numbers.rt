@@ -62,7 +62,7 @@ fn bytes_at(image: &Image, value: u16) -> u64
 }
 
 /// The bytes that a stack needs.
-fn stack_need(image: &Image) -> u64
+pub fn stack_need(image: &Image) -> u64
     ensures { result ≡ stack.stack_need image.now }
 {
     let mut bytes = 4 * u64::from(image.thread_words);

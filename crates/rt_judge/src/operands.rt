@@ -13,7 +13,7 @@ use rt_code::{Image, Instr};
 use rt_points::{Opened, Owner};
 
 /// Whether an instruction may be used: it computes no cell's number, sets no alarm, and calls no body.
-fn is_supported(instr: &Instr) -> bool
+pub fn is_supported(instr: &Instr) -> bool
     ensures { result ≡ rules.is_supported instr.now }
 {
     !matches!(
@@ -28,7 +28,7 @@ fn is_supported(instr: &Instr) -> bool
 }
 
 /// Whether the slots of an instruction are in a frame of so many words.
-fn has_its_slots(instr: &Instr, frame: u32) -> bool
+pub fn has_its_slots(instr: &Instr, frame: u32) -> bool
     ensures { IsTrue result ↔ AllByRecursion (λ slot. slot < frame) (slots_of instr.now) }
 {
     match *instr {
@@ -68,7 +68,7 @@ pub fn is_store(instr: &Instr) -> bool
 }
 
 /// Whether the cell that an instruction names is one of so many.
-fn has_its_cell(instr: &Instr, cells: usize) -> bool
+pub fn has_its_cell(instr: &Instr, cells: usize) -> bool
     ensures { IsTrue result ↔ rules.HasItsCell cells (rules.touched_cell instr.now) }
 {
     match touched_cell(instr) {
@@ -78,7 +78,7 @@ fn has_its_cell(instr: &Instr, cells: usize) -> bool
 }
 
 /// Whether an instruction that ends a job may stand there.
-fn may_end(owner: Owner, opened: &[Opened], instr: &Instr) -> bool
+pub fn may_end(owner: Owner, opened: &[Opened], instr: &Instr) -> bool
     ensures { IsTrue result ↔ rules.MayEnd owner opened.now instr.now }
 {
     match *instr {

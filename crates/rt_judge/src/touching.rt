@@ -40,7 +40,7 @@ pub struct Touch {
 /// Who touches which cell, at the points that were looked at.
 #[derive(Drop)]
 pub struct Cells {
-    rows: Vec<Option<Touching>>,
+    pub rows: Vec<Option<Touching>>,
 }
 
 /// What is open.
@@ -139,7 +139,7 @@ fn touch_row(
 }
 
 /// Whether the cell of a row, where it is touched, is guarded.
-fn is_row_guarded(row: &Option<Touching>) -> bool
+pub fn is_row_guarded(row: &Option<Touching>) -> bool
     ensures { result ≡ spec.is_row_guarded row.now }
 {
     match row {

@@ -29,7 +29,7 @@ pub enum Verified {
 }
 
 /// Where the walk over an owner's code begins, with nothing open.
-fn start(alloc: Global, address: u32) -> Result<Visits, NoMemory>
+pub fn start(alloc: Global, address: u32) -> Result<Visits, NoMemory>
     ensures { IfOk result (λ starts. AreSound starts
         × (spots_of starts ≡ record { address = address; inside = [] } ∷ [])) }
 {
@@ -115,7 +115,7 @@ fn look_at_handler(
 }
 
 /// What there is at all points of an image, or None where the first rule is broken.
-fn look(alloc: Global, image: &Image) -> Result<Option<Findings>, NoMemory>
+pub fn look(alloc: Global, image: &Image) -> Result<Option<Findings>, NoMemory>
     requires { IsWithinLimits image.now }
     ensures { IfOk result (λ found. MatchOption found (¬ NestsInOneWay image.now) (spec.Looked image.now)) }
 {
@@ -132,7 +132,7 @@ fn look(alloc: Global, image: &Image) -> Result<Option<Findings>, NoMemory>
 }
 
 /// The first rule that is broken, of those behind the first.
-fn first_broken(image: &Image, findings: &Findings) -> Option<Rule>
+pub fn first_broken(image: &Image, findings: &Findings) -> Option<Rule>
     requires limits { IsWithinLimits image.now }
     requires looked { spec.Looked image.now findings.now }
     ensures { spec.IsFirstBroken image.now result }

@@ -142,7 +142,7 @@ impl Walk {
     }
 
     /// Takes in a new visit.
-    fn take_in(&mut self, image: &Image, owner: Owner, visit: Visit) -> Result<(), NoMemory>
+    pub fn take_in(&mut self, image: &Image, owner: Owner, visit: Visit) -> Result<(), NoMemory>
         requires limits { IsWithinLimits image.now }
         requires sound { spec.IsSoundWalk self.old }
         requires stands { Stands self.old.nestings.opened.items visit.nesting }

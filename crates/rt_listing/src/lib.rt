@@ -10,5 +10,5 @@ mod names;
 pub mod text;
 
 pub use law::listings_tell_images_apart;
-pub use line::op_word;
+pub use line::{op_word, push_count, push_instr, push_note, push_section, push_spaced};
 pub use text::{listing, push_body, push_cell, push_first_line, push_irq};

@@ -17,7 +17,7 @@ use rt_code::{Instr, Note};
 use rt_ids::{Irq, Names, NoMemory, Op, Section, TaskId, push_bytes, push_number};
 
 /// Appends a space and a number.
-pub(crate) fn push_spaced(out: &mut Vec<u8>, number: u32) -> Result<(), NoMemory>
+pub fn push_spaced(out: &mut Vec<u8>, number: u32) -> Result<(), NoMemory>
     ensures text { OnOk result (out.new.items ≡ out.old.items ++ spaced_number number) }
     ensures short { IsShort number }
     ensures word { Is32Bits number }
@@ -27,7 +27,7 @@ pub(crate) fn push_spaced(out: &mut Vec<u8>, number: u32) -> Result<(), NoMemory
 }
 
 /// Appends a space and a count.
-pub(crate) fn push_count(out: &mut Vec<u8>, count: usize) -> Result<(), NoMemory>
+pub fn push_count(out: &mut Vec<u8>, count: usize) -> Result<(), NoMemory>
     ensures { OnOk result (out.new.items ≡ out.old.items ++ spaced_number count) }
 {
     let mut buffer = Buffer::new();
@@ -74,7 +74,7 @@ fn push_operands(out: &mut Vec<u8>, word: &[u8], operands: &[u32]) -> Result<(),
 }
 
 /// Appends an instruction.
-pub(crate) fn push_instr(out: &mut Vec<u8>, instr: Instr, names: &Names) -> Result<(), NoMemory>
+pub fn push_instr(out: &mut Vec<u8>, instr: Instr, names: &Names) -> Result<(), NoMemory>
     ensures text { OnOk result (out.new.items ≡ out.old.items ++ spaced_text (instr_words names.now instr)) }
     ensures short { AreShort (instr_numbers instr) }
     ensures words { AreWords (instr_numbers instr) }
@@ -126,7 +126,7 @@ fn push_with_irq(
 }
 
 /// Appends what a section guards.
-fn push_section(out: &mut Vec<u8>, section: Section, names: &Names) -> Result<(), NoMemory>
+pub fn push_section(out: &mut Vec<u8>, section: Section, names: &Names) -> Result<(), NoMemory>
     ensures text { OnOk result (out.new.items ≡ out.old.items ++ section_name names.now section) }
     ensures short { AreShort (section_numbers section) }
     ensures level { HasLevel section }
@@ -201,11 +201,7 @@ fn push_note_words(out: &mut Vec<u8>, note: Note, names: &Names) -> Result<(), N
 }
 
 /// Appends an instruction's note, where it has one.
-pub(crate) fn push_note(
-    out: &mut Vec<u8>,
-    note: Option<Note>,
-    names: &Names,
-) -> Result<(), NoMemory>
+pub fn push_note(out: &mut Vec<u8>, note: Option<Note>, names: &Names) -> Result<(), NoMemory>
     ensures text { OnOk result (out.new.items ≡ out.old.items ++ spaced_text (noted_words names.now note)) }
     ensures short { AreShort (note_numbers note) }
     ensures level { NamesLevel note }

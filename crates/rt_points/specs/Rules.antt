@@ -188,12 +188,16 @@ NotesWell img = (p : Point) (i : Instr) (told : Option Note) → StandsAt img p 
 abbrev pub EntersAt : Image → Point → Instr → Section → Type 0
 EntersAt img p i x = StandsAt img p i (Some (note.Enter x))
 
+-- the execution priority behind the entering of a section at a point, as a priority value
+abbrev pub priority_after : Image → Point → Instr → Section → ℕ
+priority_after img p i x = execution_priority img p.owner (inside_after i (Some (note.Enter x)) p.inside)
+
 -- Sixth rule: whoever enters a section is not inside it, and the section holds off everyone who enters it anywhere,
 -- `init` aside.
 pub record HoldsOff (img : Image) (p : Point) (i : Instr) (x : Section) : Type 0 where
   pub free : ¬ IsIn (sections p.inside) x
   pub others : (q : Point) (j : Instr) → q.owner ≢ Starting → EntersAt img q j x
-      → execution_priority img p.owner (inside_after i (Some (note.Enter x)) p.inside) ≤ owner_value img q.owner
+      → priority_after img p i x ≤ owner_value img q.owner
 
 -- at each point where a section is entered it is free, and holds off all others that enter it
 abbrev pub EntersWell : Image → Type 0

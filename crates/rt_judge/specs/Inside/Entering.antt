@@ -10,8 +10,8 @@ use Rattle.rt_code.specs.declared.instr.Note.{Note}
 use Rattle.rt_code.specs.declared.instr.Note.TheVariants as note
 use Rattle.rt_points.specs.Point.{Point}
 use Rattle.rt_points.specs.declared.point.Owner.TheVariants.{Starting}
-use Rattle.rt_points.specs.Leading.{inside_after}
-use Rattle.rt_points.specs.ExecutionPriority.{owner_value, execution_priority}
+use Rattle.rt_points.specs.ExecutionPriority.{owner_value}
+use Rattle.rt_points.specs.Rules.{priority_after}
 use Rattle.rt_judge.specs.Inside.Kept.{EntersBy, FreeAt}
 use Rattle.rt_judge.specs.declared.entering.Entering.{Entering}
 use Rattle.rt_judge.specs.declared.entering.Sections.{Sections}
@@ -30,10 +30,6 @@ none_or test (Some n) = test n
 pub record Enterer (img : Image) (ps : List Point) (x : Section) (p : Point) (i : Instr) : Type 0 where
   pub seen : Contains ps p
   pub enters : EntersBy img p i x
-
--- the execution priority after an entering, as a priority value
-abbrev pub priority_after : Image → Point → Instr → Section → ℕ
-priority_after img p i x = execution_priority img p.owner (inside_after i (Some (note.Enter x)) p.inside)
 
 -- the greatest priority value that execution has after an entering: the weakest hold
 pub record IsGreatestValue (img : Image) (ps : List Point) (x : Section) (value : ℕ) : Type 0 where

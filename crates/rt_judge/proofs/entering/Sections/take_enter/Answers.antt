@@ -4,7 +4,7 @@ use Rattle.rt_actions.specs.Location.{is_same_section}
 use Rattle.rt_points.specs.Point.{Point}
 use Rattle.rt_points.specs.Leading.{kind_of}
 use Rattle.rt_points.specs.ExecutionPriority.{lowered_value}
-use Rattle.rt_judge.specs.Inside.Entering.{priority_after}
+use Rattle.rt_points.specs.Rules.{priority_after}
 use Rattle.rt_judge.specs.Inside.Points.{point}
 use Rattle.rt_judge.specs.declared.entering.Entering.{Entering}
 use Rattle.rt_judge.proofs.Enterings.{takes_enter, value_of_next, IsValueOf}
