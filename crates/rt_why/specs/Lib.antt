@@ -1,0 +1,5 @@
+-- The definitions of this crate, a file each. Those in Inside are for private contracts alone.
+pub mod Witness
+pub mod Text
+pub mod Laws
+pub mod Inside
