@@ -94,7 +94,28 @@ def board_of(rng, app):
             lines.append(rng.choice(COMMENTS))
         gap = " " * rng.choice((1, 1, 1, 2, 5))
         lines.append(gap.join(("input", app.tasks[task].name.decode(), app.locals[local].name.decode())))
+    for line in chip_of(rng, app, [app.locals[local].name.decode() for _, local in rows]):
+        first = 0 if line[0] != "word" else 1 + next(
+            at for at, row in enumerate(lines) if row.split()[:1] == ["input"] and row.split()[2] == line[1])
+        lines.insert(rng.randrange(first, len(lines) + 1), " ".join(line))
     return ended(rng, lines)
+
+
+def chip_of(rng, app, inputs):
+    """The words of lines that say something of a chip, all that a program takes or a part of it."""
+    flash, ram = rng.choice(((0, 0x2000_0000), (0x800_0000, 0x2000_0000), (0x6000_0000, 0x1000_0000)))
+    rows = [("flash", number(rng, flash), number(rng, rng.choice((0x400, 0x800, 0x10_0000, 0x40_0000)))),
+            ("ram", number(rng, ram + 8 * rng.randrange(2)), number(rng, rng.choice((64, 300, 0x4000, 0x4000, 0x4000)))),
+            ("port", number(rng, 0x4000_0000 + 4 * rng.randrange(99))), ("bits", str(rng.randrange(app.bits, 9)))]
+    rows = rows if rng.random() < 0.8 else rng.sample(rows, rng.randrange(len(rows) + 1))
+    rows += [("tick", number(rng, rng.randrange(1, 1 << 24)))] if rng.random() < 0.5 else []
+    rows += [("word", name, number(rng, 0x4000_0000 + 4 * rng.randrange(99))) for name in inputs if rng.random() < 0.5]
+    return rows + [("call", row.name.decode()) for row in app.irqs if rng.random() < 0.01]
+
+
+def number(rng, value):
+    """A number in one of the forms that it may have."""
+    return rng.choice((f"{value}", f"{value:#x}", f"0x{value:08X}", f"0{value}", f"0x{value:010x}"))
 
 
 def ended(rng, lines):

@@ -6,9 +6,9 @@ import subprocess
 import tempfile
 from pathlib import Path
 
-from rticref import judge, rules
+from rticref import codegen, judge, rules
 
-from . import applications, judging, mutating, running, texts
+from . import applications, judging, mutating, programs, running, texts
 
 LONGEST = 120
 SHOWN = 20
@@ -136,6 +136,48 @@ class Compared:
         self.counts["inputs, live"] += len(found)
         self.differs("live: the words", set(), found - running.words_of(script, board), *parts)
         self.differs("live: the account", running.requests_of(script, app), running.counted(account), *parts)
+
+    # Executables.
+
+    def natives(self, count):
+        """So many texts that are boards or nearly are: each is refused with the right words, or gives an executable."""
+        rng = random.Random(self.seed + 4)
+        for text, app in applications.applications(rng, self.some, -(-count // EACH)):
+            image, right = codegen.build(app), applications.board_of(rng, app)
+            for _ in range(min(EACH, count - self.counts["natives"])):
+                board = applications.board_of(rng, app) if rng.random() < 0.5 else mutating.of_board(rng, right, app)
+                self.counts["natives"] += 1
+                self.native(text.encode(), app, image, board.encode("latin-1"))
+
+    def native(self, text, app, image, board_text):
+        """A board is refused rightly, or what does not fit; else the executable lies in its memories."""
+        status, output = self.told("native", text, board_text)
+        try:
+            _, chip = texts.read_target(board_text, app)
+            programs.judge(image, chip, lambda number: texts.refused_at(board_text, number))
+        except texts.Refused as refused:
+            self.counts["native, refused " + str(refused).split(" ")[1]] += 1
+            self.differs("native", (3, str(refused).encode()), (status, output), text, board_text)
+            return
+        need = programs.flash_bytes(output) if status == 0 else self.flash_bytes(text, app, chip)
+        size = chip.said["flash"]["size"]
+        if need is None:
+            self.counts["native, passed over"] += 1
+        elif need > size:
+            self.counts["native, refused 20"] += 1
+            wanted = str(texts.refused_at(board_text, 20)).encode()
+            self.differs("native", (3, wanted), (status, output), text, board_text)
+        else:
+            self.counts["native, written"] += 1
+            wrong = programs.faults_of(output, image, chip) if status == 0 else [f"status {status}"]
+            self.differs("native", [], wrong, text, board_text)
+
+    def flash_bytes(self, text, app, chip):
+        """How many bytes of flash a program takes: as on a chip with much of it, the rest as it is."""
+        board = b"".join(b"input %s %s\n" % (app.tasks[task].name, app.locals[local].name)
+                         for task, local in applications.candidates(app)) + chip.text(1 << 22)
+        status, output = self.told("native", text, board)
+        return programs.flash_bytes(output) if status == 0 else None
 
     # Texts that are nearly boards or scripts.
 

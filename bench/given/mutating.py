@@ -3,16 +3,36 @@ import re
 
 INPUT = re.compile(r"(\d+) input (\w+) (\d+)")
 SIGNS = " \t\r\n#;,.=0159_aZinput\x00\x7f\xe9"
+WORDS_OF = {"flash": 2, "ram": 2, "port": 1, "tick": 1, "bits": 1, "word": 2, "call": 1}
+CHIP = tuple(WORDS_OF)
+ADDRESSES = ("0", "1", "2", "3", "4", "7", "8", "9", "0x", "0x0", "0x00000008", "1024", "0x400", "0x402", "0x10000",
+             "0x20000000", "0x20000004", "0x200000000", "0xDFFFFC00", "0xDFFFFFFC", "0xE0000000", "0xE000DFFC",
+             "0xE000E000", "0xE000EFFC", "0xE000F000", "0xFFFFFFFC", "4294967292", "4294967296", "16777215", "16777216",
+             "0x1G", "0X10", "-4", "+4", "64K")
 NUMBERS = ("", "0", "00", "01", "-1", "+1", "0x41", "4294967295", "4294967296", "99999999999", "1.5", "a", "000000001")
 
 
 def of_board(rng, text, app):
     """A board text that is nearly this one."""
     names = [row.name.decode() for row in (*app.tasks, *app.locals, *app.shared, *app.irqs)]
-    other = names + ["nobody", "input", "give", "Input"]
+    other = names + ["nobody", "input", "give", "Input", *CHIP, *ADDRESSES]
     for _ in range(rng.choice((1, 1, 1, 2, 3))):
-        text = rng.choice((of_bytes, of_words, of_lines, of_names, of_names, of_names))(rng, text, other)
+        text = rng.choice((of_bytes, of_words, of_lines, of_names, of_names, of_names, of_chip))(rng, text, other)
     return text
+
+
+def of_chip(rng, text, names):
+    """A line that says something of a chip is put in, or its numbers are others."""
+    lines = text.split("\n")
+    form = rng.choice(CHIP)
+    words = [form, *(rng.choice(names if form in ("word", "call") and not at else ADDRESSES)
+                     for at in range(WORDS_OF[form] + rng.choice((0, 0, 0, 0, 0, 1, -1))))]
+    places = [at for at, line in enumerate(lines) if line.split(" ")[0] == form]
+    if places and rng.random() < 0.6:
+        lines[rng.choice(places)] = " ".join(words)
+    else:
+        lines.insert(rng.randrange(len(lines) + 1), " ".join(words))
+    return "\n".join(lines)
 
 
 def of_names(rng, text, names):

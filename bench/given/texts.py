@@ -1,10 +1,13 @@
 """Reads BOARD texts and scripts beside devices, each by what the documents say of it.
 
-A board is a list of inputs, each a task and a local resource by number. A script is a list of lines: `step`, `tick`,
-`pend` and `device` as the reference has them, `("give", LOCAL, WORD)`, and `("from", ..)` or `("seed", ..)` with
-DEVICE, WORD, LOCAL, IRQ, TIMES for a device's requests that come with words.
+A board is a list of inputs, each a task and a local resource by number; what it says of a chip is apart (chips.py). A
+script is a list of lines: `step`, `tick`, `pend` and `device` as the reference has them, `("give", LOCAL, WORD)`, and
+`("from", ..)` or `("seed", ..)` with DEVICE, WORD, LOCAL, IRQ, TIMES for a device's requests that come with words.
 """
 import re
+
+from . import chips
+from .chips import Wrong
 
 MOST_BYTES, MOST_EVENTS, DEVICES, WORD = 1_048_576, 1_000_000, 16, 1 << 32
 NAME = re.compile(rb"[A-Za-z_][A-Za-z0-9_]*")
@@ -13,7 +16,9 @@ SOURCES = (b"from", b"seed")
 NUMBER = re.compile(rb"0|[1-9][0-9]{0,9}")
 WORDS = {
     "board": ("", "too long", "bad line", "unknown task", "software task", "unknown local", "local of another",
-              "named twice"),
+              "named twice", "unknown interrupt", "unknown input", "out of range", "overlap", "too few bits",
+              "no flash", "no ram", "no port", "no bits", "no object", "too few lines", "ram too small",
+              "flash too small", "branch too far", "file too long"),
     "script": ("", "too long", "bad line", "unknown interrupt", "too many events", "too many devices",
                "unknown input", "no input", "many inputs"),
     "trace": ("", "too long", "bad line", "unknown name", "unknown input"),
@@ -25,14 +30,6 @@ class Refused(Exception):
 
     def __init__(self, which, line, number):
         super().__init__(f"{which}:{line} {number} {WORDS[which][number]}\n")
-
-
-class Wrong(Exception):
-    """A line is wrong, for the cause of a number."""
-
-    def __init__(self, number):
-        super().__init__(number)
-        self.number = number
 
 
 def name(word):
@@ -76,13 +73,36 @@ def numbered(rows):
 
 def read_board(data, app):
     """The inputs that a BOARD text names, in its order."""
-    board = []
+    return read_chip(data, app)[0]
+
+
+def read_chip(data, app):
+    """The inputs that a BOARD text names, in its order, and what it says of the chip."""
+    board, chip = [], chips.Chip(app)
     for at, words in said("board", data):
         try:
-            board.append(input_of(words, app, [local for _, local in board]))
+            if words and words[0].decode("latin-1") in chips.FORMS:
+                chip.add(words, {app.locals[local].name: local for _, local in board})
+            else:
+                board.append(input_of(words, app, [local for _, local in board]))
         except Wrong as wrong:
             raise Refused("board", at, wrong.number) from None
-    return board
+    return board, chip
+
+
+def read_target(data, app):
+    """The same of a text for a program, which says all that a program takes."""
+    board, chip = read_chip(data, app)
+    for number, form in zip((13, 14, 15, 16), ("flash", "ram", "port", "bits")):
+        if form not in chip.said:
+            raise Refused("board", len(re.findall(rb"[^\n]*\n|[^\n]+\Z", data)) + 1, number)
+    return board, chip
+
+
+def refused_at(data, number):
+    """The refusal of a text for a program that does not fit, at the line that is too small for it."""
+    form = {17: b"call", 18: b"bits", 19: b"ram"}.get(number, b"flash")
+    return Refused("board", next(at for at, words in said("board", data) if words[0] == form), number)
 
 
 def input_of(words, app, taken):

@@ -1,23 +1,18 @@
--- The board that is read is the one that the lines name, and each text whose lines name a board is read.
-use Rattle.std.proofs.Common.{◌≡◌, ℕ, ◌==◌, inl, inr, Bool, true, false, Contains, List, [], ◌∷◌, ◌++◌, map}
+-- The board behind a line is the one that the line tells, and each line that tells one is right.
+use Rattle.std.proofs.Common.{◌≡◌, ℕ, inl, inr, Bool, true, false, Contains, List, [], map}
 use Rattle.std.proofs.Common.{slice_get, option_map, Some, Ok, Err, if◌then◌else◌}
-use Rattle.std.proofs.Common.{refl, sym, ap, subst, ◌∙◌, append_assoc, append-nil}
-use Rattle.std.specs.List.{list_any}
+use Rattle.std.proofs.Common.{refl, sym, ap, subst, ◌∙◌}
 use Rattle.std.specs.Option.{ok_or}
-use Rattle.std.specs.Str.Lines.{lines}
-use Rattle.std.proofs.lemmas.Bool.{false_from_ne_true}
-use Rattle.std.proofs.lemmas.List.{map-append}
 use Rattle.std.proofs.lemmas.Option.{same_Some, slice_get_within, slice_get-map, get_or_from_slice_get}
 use Rattle.std.proofs.lemmas.Result.{IfOk-at_ok}
-use Rattle.rt_lemmas.proofs.Lists.{all_behind, found, mapped_at, found_passes}
-use Rattle.rt_lemmas.proofs.Membership.{all_at, any_passes, contained_any, contains_at, contains_here}
+use Rattle.rt_lemmas.proofs.Lists.{found, mapped_at, found_passes}
+use Rattle.rt_lemmas.proofs.Membership.{all_at, any_passes, contains_at}
 use Rattle.rt_lemmas.proofs.Texts.{same_text}
 use Rattle.rt_ids.specs.Lists.{AreDifferent, is_some_and, then_from}
 use Rattle.rt_ids.specs.Names.{task_index}
 use Rattle.rt_ids.specs.Word.{IsName}
-use Rattle.rt_ids.proofs.Lists.{list_any-map}
 use Rattle.rt_lines.specs.Answers.{and_then}
-use Rattle.rt_lines.specs.Reading.{Lead, IsRead}
+use Rattle.rt_lines.specs.Parts.{spaced_words}
 use Rattle.rt_lines.proofs.Found.{task_found}
 use Rattle.rt_app.specs.Tree.{Task, App}
 use Rattle.rt_app.specs.Accepted.{IsAccepted}
@@ -25,49 +20,19 @@ use Rattle.rt_app.specs.Level.{is_software}
 use Rattle.rt_app.specs.Names.{names_of}
 use Rattle.rt_app.specs.declared.body.Owned.{Owned}
 use Rattle.rt_app.specs.declared.app.Local.{Local}
-use Rattle.rt_app.proofs.Different.{different_apart, different_back}
+use Rattle.rt_app.proofs.Different.{different_back}
 use Rattle.rt_app.proofs.Members.{made_of}
 use Rattle.rt_app.proofs.SoundNames.{are_names}
-use Rattle.rt_board.specs.Board.{Board, no_board, with_input, is_written, IsInput, AreInputs}
+use Rattle.rt_board.specs.Board.{Board, with_input, is_written, IsInput}
 use Rattle.rt_board.specs.Wording.{is_named, local_among, if_hardware, listed_local, own_local, hardware_task, if_new}
-use Rattle.rt_board.specs.Wording.{input_of, with_line}
-use Rattle.rt_board.specs.Reading.{board_reader}
-use Rattle.rt_board.specs.Told.{NamesInput, NameInputs, NamesBoard, BoardsAreNamed}
+use Rattle.rt_board.specs.Wording.{input_of, with_words, with_line}
+use Rattle.rt_script.specs.Wording.{is_loose}
+use Rattle.rt_board.specs.Told.{NamesInput, ComesBehind, LinesAreNamed}
 use Rattle.rt_board.specs.declared.board.Input.{Input}
 use Rattle.rt_board.specs.declared.refusal.Cause.TheVariants as cause
-use Rattle.rt_board.proofs.Inputs.{lead_fine}
-use Rattle.rt_board.proofs.Telling.{Follows, line_follows, named_local}
+use Rattle.rt_board.proofs.Telling.{line_follows, named_local}
 
 module _ (app : App) where
-  -- the inputs that lines name behind those of a board
-  abbrev pub Behind : Board → List (List ℕ) → Board → Type 0
-  Behind b ls t = (more : List Input) × (t.inputs ≡ b.inputs ++ more) × NameInputs app ls more
-
-  named_line : (b u t : Board) (line : List ℕ) (ls : List (List ℕ)) → Behind u ls t → Follows app b line u
-      → Behind b (line ∷ ls) t
-  named_line b u t line ls rest (inl skipped) =
-      (rest.0, rest.1 ∙ ap (λ (v : Board). v.inputs ++ rest.0) skipped.1, inl (skipped.0, rest.2))
-  named_line b u t line ls rest (inr adds) = (
-    adds.0 ∷ rest.0,
-    rest.1 ∙ ap (λ (v : Board). v.inputs ++ rest.0) adds.1 ∙ append_assoc b.inputs (adds.0 ∷ []) rest.0,
-    inr (adds.0, rest.0, refl, adds.4, rest.2),
-  )
-
-  pub named_from : (ls : List (List ℕ)) (b t : Board) → Lead (board_reader app) b ls t → Behind b ls t
-  named_from [] b t same = ([], ap (λ (v : Board). v.inputs) (sym same) ∙ sym (append-nil b.inputs), refl)
-  named_from (line ∷ ls) b t lead =
-      named_line b lead.0 t line ls (named_from ls lead.0 t lead.2)
-      (IfOk-at_ok (Follows app b line) lead.1 (line_follows app b line))
-
-  names_board : (text : List ℕ) (board : Board) → IsRead (board_reader app) text board → NamesBoard app text board
-  names_board text board read =
-      let named = named_from (lines text) no_board board read.lead in
-      record {
-        short = read.short;
-        lines = subst (NameInputs app (lines text)) (sym named.1) named.2;
-        inputs = lead_fine app (lines text) board read.lead;
-      }
-
   module _ (accepted : IsAccepted app) where
     locals_differ : AreDifferent (map (λ r. r.name) app.locals)
     locals_differ =
@@ -143,7 +108,7 @@ module _ (app : App) where
           ∙ ap (λ r. and_then r (if_new (names_of app) app b input.task)) own_known
           ∙ ap (λ w. if w then Err cause.NamedTwice else Ok input) fresh
 
-      line_known : with_line (names_of app) app b line ≡ Ok (with_input b input)
+      pub line_known : with_line (names_of app) app b line ≡ Ok (with_input b input)
       line_known =
           let task_name : IsName names.task.name =
           all_at (λ t. IsName t.name) app.tasks input.task names.task accepted.names.tasks names.task_is in
@@ -151,49 +116,17 @@ module _ (app : App) where
           all_at (λ r. IsName r.name) app.locals input.local names.local accepted.names.locals names.local_is in
           rw (names.said, names.tight, names.words, task_name.identifier, local_name.identifier, input_known) refl
 
-    fresh_behind : (inputs more : List Input) (input : Input) → AreInputs app (inputs ++ input ∷ more)
-        → list_any (λ i. i.local == input.local) inputs ≡ false
-    fresh_behind inputs more input are =
-        let local : Input → ℕ = λ i. i.local in
-        false_from_ne_true (list_any (λ i. i.local == input.local) inputs)
-        (λ written. different_apart (map local inputs) (map local (input ∷ more))
-        (subst AreDifferent (map-append local inputs (input ∷ more)) are.once) input.local
-        (contained_any input.local (map local inputs) (list_any-map local (λ n. n == input.local) inputs ∙ written))
-        (contains_here input.local (map local more)))
-
-    abbrev with_more : Board → List Input → Board
-    with_more b more = record { inputs = b.inputs ++ more }
-
-    leads : (ls : List (List ℕ)) (b : Board) (more : List Input) → AreInputs app (b.inputs ++ more)
-        → NameInputs app ls more
-        → Lead (board_reader app) b ls (with_more b more)
-    leads [] b more are none = sym (ap (with_more b) none ∙ ap bare (append-nil b.inputs))
-      where
-        bare : List Input → Board
-        bare inputs = record { inputs = inputs }
-    leads (line ∷ ls) b more are (inl skipped) = (b, rw skipped.0 refl, leads ls b more are skipped.1)
-    leads (line ∷ ls) b more are (inr named) =
-        let input = named.0 in
-        let rest = named.1 in
-        let all : AreInputs app (b.inputs ++ input ∷ rest) =
-        subst (λ m. AreInputs app (b.inputs ++ m)) named.2 are in
-        let parts : (b.inputs ++ input ∷ []) ++ rest ≡ b.inputs ++ input ∷ rest =
-        append_assoc b.inputs (input ∷ []) rest in
-        let known = line_known b line input named.3 (all_behind (IsInput app) b.inputs (input ∷ rest) all.each).0
-        (fresh_behind b.inputs rest input all) in
-        let on = leads ls (with_input b input) rest (subst (AreInputs app) (sym parts) all) named.4 in (
-          with_input b input,
-          known,
-          subst (λ inputs. Lead (board_reader app) (with_input b input) ls (record { inputs = inputs }))
-              (parts ∙ ap (λ m. b.inputs ++ m) (sym named.2)) on,
-        )
-
-pub boards_are_named : BoardsAreNamed
-boards_are_named app accepted text board = (
-  names_board app text board,
-  λ names. record {
-    short = names.short;
-    lead = leads app accepted (lines text) no_board board.inputs names.inputs names.lines;
-    whole = refl;
-  },
+pub lines_are_named : LinesAreNamed
+lines_are_named app accepted board line u = (
+  λ given. IfOk-at_ok (ComesBehind app board line) given (line_follows app board line),
+  by_what_it_tells,
 )
+  where
+    by_what_it_tells : ComesBehind app board line u → with_line (names_of app) app board line ≡ Ok u
+    by_what_it_tells (inl skipped) =
+        ap (λ skips. if skips then Ok board
+        else if is_loose line then Err cause.BadLine else with_words (names_of app) app board (spaced_words line))
+        skipped.0
+        ∙ ap Ok (sym skipped.1)
+    by_what_it_tells (inr adds) =
+        line_known app accepted board line adds.0 adds.4 adds.2 adds.3 ∙ ap Ok (sym adds.1)

@@ -1,5 +1,5 @@
 -- What a line tells: nothing, or an input that it names.
-use Rattle.std.proofs.Common.{◌≡◌, ◌⊎◌, ℕ, ◌<◌, inl, inr, Bool, true, false, ◌||◌, ◌&&◌, Contains, List, [], ◌∷◌}
+use Rattle.std.proofs.Common.{◌≡◌, ℕ, ◌<◌, inl, inr, Bool, true, false, ◌||◌, ◌&&◌, Contains, List, [], ◌∷◌}
 use Rattle.std.proofs.Common.{map, find, position, slice_get, bytes_eq, codes, Option, Some, None, Ok, Err, IfOk}
 use Rattle.std.proofs.Common.{IfSome, if◌then◌else◌, refl, sym, ap, subst, ◌∙◌}
 use Rattle.std.specs.List.{list_any}
@@ -29,7 +29,7 @@ use Rattle.rt_app.proofs.Different.{contained}
 use Rattle.rt_board.specs.Board.{Board, with_input, is_written, IsInput}
 use Rattle.rt_board.specs.Wording.{is_named, two_names, if_hardware, listed_local, own_local, hardware_task, if_new}
 use Rattle.rt_board.specs.Wording.{input_of, says_input, with_words, with_line}
-use Rattle.rt_board.specs.Told.{IsSkipped, NamesInput}
+use Rattle.rt_board.specs.Told as told
 use Rattle.rt_board.specs.declared.board.Input.{Input}
 use Rattle.rt_board.specs.declared.refusal.Cause.TheVariants as cause
 
@@ -183,15 +183,11 @@ module _ (app : App) where
         if_ok_make (WithNew words) (two_names (input_of (names_of app) app board) words) (with_input board)
         (IsNew words) (words_new words) (λ input new. (input, refl, new))
 
-    -- an input that a line names, and that can come behind these, and the board with it
-    abbrev pub Adds : List ℕ → Board → Type 0
-    Adds line u = (input : Input) × (u ≡ with_input board input) × IsInput app input
-        × (is_written board input.local ≡ false)
-        × NamesInput app line input
+    abbrev Adds : List ℕ → Board → Type 0
+    Adds line u = told.Adds app board line u
 
-    -- the board behind a line
-    abbrev pub Follows : List ℕ → Board → Type 0
-    Follows line u = (IsSkipped line × (u ≡ board)) ⊎ Adds line u
+    abbrev ComesBehind : List ℕ → Board → Type 0
+    ComesBehind line u = told.ComesBehind app board line u
 
     adds : (line : List ℕ) (words : List (List ℕ)) (u : Board) → spaced_words line ≡ codes "input" ∷ words
         → is_loose line ≡ false
@@ -224,12 +220,12 @@ module _ (app : App) where
         (IfOk-at_ok (WithNew words) given (says_new words))))
         tt
 
-    pub line_follows : (line : List ℕ) → IfOk (with_line (names_of app) app board line) (Follows line)
+    pub line_follows : (line : List ℕ) → IfOk (with_line (names_of app) app board line) (ComesBehind line)
     line_follows line =
         cond_both (is_blank line || is_comment line) (Ok board)
         (if is_loose line then Err cause.BadLine else with_words (names_of app) app board (spaced_words line))
-        (λ r. IfOk r (Follows line)) (λ skipped. inl (skipped, refl))
+        (λ r. IfOk r (ComesBehind line)) (λ skipped. inl (skipped, refl))
         (λ said. cond_both (is_loose line) (Err cause.BadLine)
-        (with_words (names_of app) app board (spaced_words line)) (λ r. IfOk r (Follows line)) (λ _. tt)
-        (λ tight. if_ok_from (with_words (names_of app) app board (spaced_words line)) (Follows line)
+        (with_words (names_of app) app board (spaced_words line)) (λ r. IfOk r (ComesBehind line)) (λ _. tt)
+        (λ tight. if_ok_from (with_words (names_of app) app board (spaced_words line)) (ComesBehind line)
         (λ u given. inr (IfOk-at_ok (Adds line) given (words_add line (spaced_words line) refl tight said)))))

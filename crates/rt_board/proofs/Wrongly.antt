@@ -1,5 +1,5 @@
 -- A line that is refused is wrong for the cause that is told.
-use Rattle.std.proofs.Common.{◌≡◌, ℕ, ◌==◌, ◌||◌, ◌&&◌, Bool, true, false, List, [], ◌∷◌, ◌++◌, map}
+use Rattle.std.proofs.Common.{◌≡◌, ℕ, ◌==◌, ◌||◌, ◌&&◌, Bool, true, false, List, [], ◌∷◌, map}
 use Rattle.std.proofs.Common.{slice_get, bytes_eq, codes, option_map, Option, Some, None, Ok, Err, if◌then◌else◌}
 use Rattle.std.proofs.Common.{refl, sym, ap, subst, ◌∙◌}
 use Rattle.std.specs.List.{list_any}
@@ -18,24 +18,19 @@ use Rattle.rt_ids.specs.Names.{task_index}
 use Rattle.rt_ids.specs.Word.{is_identifier}
 use Rattle.rt_ids.proofs.Lists.{is_some-position, list_any-map}
 use Rattle.rt_lines.specs.Parts.{spaced_words}
-use Rattle.rt_lines.specs.Reading.{IsWrongNext, IsFirstWrong}
 use Rattle.rt_script.specs.Wording.{is_blank, is_comment, is_loose}
 use Rattle.rt_app.specs.Tree.{Task, App}
 use Rattle.rt_app.specs.Level.{is_software}
 use Rattle.rt_app.specs.Names.{names_of}
 use Rattle.rt_app.specs.declared.body.Owned.{Owned}
 use Rattle.rt_app.proofs.Members.{made_of}
-use Rattle.rt_board.specs.Board.{Board, no_board, with_input, is_written}
+use Rattle.rt_board.specs.Board.{Board, with_input, is_written}
 use Rattle.rt_board.specs.Wording.{is_named, two_names, if_hardware, listed_local, own_local, hardware_task, if_new}
 use Rattle.rt_board.specs.Wording.{input_of, says_input, with_words, with_line}
-use Rattle.rt_board.specs.Reading.{board_reader}
-use Rattle.rt_board.specs.Told.{NameInputs}
-use Rattle.rt_board.specs.Wrong.{HasForm, HasTask, HasLocal, Lists, IsWrong, IsWrongLine, RefusedLinesAreWrong}
+use Rattle.rt_board.specs.Wrong.{HasForm, HasTask, HasLocal, Lists, IsWrong, RefusedLinesAreWrong}
 use Rattle.rt_board.specs.declared.board.Input.{Input}
 use Rattle.rt_board.specs.declared.refusal.Cause.{Cause}
 use Rattle.rt_board.specs.declared.refusal.Cause.TheVariants as cause
-use Rattle.rt_board.proofs.Inputs.{lead_fine}
-use Rattle.rt_board.proofs.Named.{named_from}
 use Rattle.rt_board.proofs.Refused.{if_err_or, if_err_then, if_err_make}
 use Rattle.rt_board.proofs.Telling.{IsHardware, IsOwn, task_named, task_hardware, local_own}
 
@@ -214,24 +209,6 @@ module _ (app : App) where
         (λ loose. (said, λ task local form. true_and_false (is_loose line) loose form.tight))
         (λ tight. words_wrong said tight (spaced_words line) refl))
 
-  next_wrong : (text : List ℕ) (n : ℕ) (c : Cause) (is : IsFirstWrong (board_reader app) text n c)
-      (behind : List (List ℕ)) → is.behind ≡ behind
-      → IsWrongNext (board_reader app) is.reached behind c
-      → IsWrongLine app text n c
-  next_wrong text n c is [] same wrong = absurd (none-some c wrong)
-  next_wrong text n c is (line ∷ behind) same wrong =
-      let named = named_from app is.before no_board is.reached is.lead in
-      record {
-        before = is.before;
-        line = line;
-        behind = behind;
-        parts = is.parts ∙ ap (λ ls. is.before ++ ls) same;
-        number_is = is.number_is;
-        inputs = is.reached.inputs;
-        named = subst (NameInputs app is.before) (sym named.1) named.2;
-        are = lead_fine app is.before is.reached is.lead;
-        wrong = IfErr-at_err (IsWrong app is.reached.inputs line) wrong (line_wrong is.reached line);
-      }
-
 pub refused_lines_are_wrong : RefusedLinesAreWrong
-refused_lines_are_wrong app text n c is = next_wrong app text n c is is.behind refl is.wrong
+refused_lines_are_wrong app board line c is =
+    IfErr-at_err (IsWrong app board.inputs line) is (line_wrong app board line)

@@ -1,6 +1,4 @@
 pub mod Board
 pub mod Wording
-pub mod Reading
 pub mod Told
 pub mod Wrong
-pub mod Text

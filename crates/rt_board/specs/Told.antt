@@ -1,15 +1,14 @@
--- Which board a text tells, put without an order of reading: each line is skipped, or names an input by its task and
--- its local resource; and all together are inputs, none twice. So nothing else is refused, and nothing else is read.
-use Rattle.std.specs.Prelude.{◌≡◌, ◌⊎◌, ◌↔◌, ◌≤◌, ◌||◌, true, false, codes, ℕ, List, [], ◌∷◌, length, slice_get, Some}
-use Rattle.std.specs.Str.Lines.{lines}
-use Rattle.rt_ids.specs.declared.limits.TheConstants.{SCRIPT_BYTES}
+-- What a line of a board tells, put without an order of tests: it is skipped, or names an input by its task and its
+-- local resource, which no line before names. So nothing else is refused, and nothing else is read.
+use Rattle.std.specs.Prelude.{◌≡◌, ◌⊎◌, ◌↔◌, ◌||◌, true, false, codes, List, [], ◌∷◌, slice_get, Some, Ok, ℕ}
 use Rattle.rt_lines.specs.Parts.{spaced_words}
 use Rattle.rt_script.specs.Wording.{is_blank, is_comment, is_loose}
 use Rattle.rt_app.specs.declared.app.Local.{Local}
 use Rattle.rt_app.specs.Tree.{Task, App}
 use Rattle.rt_app.specs.Accepted.{IsAccepted}
-use Rattle.rt_board.specs.Board.{Board, AreInputs}
-use Rattle.rt_board.specs.Reading.{IsBoardOf}
+use Rattle.rt_app.specs.Names.{names_of}
+use Rattle.rt_board.specs.Board.{Board, with_input, is_written, IsInput}
+use Rattle.rt_board.specs.Wording.{with_line}
 use Rattle.rt_board.specs.declared.board.Input.{Input}
 
 -- a line says nothing: it is blank, or a comment
@@ -27,21 +26,17 @@ pub record NamesInput (app : App) (line : List ℕ) (input : Input) : Type 0 whe
   pub tight : is_loose line ≡ false
   pub said : (is_blank line || is_comment line) ≡ false
 
--- lines name these inputs, in order
-abbrev pub NameInputs : App → List (List ℕ) → List Input → Type 0
-NameInputs app [] inputs = inputs ≡ []
-NameInputs app (line ∷ ls) inputs =
-    (IsSkipped line × NameInputs app ls inputs)
-    ⊎ ((input : Input) × (more : List Input) × (inputs ≡ input ∷ more) × NamesInput app line input
-    × NameInputs app ls more)
+-- an input that a line names, and that can come behind those of a board, and the board with it
+abbrev pub Adds : App → Board → List ℕ → Board → Type 0
+Adds app board line u = (input : Input) × (u ≡ with_input board input) × IsInput app input
+    × (is_written board input.local ≡ false)
+    × NamesInput app line input
 
--- a text that is not too long, whose lines name the inputs of the board
-pub record NamesBoard (app : App) (text : List ℕ) (board : Board) : Type 0 where
-  pub short : length text ≤ SCRIPT_BYTES
-  pub lines : NameInputs app (lines text) board.inputs
-  pub inputs : AreInputs app board.inputs
+-- the board behind a line
+abbrev pub ComesBehind : App → Board → List ℕ → Board → Type 0
+ComesBehind app board line u = (IsSkipped line × (u ≡ board)) ⊎ Adds app board line u
 
--- The board that is read is the one that the lines name, and each text whose lines name a board is read.
-abbrev pub BoardsAreNamed : Type 0
-BoardsAreNamed = (app : App) → IsAccepted app → (text : List ℕ) (board : Board)
-    → IsBoardOf app text board ↔ NamesBoard app text board
+-- The board behind a line is the one that the line tells, and each line that tells one is right.
+abbrev pub LinesAreNamed : Type 0
+LinesAreNamed = (app : App) → IsAccepted app → (board : Board) (line : List ℕ) (u : Board)
+    → (with_line (names_of app) app board line ≡ Ok u) ↔ ComesBehind app board line u

@@ -1,18 +1,15 @@
 -- What each refusal says of its line, put without an order of tests. The causes stand in the order of their numbers,
 -- and each says also that those before it do not hold, so that a line has one cause.
-use Rattle.std.specs.Prelude.{◌≡◌, ℕ, suc, ◌||◌, true, false, codes, Contains, List, [], ◌∷◌, ◌++◌, length, map}
-use Rattle.std.specs.Prelude.{slice_get, Some}
-use Rattle.std.specs.Str.Lines.{lines}
+use Rattle.std.specs.Prelude.{◌≡◌, ℕ, ◌||◌, true, false, codes, Contains, List, [], ◌∷◌, map, slice_get, Some, Err}
 use Rattle.rt_ids.specs.Word.{is_identifier}
 use Rattle.rt_lines.specs.Parts.{spaced_words}
-use Rattle.rt_lines.specs.Reading.{IsFirstWrong}
 use Rattle.rt_script.specs.Wording.{is_blank, is_comment, is_loose}
 use Rattle.rt_app.specs.declared.app.Local.{Local}
 use Rattle.rt_app.specs.Tree.{Task, App}
 use Rattle.rt_app.specs.Level.{is_software}
-use Rattle.rt_board.specs.Board.{AreInputs}
-use Rattle.rt_board.specs.Reading.{board_reader}
-use Rattle.rt_board.specs.Told.{NameInputs}
+use Rattle.rt_app.specs.Names.{names_of}
+use Rattle.rt_board.specs.Board.{Board}
+use Rattle.rt_board.specs.Wording.{with_line}
 use Rattle.rt_board.specs.declared.board.Input.{Input}
 use Rattle.rt_board.specs.declared.refusal.Cause.{Cause}
 use Rattle.rt_board.specs.declared.refusal.Cause.TheVariants as cause
@@ -45,7 +42,6 @@ module _ (app : App) where
 
   -- what is wrong with a line behind lines that name these inputs
   abbrev pub IsWrong : List Input → List ℕ → Cause → Type 0
-  IsWrong inputs line cause.TooLong = ⊥
   IsWrong inputs line cause.BadLine =
       ((is_blank line || is_comment line) ≡ false) × ((task local : List ℕ) → ¬ HasForm line task local)
   IsWrong inputs line cause.UnknownTask =
@@ -62,20 +58,8 @@ module _ (app : App) where
       (task local : List ℕ) × HasForm line task local × (t : Task) × HasTask task t × (is_software t ≡ false)
       × (n : ℕ) × HasLocal local n × Lists t n × Contains (map (λ input. input.local) inputs) n
 
-  -- the line of this number is wrong for this cause, behind lines that name inputs
-  pub record IsWrongLine (text : List ℕ) (number : ℕ) (c : Cause) : Type 0 where
-    pub before : List (List ℕ)
-    pub line : List ℕ
-    pub behind : List (List ℕ)
-    pub parts : lines text ≡ before ++ line ∷ behind
-    pub number_is : number ≡ suc (length before)
-    pub inputs : List Input
-    pub named : NameInputs app before inputs
-    pub are : AreInputs app inputs
-    pub wrong : IsWrong inputs line c
-
--- A text is refused at a line that is wrong for the cause that is told.
+-- A line is refused for what is wrong with it.
 abbrev pub RefusedLinesAreWrong : Type 0
-RefusedLinesAreWrong = (app : App) (text : List ℕ) (n : ℕ) (c : Cause)
-    → IsFirstWrong (board_reader app) text n c
-    → IsWrongLine app text n c
+RefusedLinesAreWrong = (app : App) (board : Board) (line : List ℕ) (c : Cause)
+    → with_line (names_of app) app board line ≡ Err c
+    → IsWrong app board.inputs line c

@@ -10,7 +10,7 @@ use rt_board::{Board, Input};
 use rt_ids::Irq;
 
 /// The interrupt that the task of an input binds.
-fn irq_of(app: &App, input: Input) -> Option<Irq>
+pub fn irq_of(app: &App, input: Input) -> Option<Irq>
     ensures { result ≡ given.input_irq (app_of app.now) input }
 {
     let binds = app.task(input.task)?.binds?;

@@ -14,7 +14,7 @@ pub mod script;
 pub mod source;
 mod words;
 
-pub use input::is_for;
+pub use input::{irq_of, is_for};
 pub use laws::{texts_are_read_one_way, words_are_drawn, words_count_up};
 pub use line::GivenLine;
 pub use reading::read_given;

@@ -1,22 +1,15 @@
--- The inputs that lines tell are inputs of the application, none twice.
+-- The inputs behind a line are inputs of the application, none twice.
 use Rattle.std.proofs.Common.{◌≡◌, ℕ, ◌==◌, inl, inr, false, List, [], ◌∷◌, ◌++◌, map, sym, subst, ◌∙◌}
 use Rattle.std.proofs.lemmas.List.{map-append}
-use Rattle.std.proofs.lemmas.Result.{IfOk-at_ok}
 use Rattle.rt_lemmas.proofs.Bools.{true_and_false}
 use Rattle.rt_lemmas.proofs.Membership.{all_append, any_contained, contains_cases, contains_none}
 use Rattle.rt_ids.specs.Lists.{AreDifferent}
 use Rattle.rt_ids.proofs.Lists.{list_any-map}
-use Rattle.rt_lines.specs.Reading.{Lead}
-use Rattle.rt_lines.proofs.Decoded.{if_ok_from}
-use Rattle.rt_lines.proofs.Reading.{kept}
 use Rattle.rt_app.specs.Tree.{App}
-use Rattle.rt_app.specs.Names.{names_of}
 use Rattle.rt_app.proofs.Different.{different_append, different_cons, different_none}
-use Rattle.rt_board.specs.Board.{Board, no_board, is_written, IsInput, AreInputs}
-use Rattle.rt_board.specs.Wording.{with_line}
-use Rattle.rt_board.specs.Reading.{board_reader}
+use Rattle.rt_board.specs.Board.{Board, is_written, IsInput, AreInputs}
 use Rattle.rt_board.specs.declared.board.Input.{Input}
-use Rattle.rt_board.proofs.Telling.{Follows, line_follows}
+use Rattle.rt_board.specs.Told.{ComesBehind}
 
 one_more : (app : App) (board : Board) (input : Input) → AreInputs app board.inputs → IsInput app input
     → is_written board input.local ≡ false
@@ -38,20 +31,11 @@ one_more app board input are new fresh =
     }
 
 -- boards of inputs
-abbrev AreFine : App → Board → Type 0
+abbrev pub AreFine : App → Board → Type 0
 AreFine app board = AreInputs app board.inputs
 
-behind_line : (app : App) (board u : Board) (line : List ℕ) → AreFine app board → Follows app board line u
+pub behind_line : (app : App) (board u : Board) (line : List ℕ) → AreFine app board → ComesBehind app board line u
     → AreFine app u
 behind_line app board u line are (inl skipped) = subst (AreFine app) (sym skipped.1) are
 behind_line app board u line are (inr adds) =
     subst (AreFine app) (sym adds.1) (one_more app board adds.0 are adds.2 adds.3)
-
--- what lines tell are inputs
-pub lead_fine : (app : App) (ls : List (List ℕ)) (board : Board) → Lead (board_reader app) no_board ls board
-    → AreInputs app board.inputs
-lead_fine app ls board lead =
-    kept (board_reader app) (AreFine app)
-    (λ b line are. if_ok_from (with_line (names_of app) app b line) (AreFine app)
-    (λ u given. behind_line app b u line are (IfOk-at_ok (Follows app b line) given (line_follows app b line))))
-    no_board board ls lead (record { each = tt; once = different_none })
