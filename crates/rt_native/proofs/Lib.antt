@@ -1,0 +1,4 @@
+pub mod Sizes
+pub mod Ranges
+pub mod Places
+pub mod Ends
