@@ -139,7 +139,7 @@ audited_so text more a b x y one other =
     (judged_so other.app other.trace other.verdict b y other.is other.says)))
 
 -- what is the listing of an image is not refused
-image_read : (text line : List ℕ) (image : Image) (refusal : LoadRefused) → IsListingText text image
+pub image_read : (text line : List ℕ) (image : Image) (refusal : LoadRefused) → IsListingText text image
     → loading.IsListingRefused text refusal
     → SaysImage refusal line → ⊥
 image_read text line image in_image.TooLong is met says = omega (arith, is.short, met)

@@ -1,4 +1,4 @@
-// Reads an application from a source.
+// Reads an application or a listing from a source.
 
 ghost use Rattle.std.specs.Prelude.{◌≡◌, ◌<◌, ◌-◌, ◌^◌, ℕ, List, IfOk, IfErr};
 ghost use Rattle.rt_ids.specs.declared.status.Status.TheVariants as status;
@@ -7,18 +7,22 @@ ghost use Rattle.rt_grammar.specs.Text.{IsText};
 ghost use Rattle.rt_app.specs.View as resolved;
 ghost use Rattle.rt_app.specs.Accepted.{IsAccepted};
 ghost use Rattle.rt_build.specs.Accepted.{KeepsRules, IsApplication};
+ghost use Rattle.rt_load.specs.Loadable.{IsLoadable};
+ghost use Rattle.rt_load.specs.Reading.{IsListingText};
 ghost use Rattle.rt_top.specs.Kinds as kind;
 ghost use Rattle.rt_top.specs.Rtic.{rtic_program};
 ghost use Rattle.rt_top.specs.Reads.{given_by};
 ghost use Rattle.rt_top.specs.Inside.Decides.{Tells, IsBrokenBy};
 ghost use Rattle.rt_top.specs.Inside.Using.{HasUse, Reads, ReadsBytes};
 
-use crate::reply::{Reply, of_second, refuse};
+use crate::reply::{Reply, of_second, refuse, refuse_image};
 use rt_app::App;
 use rt_ast::AppTree;
 use rt_build::judge;
+use rt_code::Image;
 use rt_ids::limits::TEXT_BYTES;
 use rt_ids::{Fault, Place, Refusal, Refused, Status};
+use rt_load::{IMAGE_BYTES, LoadRefused, load};
 use rt_outside::{ReadFail, Source, read_text};
 use rt_parse::parse;
 use std::alloc::Global;
@@ -107,5 +111,23 @@ pub(crate) fn read_other<S: Source>(alloc: Global, source: &mut S) -> Result<App
     match read_accepted(alloc, source) {
         Ok(app) => Ok(app),
         Err(reply) => Err(of_second(alloc, reply)),
+    }
+}
+
+/// Reads the image of a listing, whatever made it.
+pub fn read_listing<S: Source>(alloc: Global, source: &mut S) -> Result<Image, Reply>
+    ensures reads { let gave = given_by S.past source.old source.new in
+        Reads rtic_program kind.Listing gave gave (HasUse S.past S.left S.faults source.old source.new)
+        (λ image. IsListingText gave image) result }
+    ensures loadable { IfOk result (λ image. IsLoadable image) }
+{
+    let text = match read_within(alloc, source, IMAGE_BYTES) {
+        Ok(Some(text)) => text,
+        Ok(None) => return Err(refuse_image(alloc, LoadRefused::TooLong)),
+        Err(status) => return Err(Reply::Stop(status)),
+    };
+    match load(alloc, &text) {
+        Ok(image) => Ok(image),
+        Err(refusal) => Err(refuse_image(alloc, refusal)),
     }
 }

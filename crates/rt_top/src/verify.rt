@@ -1,8 +1,7 @@
 // The command `verify`, which prints `yes` or `no K`.
 
-ghost use Rattle.std.specs.Prelude.{ℕ, List, IfOk};
+ghost use Rattle.std.specs.Prelude.{ℕ, List};
 ghost use Rattle.rt_load.specs.Loadable.{IsLoadable};
-ghost use Rattle.rt_load.specs.Reading.{IsListingText};
 ghost use Rattle.rt_top.specs.Kinds as kind;
 ghost use Rattle.rt_top.specs.Words as word;
 ghost use Rattle.rt_top.specs.Program.{inputs};
@@ -11,13 +10,13 @@ ghost use Rattle.rt_top.specs.Reads.{given_by};
 ghost use Rattle.rt_top.specs.Verified.{TellsImage};
 ghost use Rattle.rt_top.specs.Inside.Decides.{AnswersOne};
 ghost use Rattle.rt_top.specs.Inside.Replies.{Replies};
-ghost use Rattle.rt_top.specs.Inside.Using.{HasUse, Reads};
+ghost use Rattle.rt_top.specs.Inside.Using.{HasUse};
 
-use crate::reading::read_within;
-use crate::reply::{Reply, line, refuse_image, reply_number};
+use crate::reading::read_listing;
+use crate::reply::{Reply, line, reply_number};
 use rt_code::Image;
 use rt_ids::{NoMemory, Status};
-use rt_load::{IMAGE_BYTES, LoadRefused, Verified, load};
+use rt_load::Verified;
 use rt_outside::Source;
 use std::alloc::Global;
 
@@ -31,24 +30,6 @@ pub(crate) fn verify<S: Source>(alloc: Global, source: &mut S) -> Reply
     match read_listing(alloc, source) {
         Ok(image) => image_reply(alloc, &image),
         Err(reply) => reply,
-    }
-}
-
-/// Reads the image of a listing.
-fn read_listing<S: Source>(alloc: Global, source: &mut S) -> Result<Image, Reply>
-    ensures reads { let gave = given_by S.past source.old source.new in
-        Reads rtic_program kind.Listing gave gave (HasUse S.past S.left S.faults source.old source.new)
-        (λ image. IsListingText gave image) result }
-    ensures loadable { IfOk result (λ image. IsLoadable image) }
-{
-    let text = match read_within(alloc, source, IMAGE_BYTES) {
-        Ok(Some(text)) => text,
-        Ok(None) => return Err(refuse_image(alloc, LoadRefused::TooLong)),
-        Err(status) => return Err(Reply::Stop(status)),
-    };
-    match load(alloc, &text) {
-        Ok(image) => Ok(image),
-        Err(refusal) => Err(refuse_image(alloc, refusal)),
     }
 }
 

@@ -7,7 +7,7 @@ use Rattle.rt_top.specs.Rtic.{rtic_program}
 use Rattle.rt_top.specs.Verified.{SaysImage}
 use Rattle.rt_top.specs.Inside.Using.{stop}
 use Rattle.rt_top.proofs.Conducting.{refusal_reads}
-use Rattle.rt_top.proofs.verify.read_listing.Goals as goal
+use Rattle.rt_top.proofs.reading.read_listing.Goals as goal
 
 pub returns-in-Ok-None-clause-reads : goal.returns-in-Ok-None-clause-reads
 returns-in-Ok-None-clause-reads g c =
