@@ -26,7 +26,7 @@ _rtic() {
     COMPREPLY=()
     if [[ $COMP_CWORD -eq 1 ]]; then
         local words='run check fmt build audit live soak demo deepest verify times pair'
-        [[ $program != rticx ]] || words='run audit live'
+        [[ $program != rticx ]] || words='run audit live native why'
         [[ $word != -* ]] || words='-h --help --version'
         mapfile -t COMPREPLY < <(compgen -W "$words" -- "$word")
         return
@@ -34,6 +34,8 @@ _rtic() {
     case $program:${COMP_WORDS[1]} in
     rticx:run | rticx:live) endings=(rtic board script) ;;
     rticx:audit) endings=(rtic board trace) ;;
+    rticx:native) endings=(rtic board) ;;
+    rticx:why) endings=(listing) ;;
     rticx:*) ;;
     *:check | *:fmt | *:build | *:soak | *:deepest) endings=(rtic) ;;
     *:run | *:live) endings=(rtic script) ;;

@@ -9,6 +9,10 @@ function __rtic_wants --argument-names ending
             set endings rtic board script
         case 'rticx audit'
             set endings rtic board trace
+        case 'rticx native'
+            set endings rtic board
+        case 'rticx why'
+            set endings listing
         case 'rticx *'
         case '* check' '* fmt' '* build' '* soak' '* deepest'
             set endings rtic
@@ -66,7 +70,9 @@ end
 for row in \
         'run:write an image of an application, and its trace under a script that gives values' \
         'audit:judge whether such a trace is a run of Baker\'s machine beside devices' \
-        'live:run such a script with its devices in threads of their own'
+        'live:run such a script with its devices in threads of their own' \
+        'native:write an executable of an image for the ARMv7-M core of a board' \
+        'why:judge as rtic verify does, and say where an image breaks a rule'
     set -l parts (string split -m 1 : $row)
     complete -c rticx -n __fish_is_first_token -a $parts[1] -d $parts[2]
 end

@@ -10,13 +10,17 @@ TELLING = ("Status", "Verdict", "Verified", "Pended", "Measure")
 FAILS = re.compile(r"\b(OnErr|IfErr|IsErr|IsErrOf|Err|HasEffect|RepliesOrStops|HasCause|MatchResult|Reads|ReadsBytes)\b")
 SUCCEEDS = re.compile(r"^(OnOk|IfOk|OnSome|IfSome)\b")
 DECIDES = re.compile(r"\bresult\b.*(≡|↔)|(≡|↔).*\bresult\b|MatchOption|IsTrue result|IsFalse result"
-                     r"|^(YieldsFirst|StepsToItem|Passes|TotalJudged)")
-# Calls of which no clause says what is left where memory is used up: each appends to what its caller then lets go.
+                     r"|^(YieldsFirst|StepsToItem|Passes|TotalJudged)|\bIs(FirstBroken|Decoding)\b.* result$")
+# Calls of which no clause says what is left where memory is used up: each adds to what its caller then lets go.
 LEFT_UNSAID = {
     "rt_ids push_bytes", "rt_ids push_number", "rt_outside LineSink::take", "rt_gen_queue fill",
     "rt_baker_work begin_body", "rt_baker_work answer", "rt_baker_work Store::effect", "rt_baker_work settle",
     "rt_baker_work Work::begin", "rt_listing push_first_line", "rt_listing push_cell", "rt_listing push_irq",
-    "rt_listing push_body", "rt_baker judge_item", "rt_inputs_audit InputsAuditor::end",
+    "rt_listing push_body", "rt_listing push_spaced", "rt_listing push_count", "rt_listing push_instr",
+    "rt_listing push_section", "rt_listing push_note", "rt_elf push_words", "rt_native push_stub",
+    "rt_native push_sequence", "rt_native push_tick", "rt_judge Sections::take", "rt_judge Findings::take_point",
+    "rt_judge Nestings::behind", "rt_judge NestingTable::put", "rt_judge walk_from", "rt_judge Walk::take_in",
+    "rt_baker judge_item", "rt_inputs_audit InputsAuditor::end",
 }
 # Arguments of which no clause says what is left: the sink of a text has had lines of it, a buffer may have had bytes,
 # and a judge is done with.

@@ -1,6 +1,7 @@
 """Refused lines of boards, and lines of scripts that give values to a board's inputs: which word, and what is due."""
 import re
 
+from . import chips
 from .scripts import HASH, LARGEST, NUMERAL, WORDS, Line, plain_number, similar, words_with_places, write
 from .table import Phrase
 
@@ -36,6 +37,10 @@ def board_line(app, number, source, lines, size, table, takes):
     said, words = Line(source), words_with_places(source)
     if number == 1:
         said.cause, said.helps = table.cause("board 1", A=Phrase(f"{size:,}")), [table.mending("board 1")]
+    elif number > 7 or number == 7 and chips.is_of_chip(words):
+        chips.chip_line(app, said, number, words, lines, table)
+    elif number == 2 and chips.is_of_chip(words) and source == source.strip(" \t\r"):
+        chips.bad_line(said, words, takes)
     elif number == 2:
         bad_line(app, said, words, table)
         names = {"T": [task.name.text for task in hardware(app)],

@@ -38,12 +38,12 @@ def image_line(number, lines, line, front, ended, size, table, takes):
 def other_text(said, front):
     """What a text is that is no listing, where its beginning tells."""
     if APPLICATION.match(front):
-        said.cause = "an application begins so, and `verify` takes the listing of an image"
+        said.cause = "an application begins so, and the listing of an image is due"
         said.helps = ["`rtic build APP > LISTING` makes one, and `rtic verify LISTING` judges it"]
     elif SCRIPT.match(front):
-        said.cause = "a script begins so, and `verify` takes the listing of an image"
+        said.cause = "a script begins so, and the listing of an image is due"
     elif TRACE.match(front):
-        said.cause = "a trace begins so, and `verify` takes the listing of an image"
+        said.cause = "a trace begins so, and the listing of an image is due"
     elif front.startswith(("#", "//", ";", "--")):
         said.cause = "a listing has no comments, and its first line is `image ..`"
         said.helps = []

@@ -1,7 +1,7 @@
 """`--all`: the refused lines of a script, limits or a trace behind the first one."""
 import re
 
-LINE_REFUSAL = re.compile(r"(script|board|trace|limits|image):(\d+) (\d) ([^\n]*)\n")
+LINE_REFUSAL = re.compile(r"(script|board|trace|limits|image):(\d+) (\d+) ([^\n]*)\n")
 MOST = 100
 # a line of no form at the end: no script is run while there are others, and no trace is judged
 LAST = "?"

@@ -22,6 +22,8 @@ PLACES = 3
 FRONT = 4_096
 APPLICATION, SECOND = MOST_BYTES, 268_435_456
 DONE, REFUSED, USAGE, BAD_LINE, NO, UNREAD = range(6)
+# the commands that judge the image of a listing
+JUDGING = ("verify", "rticx why")
 
 
 class Explained:
@@ -45,7 +47,7 @@ class Explained:
             if stat.S_ISREG(mode) or stat.S_ISDIR(mode):
                 return name
             path = os.path.join(self.program.folder.name, f"input{number}")
-            left = (APPLICATION if number == 0 and self.words[0] != "verify" else SECOND) + 1
+            left = (APPLICATION if number == 0 and self.words[0] not in JUDGING else SECOND) + 1
             source = open(0 if is_input else name, "rb", closefd=not is_input)
             with source, open(path, "wb") as copy:
                 while piece := source.read(min(1 << 16, left)):
@@ -74,8 +76,8 @@ class Explained:
             self.page(pages.COMMANDS)
         elif status == BAD_LINE and (found := LINE_REFUSAL.match(front.decode("latin-1"))):
             self.bad_lines(found[1], int(found[2]), int(found[3]), found[4])
-        elif status == NO and self.words[0] == "verify":
-            self.broken_rule(int(front[3:]))
+        elif status == NO and self.words[0] in JUDGING:
+            self.broken_rule(int(front.split()[1]))
             self.page(pages.VERIFY)
         elif status == NO and front.startswith(b"no "):
             self.wrong_item(int(front[3:]))
@@ -156,7 +158,7 @@ class Explained:
 
     def bad_lines(self, which, line, number, words):
         """A refused line, or with `--all` each."""
-        place = {"verify": 0, "pair": 2}.get(self.words[0], 2 if self.is_beside and which != "board" else 1)
+        place = {"image": 0}.get(which, 2 if self.words[0] == "pair" or self.is_beside and which != "board" else 1)
         if not self.is_all or which == "image" or self.is_beside or not self.program.answers:
             return self.bad_line(which, line, number, words, place)
         found = list(refused_lines(self.program, self.handed, place, self.text(place)))
@@ -197,7 +199,7 @@ class Explained:
         self.report.head(self.names[place], line, said.start + 1, f"{which} {number} {words}")
         self.report.rows([(line, source)], said.start, said.length, "")
         self.report.sentences([("cause", said.cause)] + [("help", one) for one in said.helps])
-        self.page(pages.OF_LINES["board" if self.is_beside and which != "limits" else which])
+        self.page(pages.OF_LINES["board" if self.is_beside and which not in ("limits", "image") else which])
 
     def page(self, section):
         """The section of the documents that says more."""

@@ -12,7 +12,7 @@ COMMANDS = {
 BESIDE = "rticx"
 COMMANDS_BESIDE = {
     "rticx run": ("APP", "BOARD", "SCRIPT"), "rticx audit": ("APP", "BOARD", "TRACE"),
-    "rticx live": ("APP", "BOARD", "SCRIPT"),
+    "rticx live": ("APP", "BOARD", "SCRIPT"), "rticx native": ("APP", "BOARD"), "rticx why": ("IMAGE",),
 }
 TAKEN = {**COMMANDS, **COMMANDS_BESIDE}
 RANGES = {"NUMBER": (0, (1 << 64) - 1), "COUNT": (1, 10_000), "WORKERS": (1, 64), "N": (1, 48)}
@@ -120,7 +120,7 @@ def of_words(words):
     name = words[0]
     if name in TAKEN:
         beside = f"{BESIDE} {name}"
-        is_beside = len(words) == 4 and beside in COMMANDS_BESIDE
+        is_beside = len(words) - 1 == len(COMMANDS_BESIDE.get(beside, ())) and beside in COMMANDS_BESIDE
         more = [("help", f"with a board it is the second program's: `{' '.join([beside, *words[1:]])}`")]
         return [("cause", of_command(words))] + more * is_beside
     built = BUILT_BESIDE if is_of_beside(words) else BUILT

@@ -1,7 +1,7 @@
 #!/usr/bin/env python3
 """What tools/explain says of the second program's answers: refused boards, scripts and traces beside them, wrong lines,
-and words. A stub stands for the program, which writes the answer of a row; where the second program is built, or RTICX
-names it, the answers are compared with its own."""
+listings under `why`, and words. A stub stands for the program, which writes the answer of a row; where the second
+program is built, or RTICX names it, the answers are compared with its own."""
 import os
 import pathlib
 import re
@@ -16,9 +16,12 @@ sys.dont_write_bytecode = True
 from explaining.main import explained_call
 from explaining.program import Program, asked_program
 
-# of a board that is a right line and then one of no form, as tools/explain asks, it says that the second one is refused
+# of a board that is one of these right lines and then one of no form, as tools/explain asks, it says that the second
+# one is refused
 STUB = """#!/bin/sh
-[ "$(cat "$3" 2>/dev/null)" != "$(printf 'input rx received\\n?')" ] || { echo 'board:2 2 bad line'; exit 3; }
+for line in 'input rx received' 'ram 0x20000000 0x10000'; do
+    [ "$(cat "$3" 2>/dev/null)" != "$(printf '%s\\n?' "$line")" ] || { echo 'board:2 2 bad line'; exit 3; }
+done
 printf '%s\\n' "$ANSWER"
 exit "$STATUS"
 """
@@ -35,7 +38,8 @@ task digest(priority = 1, local = [crc]) with value { crc = crc ^ value; }
 BOARD = "input rx received\ninput pin level\n"
 # A row: a board, the third text or none where a right one is meant, the answer, and sentences that must come.
 BOARDS = (
-    ("in rx received", "1 2 bad line", "no line of a board begins with `in`", "the lines are `input T R` and `# ..`"),
+    ("in rx received", "1 2 bad line", "no line of a board begins with `in`",
+     "the lines are `input T R`, those of a chip, and `# ..`"),
     ("Input rx received", "1 2 bad line", "no line of a board begins with `Input`",
      "with `input rx received` in its place the line is read"),
     ("// the line", "1 2 bad line", "a comment begins with `#`, and has a line of its own"),
@@ -65,6 +69,19 @@ BOARDS = (
      "a device writes a local resource of the task whose interrupt it requests"),
     ("# two\ninput rx received\n\ninput rx received", "4 7 named twice", "`received` is an input already, by line 2",
      "a board names each input once"),
+    ("flash 0", "1 2 bad line", "the form is `flash A S`"),
+    ("ram 0x20000000 64K", "1 2 bad line", "`64K` is no number of 32 bits, decimal or behind `0x`",
+     "with `ram 0x20000000 0x10000` in its place the line is read"),
+    ("word 5 0", "1 2 bad line", "`word` wants a name, and `5` is none"),
+    ("port 0x40000000\n\nport 0x40000004", "3 7 named twice", "line 1 says this already"),
+    ("call UART1", "1 8 unknown interrupt", "no interrupt `UART1` is declared", "declared are `UART0`, `PIN`, `D`",
+     "an interrupt of a similar name is `UART0`"),
+    ("word received 0x40000000\ninput rx received", "1 9 unknown input", "no line before names an input `received`"),
+    ("ram 4 8", "1 10 out of range",
+     "RAM begins at a multiple of 8, has a byte or more, and ends at 0xE0000000 at the latest"),
+    ("flash 0 0x400\nport 0x3fc", "2 11 overlap", "this line and line 1 share a byte"),
+    ("bits 3", "1 12 too few bits",
+     "the application has 4 priority bits, and this core has fewer: two of its priorities would be one"),
     ("#" * (1 << 20) + "\n", "1 1 too long", "the board has 1,048,577 bytes, and 1,048,576 is the most"),
 )
 SCRIPTS = (
@@ -107,12 +124,21 @@ WRONG = (
      "all 3 lines are right, and what comes behind them is not"),
     (START + "1 input received 5\n1 input received 5\n", 5, "line 5 of the trace is the first that is wrong"),
 )
+GUARDED = (HERE.parents[1] / "examples" / "guarded.listing").read_text(encoding="ascii")
+# A row: a listing, the status, the answer, and sentences that must come.
+LISTINGS = (
+    (GUARDED.replace("code 5 add 0 0 1", "code 5 set 9 1"), 4,
+     "no 4\nslots\npoint handler LO 5 set 9 1\nopen count raise 2 224",
+     "there is no slot 9: the frame of the handler of `LO` has 4 words, the last number of its `irq` row, in line 3"),
+    (APP, 3, "image:1 2 bad line", "an application begins so, and the listing of an image is due"),
+)
 WORDS = (
-    (["rticx"], "the commands are `rticx run APP BOARD SCRIPT`, `rticx audit APP BOARD TRACE` and "
-                "`rticx live APP BOARD SCRIPT`"),
+    (["rticx"], "the commands are `rticx run APP BOARD SCRIPT`, `rticx audit APP BOARD TRACE`, "
+                "`rticx live APP BOARD SCRIPT`, `rticx native APP BOARD` and `rticx why IMAGE`"),
     (["rticx", "run", "app", "board"], "`rticx run` takes 3 files, APP, BOARD and SCRIPT, and 2 are here"),
     (["rticx", "rum", "app"], "a command of a similar name is `rticx run`"),
     (["run", "app", "board", "script"], "with a board it is the second program's: `rticx run app board script`"),
+    (["rticx", "native", "app"], "`rticx native` takes 2 files, APP and BOARD, and 1 is here"),
     (["rticx", "live", "app", "board"], "`rticx live` takes 3 files, APP, BOARD and SCRIPT, and 2 are here"),
 )
 
@@ -132,25 +158,27 @@ def said(words, status, answer):
 
 
 def rows():
-    """Each row: the command, the board, the third text, the status, the answer, and the sentences."""
+    """Each row: the command, its texts, the status, the answer, and the sentences."""
     for board, answer, *sentences in BOARDS:
-        yield "run", board, "step 1\n", 3, f"board:{answer}", sentences
+        yield "run", (APP, board, "step 1\n"), 3, f"board:{answer}", sentences
     for script, answer, *sentences in SCRIPTS:
-        yield "run", BOARD, script, 3, f"script:{answer}", sentences
+        yield "run", (APP, BOARD, script), 3, f"script:{answer}", sentences
     for trace, answer, *sentences in TRACES:
-        yield "audit", BOARD, trace, 3, f"trace:{answer}", sentences
+        yield "audit", (APP, BOARD, trace), 3, f"trace:{answer}", sentences
     for trace, number, *sentences in WRONG:
-        yield "audit", BOARD, trace, 4, f"no {number}", sentences
+        yield "audit", (APP, BOARD, trace), 4, f"no {number}", sentences
+    for listing, status, answer, *sentences in LISTINGS:
+        yield "why", (listing,), status, answer, sentences
 
 
 def compare(folder, program):
     """The faults of all rows; the program is the second one, or none."""
-    paths = [str(folder / name) for name in ("app", "board", "third")]
     faults = []
-    for command, board, third, status, answer, sentences in rows():
-        for path, text in zip(paths, (APP, board, third)):
+    for command, texts, status, answer, sentences in rows():
+        paths = [str(folder / name) for name, _ in zip(("app", "board", "third"), texts)]
+        for path, text in zip(paths, texts):
             pathlib.Path(path).write_text(text, encoding="ascii")
-        name = f"{answer} of {(third if board == BOARD else board)[:40]!r}"
+        name = f"{answer} of {[text[:40] for text in texts if text not in (APP, BOARD)]}"
         if program:
             done = subprocess.run([program, command, *paths], capture_output=True, check=False)
             if (done.returncode, done.stdout.decode("latin-1")) != (status, answer + "\n"):

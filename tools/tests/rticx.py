@@ -28,6 +28,8 @@ CASES = pathlib.Path(__file__).resolve().with_suffix("") / "cases"
 TEXTS = ("app", "second", "third")
 # the kibibytes of stack in which each command ends
 STACK = 128
+# what a program takes of a chip, with room for each application of the table
+CHIP = b"flash 0 0x400000\nram 0x20000000 0x400000\nport 0x4002804c\ntick 24999\nbits 4\n"
 
 
 def words_on(starter, row):
@@ -67,13 +69,15 @@ def strange_words(starter, told):
 
 
 def commands():
-    """Each command on texts of the table: the first row of each that ends well."""
+    """Each command on texts of the table, the first row that ends well; and `native`, whose output is no text."""
     found = {}
     for row in cases(CASES):
-        word = row["words"].decode().split()[0]
+        word, *texts = row["words"].decode().split()
         if row["exit"].strip() == b"0" and word not in found:
-            found[word] = Command(word, TEXTS, tuple(row[text] for text in TEXTS), free=word == "live")
-    return [*found.values(), Command("help", (), (), whole=2)]
+            found[word] = Command(word, tuple(texts), tuple(row[text] for text in texts), free=word == "live")
+    app, board = found["run"].texts[:2]
+    native = Command("native", TEXTS[:2], (app, board + b"\n" + CHIP))
+    return [*found.values(), native, Command("help", (), (), whole=2)]
 
 
 def try_all(starter, told):

@@ -1,9 +1,9 @@
 -- What a text of `rticx` is refused by, and with which texts each command begins.
-use Rattle.std.proofs.Common.{◌≡◌, ℕ, List, ◌∷◌, drop, refl}
+use Rattle.std.proofs.Common.{◌≡◌, ◌≢◌, ℕ, List, ◌∷◌, drop, refl}
 use Rattle.rt_app.specs.Tree.{App}
 use Rattle.rt_build.specs.Accepted.{IsApplication}
 use Rattle.rt_board.specs.Board as boards
-use Rattle.rt_board.specs.Reading.{IsBoardOf}
+use Rattle.rt_target.specs.Reading.{IsBoardOf}
 use Rattle.rt_top.specs.Kinds as first_kind
 use Rattle.rt_top.specs.Program.{Inputs}
 use Rattle.rt_top.specs.Rtic.{rtic_program}
@@ -13,6 +13,9 @@ use Rattle.rt_topx.specs.declared.command.Command.{Command}
 use Rattle.rt_topx.specs.declared.command.Command.TheVariants as command
 use Rattle.rt_topx.specs.Kinds.{kinds_of}
 use Rattle.rt_topx.specs.Kinds as kind
+use Rattle.rt_topx.specs.Inside.Beside.{command_of}
+use Rattle.rt_topx.specs.declared.decide.Beside.{Beside}
+use Rattle.rt_topx.specs.declared.decide.Beside.TheVariants as beside
 use Rattle.rt_topx.specs.Refusal.{RefusesBeside}
 use Rattle.rt_topx.specs.Rticx.{rticx_program}
 
@@ -22,6 +25,13 @@ pub not_application : (t : Inputs) (gave : List ℕ) (Does : ℕ → Use → Typ
     → IsNotRead rticx_program kind.Application t gave Does r
 not_application t gave Does r (refusal ended line whole is) = refusal ended line whole is
 not_application t gave Does r (stop ended stops) = stop ended stops
+
+-- likewise no listing
+pub not_listing : (t : Inputs) (gave : List ℕ) (Does : ℕ → Use → Type 0) (r : Reply)
+    → IsNotRead rtic_program first_kind.Listing gave gave Does r
+    → IsNotRead rticx_program kind.Listing t gave Does r
+not_listing t gave Does r (refusal ended line whole is) = refusal ended line whole is
+not_listing t gave Does r (stop ended stops) = stop ended stops
 
 -- so is one over an application and beside a board
 pub refused_beside : {R : Type 0} {IsRefused : App → boards.Board → List ℕ → R → Type 0} {Says : R → List ℕ → Type 0}
@@ -38,13 +48,15 @@ refused_beside app is board of_board r refused says = record {
   says = says;
 }
 
--- all commands begin with an application, and go on with a board
-pub begins : (c : Command) → kinds_of c ≡ kind.Application ∷ drop 1 (kinds_of c)
-begins command.Run = refl
-begins command.Audit = refl
-begins command.Live = refl
+-- all commands but one begin with an application, and those with a third text go on with a board
+pub begins : (c : Command) → c ≢ command.Why → kinds_of c ≡ kind.Application ∷ drop 1 (kinds_of c)
+begins command.Run other = refl
+begins command.Audit other = refl
+begins command.Live other = refl
+begins command.Native other = refl
+begins command.Why other = absurd (other refl)
 
-pub goes_on : (c : Command) → drop 1 (kinds_of c) ≡ kind.Board ∷ drop 2 (kinds_of c)
-goes_on command.Run = refl
-goes_on command.Audit = refl
-goes_on command.Live = refl
+pub goes_on : (b : Beside) → drop 1 (kinds_of (command_of b)) ≡ kind.Board ∷ drop 2 (kinds_of (command_of b))
+goes_on beside.Run = refl
+goes_on beside.Audit = refl
+goes_on beside.Live = refl

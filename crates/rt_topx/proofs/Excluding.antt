@@ -1,19 +1,22 @@
 -- A text is refused or is read, not both, and each command has one output or one status: so `rticx` is lawful.
-use Rattle.std.proofs.Common.{◌≡◌, ℕ, List, inl, inr, sym, ap, subst, ◌∙◌, arith}
+use Rattle.std.proofs.Common.{◌≡◌, ℕ, List, inl, inr, refl, sym, ap, subst, ◌∙◌, arith}
+use Rattle.std.specs.List.{list_any}
+use Rattle.rt_lemmas.proofs.Bools.{true_and_false}
 use Rattle.rt_ids.specs.declared.status.Status.{Status}
 use Rattle.rt_ids.specs.declared.status.Status.TheVariants as status
 use Rattle.rt_app.specs.Names.{names_of}
 use Rattle.rt_app.specs.Tree.{App}
 use Rattle.rt_build.specs.Accepted.{IsApplication}
+use Rattle.rt_build.specs.Built.{IsBuilt}
+use Rattle.rt_build.proofs.OneImage.{one_is_built}
+use Rattle.rt_code.specs.Image.{Image}
+use Rattle.rt_native.specs.Fitting.{Fits}
 use Rattle.rt_baker.specs.declared.verdict.Verdict.{Verdict}
 use Rattle.rt_baker.specs.declared.verdict.Verdict.TheVariants as judged
 use Rattle.rt_lines.specs.Refusal.{too_long, first_wrong, no_memory}
 use Rattle.rt_lines.specs.declared.refusal.TextRefused.{TextRefused}
 use Rattle.rt_lines.proofs.Reading.{read_one_way}
 use Rattle.rt_board.specs.Board as boards
-use Rattle.rt_board.specs.Reading.{IsBoardOf, board_reader}
-use Rattle.rt_board.specs.Reading as board
-use Rattle.rt_board.specs.declared.refusal.Cause as in_board
 use Rattle.rt_given.specs.Reading.{IsGivenText, given_reader}
 use Rattle.rt_given.specs.Reading as given
 use Rattle.rt_given.specs.declared.line.GivenLine.{GivenLine}
@@ -22,28 +25,49 @@ use Rattle.rt_inputs_audit.specs.Audit.{IsVerdictBeside, JudgedBeside}
 use Rattle.rt_inputs_audit.specs.Reading.{Told, Standing, IsInputsText, inputs_reader}
 use Rattle.rt_inputs_audit.specs.Reading as trace
 use Rattle.rt_inputs_audit.specs.declared.refusal.Cause as in_trace
+use Rattle.rt_load.proofs.OneWay as listings
+use Rattle.rt_points.specs.Checked.{IsChecked}
+use Rattle.rt_target.specs.Reading.{IsBoardOf, IsSetupOf, IsTargetOf, setup_reader, target_reader}
+use Rattle.rt_target.specs.Reading as board
+use Rattle.rt_target.specs.Setup.{Setup}
+use Rattle.rt_target.specs.declared.refusal.Cause as in_board
+use Rattle.rt_target.specs.declared.refusal.Cause.{Cause}
+use Rattle.rt_target.specs.declared.refusal.Cause.TheVariants as cause
+use Rattle.rt_target.specs.Chip.{is_call}
 use Rattle.rt_trace.specs.Reading.{total_of}
 use Rattle.rt_top.specs.Program.{Inputs, each_of}
 use Rattle.rt_top.proofs.Due.{AreDue, due_as, SaysWhether, whether_once, AreOfKinds, IsLawful}
-use Rattle.rt_top.proofs.Excluding.{application_passes, application_only}
+use Rattle.rt_top.proofs.Excluding.{application_passes, application_only, image_read}
 use Rattle.rt_topx.specs.declared.command.Command.{Command}
 use Rattle.rt_topx.specs.declared.command.Command.TheVariants as command
 use Rattle.rt_topx.specs.Kinds.{TextKind, kinds_of, IsOfKind, IsRefusedBy}
 use Rattle.rt_topx.specs.Kinds as kind
-use Rattle.rt_topx.specs.Refusal.{RefusesBoard, RefusesBeside, SaysBoard, SaysScript, SaysTrace}
-use Rattle.rt_topx.specs.Outputs.{IsAudited, Says}
+use Rattle.rt_topx.specs.Refusal.{RefusesBoard, RefusesTarget, RefusesBeside, SaysBoard, SaysScript, SaysTrace}
+use Rattle.rt_topx.specs.Outputs.{IsAudited, Says, IsMadeNative}
+use Rattle.rt_topx.specs.Executable.{CallsNothing, Misfits, IsMade}
+use Rattle.rt_topx.specs.Explained.{Explains}
+use Rattle.rt_topx.specs.Explained as explained
+use Rattle.rt_topx.specs.Target.{target_of}
 use Rattle.rt_topx.specs.Rticx.{IsOutputOf, rticx_program}
 use Rattle.rt_topx.proofs.CommandWords.{one_command}
 
 -- What is read is refused by no line.
 
 -- a board, of an application
-board_read : (app : App) (more line : List ℕ) (b : boards.Board) (r : TextRefused in_board.Cause) → IsBoardOf app more b
+board_read : (app : App) (more line : List ℕ) (s : Setup) (r : TextRefused in_board.Cause) → IsSetupOf app more s
     → board.IsRefused app more r → SaysBoard r line → ⊥
-board_read app more line b r is (too_long long) says = omega (arith, is.short, long)
-board_read app more line b r is (first_wrong n w first) says =
-    (read_one_way (board_reader app)).not_both more b n w is first
-board_read app more line b r is no_memory says = says
+board_read app more line s r is (too_long long) says = omega (arith, is.short, long)
+board_read app more line s r is (first_wrong n w first) says =
+    (read_one_way (setup_reader app)).not_both more s n w is first
+board_read app more line s r is no_memory says = says
+
+-- a board for which a program is made
+target_read : (app : App) (more line : List ℕ) (s : Setup) (r : TextRefused in_board.Cause) → IsTargetOf app more s
+    → board.IsTargetRefused app more r → SaysBoard r line → ⊥
+target_read app more line s r is (too_long long) says = omega (arith, is.short, long)
+target_read app more line s r is (first_wrong n w first) says =
+    (read_one_way (target_reader app)).not_both more s n w is first
+target_read app more line s r is no_memory says = says
 
 -- a script, over an application and beside a board
 script_read : (app : App) (b : boards.Board) (more line : List ℕ) (s : List GivenLine) (r : TextRefused in_script.Cause)
@@ -72,14 +96,27 @@ told_only app b text one other is is' =
     ∙ sym is'.tells
 
 -- the board of a text is one
-board_only : (app : App) (text : List ℕ) (a b : boards.Board) → IsBoardOf app text a → IsBoardOf app text b → a ≡ b
-board_only app text a b one other = (read_one_way (board_reader app)).one_state text a b one other
+pub board_only : (app : App) (text : List ℕ) (a b : boards.Board) → IsBoardOf app text a → IsBoardOf app text b → a ≡ b
+board_only app text a b one other =
+    sym one.1
+    ∙ ap (λ (s : Setup). s.board) ((read_one_way (setup_reader app)).one_state text one.0 other.0 one.2 other.2)
+    ∙ other.1
+
+-- and what it tells of a chip
+target_only : (app : App) (text : List ℕ) (s u : Setup) → IsTargetOf app text s → IsTargetOf app text u → s ≡ u
+target_only app text s u one other = (read_one_way (target_reader app)).one_state text s u one other
 
 board_passes : (text more line : List ℕ) (app : App) → IsApplication text app → (b : boards.Board)
     → IsBoardOf app more b → RefusesBoard text more line → ⊥
 board_passes text more line app is b read r =
-    board_read r.app more line b r.refusal
-    (subst (λ a. IsBoardOf a more b) (application_only text app r.app is r.of_text) read) r.refused r.says
+    board_read r.app more line read.0 r.refusal
+    (subst (λ a. IsSetupOf a more read.0) (application_only text app r.app is r.of_text) read.2) r.refused r.says
+
+target_passes : (text more line : List ℕ) (app : App) → IsApplication text app → (s : Setup)
+    → IsTargetOf app more s → RefusesTarget text more line → ⊥
+target_passes text more line app is s read r =
+    target_read r.app more line s r.refusal
+    (subst (λ a. IsTargetOf a more s) (application_only text app r.app is r.of_text) read) r.refused r.says
 
 -- what is of a kind over an application and beside a board is not refused there
 beside_passes : {S R : Type 0} (IsOf : App → boards.Board → List ℕ → S → Type 0)
@@ -101,12 +138,16 @@ one_of_each : (k : TextKind) (t : Inputs) (text : List ℕ) (ended : Status) (li
 one_of_each kind.Application t text ended line (app, is) (told, r) = application_passes text line app is r
 one_of_each kind.Board t text ended line (app, is, b, read) (told, r) =
     board_passes t.first text line app is b read r
+one_of_each kind.Target t text ended line (app, is, s, read) (told, r) =
+    target_passes t.first text line app is s read r
 one_of_each kind.Script t text ended line (app, is, b, of_board, script, read) (told, r) =
     beside_passes (λ a c. IsGivenText (names_of a) a c) (λ a c. given.IsRefused (names_of a) a c) SaysScript
     script_read t.first t.second text line app is b of_board script read r
 one_of_each kind.Trace t text ended line (app, is, b, of_board, told, read) (as_told, r) =
     beside_passes (λ a c. IsInputsText (names_of a) a c) (λ a c. trace.IsRefused (names_of a) a c) SaysTrace
     trace_read t.first t.second text line app is b of_board told read r
+one_of_each kind.Listing t text ended line (image, is) (told, (refusal, met, says)) =
+    image_read text line image refusal is met says
 
 -- a verdict says whether the lines are right
 judged_so : (app : App) (b : boards.Board) (told : Told) (v : Verdict) (ended : Status) (bytes : List ℕ)
@@ -131,13 +172,70 @@ audited_so text beside more a b x y one other =
     (subst (λ p. SaysWhether (JudgedBeside p other.board other.told.lines other.told.total) b) app
     (judged_so other.app other.board other.told other.verdict b y other.is other.says))))
 
+-- an image that does not fit does not fit
+misfit : (app : App) (image : Image) (setup : Setup) (why : Cause) → Misfits app image setup why
+    → ¬ (CallsNothing setup × Fits image (target_of app setup))
+misfit app image setup cause.NoObject is (none, fits) = true_and_false (list_any is_call setup.facts) is none
+misfit app image setup cause.TooFewLines is (none, fits) = is.1 fits.0
+misfit app image setup cause.SmallRam (calls, is) (none, fits) = is.1 fits.1
+misfit app image setup cause.SmallFlash (calls, is) (none, fits) = is.2 fits.2
+misfit app image setup cause.FarBranch (calls, is) (none, fits) = is.3 fits.3
+misfit app image setup cause.LongFile (calls, is) (none, fits) = is.4 fits.4
+misfit app image setup cause.TooLong is fits = absurd is
+misfit app image setup cause.BadLine is fits = absurd is
+misfit app image setup cause.UnknownTask is fits = absurd is
+misfit app image setup cause.SoftwareTask is fits = absurd is
+misfit app image setup cause.UnknownLocal is fits = absurd is
+misfit app image setup cause.LocalOfAnother is fits = absurd is
+misfit app image setup cause.NamedTwice is fits = absurd is
+misfit app image setup cause.UnknownInterrupt is fits = absurd is
+misfit app image setup cause.UnknownInput is fits = absurd is
+misfit app image setup cause.OutOfRange is fits = absurd is
+misfit app image setup cause.Overlap is fits = absurd is
+misfit app image setup cause.TooFewBits is fits = absurd is
+misfit app image setup cause.NoFlash is fits = absurd is
+misfit app image setup cause.NoRam is fits = absurd is
+misfit app image setup cause.NoPort is fits = absurd is
+misfit app image setup cause.NoBits is fits = absurd is
+
+made_once : (app : App) (image : Image) (text : List ℕ) (setup : Setup) (a b : Status) (x y : List ℕ)
+    → IsMade app image text setup a x → IsMade app image text setup b y → AreDue a b
+made_once app image text setup a b x y (inl w) (inl v) = due_as status.Done a b tt w.0 v.0
+made_once app image text setup a b x y (inl w) (inr v) =
+    let is = w.1 in absurd (misfit app image setup v.1 v.2 (is.0, is.1))
+made_once app image text setup a b x y (inr w) (inl v) =
+    let is = v.1 in absurd (misfit app image setup w.1 w.2 (is.0, is.1))
+made_once app image text setup a b x y (inr w) (inr v) = due_as status.Text a b tt w.0 v.0
+
+made_so : (text beside : List ℕ) (a b : Status) (x y : List ℕ) → IsMadeNative text beside a x
+    → IsMadeNative text beside b y → AreDue a b
+made_so text beside a b x y one other =
+    let app : other.app ≡ one.app = application_only text other.app one.app other.of_text one.of_text in
+    let on = subst (λ p. IsTargetOf p beside other.setup) app other.of_board in
+    let setup : other.setup ≡ one.setup = target_only one.app beside other.setup one.setup on one.of_board in
+    let built = subst (λ p. IsBuilt p other.image) app other.is.built in
+    let image : other.image ≡ one.image = one_is_built one.app other.image one.image built one.is.built in
+    made_once one.app one.image beside one.setup a b x y one.made
+    (subst (λ i. IsMade one.app i beside one.setup b y) image
+    (subst (λ s. IsMade one.app other.image beside s b y) setup
+    (subst (λ p. IsMade p other.image beside other.setup b y) app other.made)))
+
+-- an answer says whether the image is checked
+explained_so : (image : Image) (ended : Status) (bytes : List ℕ) → Explains image ended bytes
+    → SaysWhether (IsChecked image) ended
+explained_so image ended bytes (explained.is_safe checked safe) = inl (refl, checked)
+explained_so image ended bytes (explained.breaks w least is) =
+    inr (refl, λ (checked : IsChecked image). least.broken (checked least.rule))
+
 -- a refusal has the status of its kind
 one_refusal : (k : TextKind) (t : Inputs) (text : List ℕ) (a b : Status) (x y : List ℕ) → IsRefusedBy k t text a x
     → IsRefusedBy k t text b y → AreDue a b
 one_refusal kind.Application t text a b x y r s = due_as status.App a b tt r.0 s.0
 one_refusal kind.Board t text a b x y r s = due_as status.Text a b tt r.0 s.0
+one_refusal kind.Target t text a b x y r s = due_as status.Text a b tt r.0 s.0
 one_refusal kind.Script t text a b x y r s = due_as status.Text a b tt r.0 s.0
 one_refusal kind.Trace t text a b x y r s = due_as status.Text a b tt r.0 s.0
+one_refusal kind.Listing t text a b x y r s = due_as status.Text a b tt r.0 s.0
 
 -- where there is an output each text is of its kind
 all_read : (c : Command) (t : Inputs) (ended : Status) (bytes : List ℕ) → IsOutputOf c t ended bytes
@@ -154,12 +252,22 @@ all_read command.Live t ended bytes (is, w) = (
   (w.app, w.is.of_text),
   ((w.app, w.is.of_text, w.board, w.of_board), ((w.app, w.is.of_text, w.board, w.of_board, w.script, w.read), tt)),
 )
+all_read command.Native t ended bytes w = (
+  (w.app, w.of_text),
+  ((w.app, w.of_text, w.setup, w.of_board), tt),
+)
+all_read command.Why t ended bytes (image, is, explains) = ((image, is), tt)
 
 one_output : (c : Command) (t : Inputs) (a b : Status) (x y : List ℕ) → IsOutputOf c t a x → IsOutputOf c t b y
     → AreDue a b
 one_output command.Run t a b x y w v = due_as status.Done a b tt w.0 v.0
 one_output command.Audit t a b x y w v = audited_so t.first t.second t.third a b x y w v
 one_output command.Live t a b x y w v = due_as status.Done a b tt w.0 v.0
+one_output command.Native t a b x y w v = made_so t.first t.second a b x y w v
+one_output command.Why t a b x y (image, is, one) (other, is', told) =
+    whether_once (IsChecked image) a b (explained_so image a x one)
+    (subst (λ i. SaysWhether (IsChecked i) b) (listings.read_one_way.one_image t.first other image is' is)
+    (explained_so other b y told))
 
 pub lawful : IsLawful rticx_program
 lawful = record {

@@ -4,3 +4,7 @@ mod CommandWords
 mod Scripted
 mod Running
 mod Living
+mod Regions
+mod Making
+mod Reading
+mod Explaining

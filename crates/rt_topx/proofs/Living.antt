@@ -22,7 +22,7 @@ use Rattle.rt_script.specs.Script as script
 use Rattle.rt_sim.specs.Beside.{shown_beside, CountsFitBeside, RunsWellBeside}
 use Rattle.rt_sim.specs.Good.{is_tick_event, is_arming}
 use Rattle.rt_board.specs.Board.{Board, AreInputs}
-use Rattle.rt_board.specs.Reading.{IsBoardOf}
+use Rattle.rt_target.specs.Reading.{IsBoardOf}
 use Rattle.rt_given.specs.Given.{asked, asked_line, count_of}
 use Rattle.rt_given.specs.Reading.{IsGivenText}
 use Rattle.rt_given.specs.declared.line.GivenLine.{GivenLine}

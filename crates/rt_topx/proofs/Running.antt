@@ -8,7 +8,7 @@ use Rattle.rt_app.specs.Tree.{App}
 use Rattle.rt_build.specs.Accepted.{IsApplication}
 use Rattle.rt_code.specs.Image.{Image}
 use Rattle.rt_board.specs.Board.{Board, AreInputs}
-use Rattle.rt_board.specs.Reading.{IsBoardOf}
+use Rattle.rt_target.specs.Reading.{IsBoardOf}
 use Rattle.rt_given.specs.Given.{asked}
 use Rattle.rt_given.specs.Reading.{IsGivenText}
 use Rattle.rt_given.specs.declared.line.GivenLine.{GivenLine}

@@ -8,52 +8,69 @@ use Rattle.rt_app.specs.Names.{names_of}
 use Rattle.rt_app.specs.Tree.{App}
 use Rattle.rt_build.specs.Accepted.{IsApplication}
 use Rattle.rt_board.specs.Board as boards
-use Rattle.rt_board.specs.Reading.{IsBoardOf}
+use Rattle.rt_code.specs.Image.{Image}
 use Rattle.rt_given.specs.Reading.{IsGivenText}
 use Rattle.rt_given.specs.declared.line.GivenLine.{GivenLine}
 use Rattle.rt_inputs_audit.specs.Reading.{Told, IsInputsText}
+use Rattle.rt_load.specs.Reading.{IsListingText}
+use Rattle.rt_load.specs.declared.refusal.TheConstants.{IMAGE_BYTES}
+use Rattle.rt_target.specs.Reading.{IsBoardOf, IsTargetOf}
+use Rattle.rt_target.specs.Setup.{Setup}
 use Rattle.rt_top.specs.Refusal.{RefusesApplication}
 use Rattle.rt_top.specs.Program.{Inputs}
+use Rattle.rt_top.specs.Verified.{RefusesListing}
 use Rattle.rt_topx.specs.declared.command.Command.{Command}
 use Rattle.rt_topx.specs.declared.command.Command.TheVariants as command
-use Rattle.rt_topx.specs.Refusal.{RefusesBoard, RefusesScript, RefusesTrace}
+use Rattle.rt_topx.specs.Refusal.{RefusesBoard, RefusesTarget, RefusesScript, RefusesTrace}
 
 -- what a text is that a command reads
 pub data TextKind : Type 0 where
   Application : TextKind
   -- of the first application
   Board : TextKind
+  -- a board for which a program is made
+  Target : TextKind
   -- these are over the names of the application and the inputs of the board
   Script : TextKind
   Trace : TextKind
+  -- the listing of an image, whatever made it
+  Listing : TextKind
 
 -- the kinds of the texts that a command reads
 abbrev pub kinds_of : Command → List TextKind
 kinds_of command.Run = Application ∷ Board ∷ Script ∷ []
 kinds_of command.Audit = Application ∷ Board ∷ Trace ∷ []
 kinds_of command.Live = Application ∷ Board ∷ Script ∷ []
+kinds_of command.Native = Application ∷ Target ∷ []
+kinds_of command.Why = Listing ∷ []
 
 -- the most bytes of a text of the kind
 abbrev pub most_bytes : TextKind → ℕ
 most_bytes Application = TEXT_BYTES
 most_bytes Board = SCRIPT_BYTES
+most_bytes Target = SCRIPT_BYTES
 most_bytes Script = SCRIPT_BYTES
 most_bytes Trace = TRACE_BYTES
+most_bytes Listing = IMAGE_BYTES
 
 -- the text is of the kind, where these are the texts that the command reads
 abbrev pub IsOfKind : TextKind → Inputs → List ℕ → Type 0
 IsOfKind Application t text = (app : App) × IsApplication text app
 IsOfKind Board t text = (app : App) × IsApplication t.first app × (board : boards.Board) × IsBoardOf app text board
+IsOfKind Target t text = (app : App) × IsApplication t.first app × (setup : Setup) × IsTargetOf app text setup
 IsOfKind Script t text =
     (app : App) × IsApplication t.first app × (board : boards.Board) × IsBoardOf app t.second board
     × (script : List GivenLine) × IsGivenText (names_of app) app board text script
 IsOfKind Trace t text =
     (app : App) × IsApplication t.first app × (board : boards.Board) × IsBoardOf app t.second board
     × (told : Told) × IsInputsText (names_of app) app board text told
+IsOfKind Listing t text = (image : Image) × IsListingText text image
 
 -- the text is none of the kind, and is refused with this status and this line
 abbrev pub IsRefusedBy : TextKind → Inputs → List ℕ → Status → List ℕ → Type 0
 IsRefusedBy Application t text ended line = (ended ≡ status.App) × RefusesApplication text line
 IsRefusedBy Board t text ended line = (ended ≡ status.Text) × RefusesBoard t.first text line
+IsRefusedBy Target t text ended line = (ended ≡ status.Text) × RefusesTarget t.first text line
 IsRefusedBy Script t text ended line = (ended ≡ status.Text) × RefusesScript t.first t.second text line
 IsRefusedBy Trace t text ended line = (ended ≡ status.Text) × RefusesTrace t.first t.second text line
+IsRefusedBy Listing t text ended line = (ended ≡ status.Text) × RefusesListing text line

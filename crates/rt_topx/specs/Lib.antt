@@ -1,6 +1,9 @@
 pub mod Words
 pub mod Refusal
 pub mod Kinds
+pub mod Target
+pub mod Executable
+pub mod Explained
 pub mod Outputs
 pub mod Rticx
 pub mod Inside

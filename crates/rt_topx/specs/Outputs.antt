@@ -12,7 +12,6 @@ use Rattle.rt_listing.specs.Listing.{listing}
 use Rattle.rt_sim.specs.Beside.{CountsFitBeside, RunsWellBeside}
 use Rattle.rt_sim.specs.Good.{AreDeclared}
 use Rattle.rt_board.specs.Board.{Board, AreInputs}
-use Rattle.rt_board.specs.Reading.{IsBoardOf}
 use Rattle.rt_given.specs.Reading.{IsGivenText}
 use Rattle.rt_given.specs.declared.line.GivenLine.{GivenLine}
 use Rattle.rt_inputs.specs.Inputs.{Happening, AreWords, events_of, moves_of}
@@ -21,7 +20,10 @@ use Rattle.rt_inputs.specs.Script.{text_with_inputs}
 use Rattle.rt_live_inputs.specs.Output.{IsLiveText, happened}
 use Rattle.rt_inputs_audit.specs.Audit.{IsVerdictBeside}
 use Rattle.rt_inputs_audit.specs.Reading.{Told, IsInputsText}
-use Rattle.rt_top.specs.Outputs.{IsGoodImage}
+use Rattle.rt_target.specs.Reading.{IsBoardOf, IsTargetOf}
+use Rattle.rt_target.specs.Setup.{Setup}
+use Rattle.rt_top.specs.Outputs.{IsGoodOf, IsGoodImage}
+use Rattle.rt_topx.specs.Executable.{IsMade}
 
 -- The image is good beside the devices of a board: whatever happens to it, core steps, ticks, arrivals of declared
 -- interrupts, and words of 32 bits for the registers of the board's inputs, in any number and at any moment, what it
@@ -87,3 +89,16 @@ pub record IsLiveBeside (text beside more bytes : List ℕ) : Type 0 where
   pub live : IsLiveText app image board script shown
   pub written : bytes ≡ listing image ++ codes "trace\n" ++ shown
   pub runs : RunsWellBeside app image (moves_of app image board (happened script live.found))
+
+-- `native`: the executable of a good image, which is good beside the devices of the board too, for the chip of the
+-- board; or, where the image does not fit, the line of the board's text that is too small for it.
+pub record IsMadeNative (text beside : List ℕ) (ended : Status) (bytes : List ℕ) : Type 0 where
+  pub app : App
+  pub of_text : IsApplication text app
+  pub image : Image
+  pub is : IsGoodOf app image
+  pub setup : Setup
+  pub of_board : IsTargetOf app beside setup
+  pub inputs : AreInputs app setup.board.inputs
+  pub good : IsGoodBeside app image setup.board
+  pub made : IsMade app image beside setup ended bytes

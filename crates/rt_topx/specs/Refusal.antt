@@ -7,15 +7,15 @@ use Rattle.rt_app.specs.Names.{names_of}
 use Rattle.rt_app.specs.Tree.{App}
 use Rattle.rt_build.specs.Accepted.{IsApplication}
 use Rattle.rt_board.specs.Board.{Board}
-use Rattle.rt_board.specs.Reading as boards
-use Rattle.rt_board.specs.Text as board_text
-use Rattle.rt_board.specs.declared.refusal.Cause as in_board
 use Rattle.rt_given.specs.Reading as given
 use Rattle.rt_given.specs.Text as given_text
 use Rattle.rt_given.specs.declared.refusal.Cause as in_script
 use Rattle.rt_inputs_audit.specs.Reading as trace
 use Rattle.rt_inputs_audit.specs.Text as trace_text
 use Rattle.rt_inputs_audit.specs.declared.refusal.Cause as in_trace
+use Rattle.rt_target.specs.Reading as boards
+use Rattle.rt_target.specs.Text as board_text
+use Rattle.rt_target.specs.declared.refusal.Cause as in_board
 use Rattle.rt_top.specs.SecondRefusal.{RefusesOver}
 
 -- the line for the refusal of a board
@@ -36,6 +36,10 @@ SaysTrace refused.NoMemory line = ⊥
 -- the line refuses a text that is no board of an application
 abbrev pub RefusesBoard : List ℕ → List ℕ → List ℕ → Type 0
 RefusesBoard text more line = RefusesOver boards.IsRefused SaysBoard text more line
+
+-- the line refuses a text that is no board for which a program can be made
+abbrev pub RefusesTarget : List ℕ → List ℕ → List ℕ → Type 0
+RefusesTarget text more line = RefusesOver boards.IsTargetRefused SaysBoard text more line
 
 -- The line refuses a text over the application of another and beside the board of a third: the refusal is the text's,
 -- and the line says it.

@@ -8,13 +8,16 @@ use Rattle.rt_topx.specs.declared.command.Command.{Command}
 use Rattle.rt_topx.specs.declared.command.Command.TheVariants as command
 use Rattle.rt_topx.specs.Words.{NamesCommand}
 use Rattle.rt_topx.specs.Kinds.{TextKind, kinds_of, most_bytes, IsOfKind, IsRefusedBy}
-use Rattle.rt_topx.specs.Outputs.{IsRun, IsAudited, IsLiveBeside}
+use Rattle.rt_topx.specs.Explained.{IsExplained}
+use Rattle.rt_topx.specs.Outputs.{IsRun, IsAudited, IsLiveBeside, IsMadeNative}
 
 -- with this status these bytes are the output for texts of their kinds
 abbrev pub IsOutputOf : Command → Inputs → Status → List ℕ → Type 0
 IsOutputOf command.Run t ended bytes = (ended ≡ status.Done) × IsRun t.first t.second t.third bytes
 IsOutputOf command.Audit t ended bytes = IsAudited t.first t.second t.third ended bytes
 IsOutputOf command.Live t ended bytes = (ended ≡ status.Done) × IsLiveBeside t.first t.second t.third bytes
+IsOutputOf command.Native t ended bytes = IsMadeNative t.first t.second ended bytes
+IsOutputOf command.Why t ended bytes = IsExplained t.first ended bytes
 
 -- the program: what a text is depends on all texts that its command reads
 abbrev pub rticx_program : Program

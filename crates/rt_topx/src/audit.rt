@@ -8,7 +8,7 @@ ghost use Rattle.rt_app.specs.View.{app_of};
 ghost use Rattle.rt_baker_moves.specs.Machine.{IsMachine};
 ghost use Rattle.rt_build.specs.Accepted.{IsApplication};
 ghost use Rattle.rt_board.specs.Board.{AreInputs};
-ghost use Rattle.rt_board.specs.Reading.{IsBoardOf};
+ghost use Rattle.rt_target.specs.Reading.{IsBoardOf};
 ghost use Rattle.rt_inputs_audit.specs.Auditor.{IsJudgedText};
 ghost use Rattle.rt_top.specs.Program.{Inputs, inputs};
 ghost use Rattle.rt_top.specs.Inside.Decides.{Tells, AnswersOne};

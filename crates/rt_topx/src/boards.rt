@@ -6,7 +6,7 @@ ghost use Rattle.rt_app.specs.Accepted.{IsAccepted};
 ghost use Rattle.rt_app.specs.View.{app_of};
 ghost use Rattle.rt_build.specs.Accepted.{IsApplication};
 ghost use Rattle.rt_board.specs.Board.{AreInputs};
-ghost use Rattle.rt_board.specs.Reading.{IsBoardOf};
+ghost use Rattle.rt_target.specs.Reading.{IsBoardOf};
 ghost use Rattle.rt_top.specs.Program.{Inputs};
 ghost use Rattle.rt_top.specs.Inside.Decides.{Tells};
 ghost use Rattle.rt_top.specs.Inside.Using.{HasUse, Reads};
@@ -16,16 +16,17 @@ ghost use Rattle.rt_topx.specs.Refusal.{SaysBoard};
 ghost use Rattle.rt_topx.specs.Rticx.{rticx_program};
 
 use rt_app::App;
-use rt_board::{Board, BoardRefused, Cause, read_board, refusal_text};
+use rt_board::Board;
 use rt_ids::Status;
 use rt_ids::limits::SCRIPT_BYTES;
 use rt_outside::Source;
+use rt_target::{Cause, SetupRefused, read_setup, refusal_text};
 use rt_top::reading::read_within;
 use rt_top::reply::{Reply, reply_of_text};
 use std::alloc::Global;
 
 /// A text that is too long is refused at its first line.
-const TOO_LONG: BoardRefused = BoardRefused::Wrong {
+pub(crate) const TOO_LONG: SetupRefused = SetupRefused::Wrong {
     line: 1,
     cause: Cause::TooLong,
 };
@@ -51,20 +52,20 @@ pub(crate) fn read_board_of<S: Source>(
         Ok(None) => return Err(refuse_board(alloc, TOO_LONG)),
         Err(status) => return Err(Reply::Stop(status)),
     };
-    match read_board(alloc, &text, app, &names) {
-        Ok(board) => Ok(board),
+    match read_setup(alloc, &text, app, &names) {
+        Ok(setup) => Ok(setup.into_board()),
         Err(refusal) => Err(refuse_board(alloc, refusal)),
     }
 }
 
 /// The reply of a refusal of a board.
-fn refuse_board(alloc: Global, refusal: BoardRefused) -> Reply
+pub(crate) fn refuse_board(alloc: Global, refusal: SetupRefused) -> Reply
     ensures { Tells status.Text (SaysBoard refusal) result }
 {
     match refusal {
-        BoardRefused::Wrong { line, cause } => {
+        SetupRefused::Wrong { line, cause } => {
             reply_of_text(Status::Text, refusal_text(alloc, line, cause))
         }
-        BoardRefused::NoMemory => Reply::Stop(Status::Memory),
+        SetupRefused::NoMemory => Reply::Stop(Status::Memory),
     }
 }

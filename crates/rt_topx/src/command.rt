@@ -15,6 +15,10 @@ pub enum Command {
     Audit,
     /// `live APP BOARD SCRIPT`
     Live,
+    /// `native APP BOARD`
+    Native,
+    /// `why IMAGE`
+    Why,
 }
 
 /// The command that the words name, None where they name none.
@@ -26,6 +30,8 @@ pub(crate) fn command_of(words: &[&str]) -> Option<Command>
         ["run", _, _, _] => Some(Command::Run),
         ["audit", _, _, _] => Some(Command::Audit),
         ["live", _, _, _] => Some(Command::Live),
+        ["native", _, _] => Some(Command::Native),
+        ["why", _] => Some(Command::Why),
         _ => None,
     }
 }

@@ -1,15 +1,16 @@
 // From a command to what is done, text by text.
 
-ghost use Rattle.std.specs.Prelude.{ℕ, List, drop};
+ghost use Rattle.std.specs.Prelude.{◌≡◌, ◌≢◌, ℕ, List, drop, MatchOption};
 ghost use Rattle.rt_app.specs.Accepted.{IsAccepted};
 ghost use Rattle.rt_app.specs.View.{app_of};
 ghost use Rattle.rt_build.specs.Accepted.{IsApplication};
 ghost use Rattle.rt_board.specs.Board.{AreInputs};
-ghost use Rattle.rt_board.specs.Reading.{IsBoardOf};
+ghost use Rattle.rt_target.specs.Reading.{IsBoardOf};
 ghost use Rattle.rt_top.specs.Program.{inputs};
 ghost use Rattle.rt_top.specs.Inside.Using.{HasUse, No, Then};
 ghost use Rattle.rt_top.specs.Reads.{given_by};
 ghost use Rattle.rt_top.specs.Inside.Decides.{Conducts};
+ghost use Rattle.rt_topx.specs.Inside.Beside.{command_of};
 ghost use Rattle.rt_topx.specs.Kinds.{kinds_of};
 ghost use Rattle.rt_topx.specs.Rticx.{rticx_program};
 
@@ -17,7 +18,9 @@ use crate::audit::audit;
 use crate::boards::read_board_of;
 use crate::command::Command;
 use crate::live::live;
+use crate::native::native;
 use crate::run::run;
+use crate::why::why;
 use rt_app::App;
 use rt_board::Board;
 use rt_devices::Gate;
@@ -28,8 +31,7 @@ use rt_top::reply::finish;
 use std::alloc::Global;
 use std::thread::Threads;
 
-/// Does what the command is, and answers the status that the program ends with. Each command begins with an
-/// application.
+/// Does what the command is, and answers the status that the program ends with.
 pub(crate) fn decide<
     R: Threads + Sync,
     A: Source,
@@ -56,13 +58,39 @@ pub(crate) fn decide<
         (Then c (HasUse C.past C.left C.faults third.old third.new) No)))
         (K.taken out.old) (K.taken out.new) (K.faults out.old) (K.faults out.new) result }
 {
-    match read_accepted(alloc, first) {
-        Ok(app) => decide_of(rt, alloc, command, &app, second, third, out, gate),
-        Err(reply) => finish(out, &reply),
+    match command {
+        Command::Why => finish(out, &why(alloc, first)),
+        other => match read_accepted(alloc, first) {
+            Ok(app) => decide_of(rt, alloc, other, &app, second, third, out, gate),
+            Err(reply) => finish(out, &reply),
+        },
     }
 }
 
-/// Does what a command is of its application. Each command goes on with a board.
+/// A command that reads a third text, beside a board.
+#[derive(Clone, Copy, PartialEq, Eq)]
+enum Beside {
+    Run,
+    Audit,
+    Live,
+}
+
+/// The command, of those that begin with an application, where it reads a third text.
+fn beside_of(command: Command) -> Option<Beside>
+    requires { command ≢ Command.Why }
+    ensures { MatchOption result (command ≡ Command.Native) (λ beside. command ≡ command_of beside) }
+{
+    match command {
+        Command::Run => Some(Beside::Run),
+        Command::Audit => Some(Beside::Audit),
+        Command::Live => Some(Beside::Live),
+        Command::Native => None,
+        Command::Why => unreachable!(),
+    }
+}
+
+/// Does what a command is of its application, which is the first of its texts. Each such command goes on with the text
+/// of a board.
 fn decide_of<R: Threads + Sync, B: Source, C: Source, K: Sink + Send, G: Gate + Sync>(
     rt: &R,
     alloc: Global,
@@ -73,7 +101,8 @@ fn decide_of<R: Threads + Sync, B: Source, C: Source, K: Sink + Send, G: Gate + 
     out: &mut K,
     gate: &G,
 ) -> Status
-    requires { IsAccepted (app_of app.now) }
+    requires accepted { IsAccepted (app_of app.now) }
+    requires of_application { command ≢ Command.Why }
     ensures { (first : List ℕ) → IsApplication first (app_of app.now) →
         let b = given_by B.past second.old second.new in
         let c = given_by C.past third.old third.new in
@@ -82,8 +111,35 @@ fn decide_of<R: Threads + Sync, B: Source, C: Source, K: Sink + Send, G: Gate + 
         (Then c (HasUse C.past C.left C.faults third.old third.new) No))
         (K.taken out.old) (K.taken out.new) (K.faults out.old) (K.faults out.new) result }
 {
+    match beside_of(command) {
+        Some(beside) => decide_on_board(rt, alloc, beside, app, second, third, out, gate),
+        None => finish(out, &native(alloc, app, second)),
+    }
+}
+
+/// Does what a command is of its application that goes on with a board and a third text.
+fn decide_on_board<R: Threads + Sync, B: Source, C: Source, K: Sink + Send, G: Gate + Sync>(
+    rt: &R,
+    alloc: Global,
+    beside: Beside,
+    app: &App,
+    second: &mut B,
+    third: &mut C,
+    out: &mut K,
+    gate: &G,
+) -> Status
+    requires { IsAccepted (app_of app.now) }
+    ensures { (first : List ℕ) → IsApplication first (app_of app.now) →
+        let command = command_of beside in
+        let b = given_by B.past second.old second.new in
+        let c = given_by C.past third.old third.new in
+        Conducts rticx_program command (drop 1 (kinds_of command)) (inputs first b c)
+        (Then b (HasUse B.past B.left B.faults second.old second.new)
+        (Then c (HasUse C.past C.left C.faults third.old third.new) No))
+        (K.taken out.old) (K.taken out.new) (K.faults out.old) (K.faults out.new) result }
+{
     match read_board_of(alloc, app, second) {
-        Ok(board) => decide_beside(rt, alloc, command, app, &board, third, out, gate),
+        Ok(board) => decide_beside(rt, alloc, beside, app, &board, third, out, gate),
         Err(reply) => finish(out, &reply),
     }
 }
@@ -92,7 +148,7 @@ fn decide_of<R: Threads + Sync, B: Source, C: Source, K: Sink + Send, G: Gate + 
 fn decide_beside<R: Threads + Sync, C: Source, K: Sink + Send, G: Gate + Sync>(
     rt: &R,
     alloc: Global,
-    command: Command,
+    beside: Beside,
     app: &App,
     board: &Board,
     third: &mut C,
@@ -103,14 +159,15 @@ fn decide_beside<R: Threads + Sync, C: Source, K: Sink + Send, G: Gate + Sync>(
     requires inputs { AreInputs (app_of app.now) board.now.inputs }
     ensures { (first second : List ℕ) → IsApplication first (app_of app.now) →
         IsBoardOf (app_of app.now) second board.now →
+        let command = command_of beside in
         let c = given_by C.past third.old third.new in
         Conducts rticx_program command (drop 2 (kinds_of command)) (inputs first second c)
         (Then c (HasUse C.past C.left C.faults third.old third.new) No)
         (K.taken out.old) (K.taken out.new) (K.faults out.old) (K.faults out.new) result }
 {
-    match command {
-        Command::Run => run(alloc, app, board, third, out),
-        Command::Audit => finish(out, &audit(alloc, app, board, third)),
-        Command::Live => live(rt, alloc, app, board, third, out, gate),
+    match beside {
+        Beside::Run => run(alloc, app, board, third, out),
+        Beside::Audit => finish(out, &audit(alloc, app, board, third)),
+        Beside::Live => live(rt, alloc, app, board, third, out, gate),
     }
 }

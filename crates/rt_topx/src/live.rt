@@ -9,7 +9,7 @@ ghost use Rattle.rt_code.specs.Lines.{HasLines};
 ghost use Rattle.rt_core.specs.Machine.{IsFresh};
 ghost use Rattle.rt_script.specs.Script.{HasNames};
 ghost use Rattle.rt_board.specs.Board.{AreInputs};
-ghost use Rattle.rt_board.specs.Reading.{IsBoardOf};
+ghost use Rattle.rt_target.specs.Reading.{IsBoardOf};
 ghost use Rattle.rt_given.specs.Given.{asked};
 ghost use Rattle.rt_top.specs.Program.{inputs};
 ghost use Rattle.rt_top.specs.Inside.Decides.{EndsAs, ConductsOne};
@@ -64,6 +64,7 @@ pub(crate) fn live<R: Threads + Sync, S: Source, K: Sink + Send, G: Gate + Sync>
 
 /// Runs a core under a script beside the script's devices: writes the listing of its image, its trace and the account.
 /// It wants no memory after the first byte.
+#[inline(never)]
 fn run_live<R: Threads + Sync, K: Sink + Send, G: Gate + Sync>(
     rt: &R,
     alloc: Global,

@@ -9,7 +9,7 @@ ghost use Rattle.rt_code.specs.Lines.{HasLines};
 ghost use Rattle.rt_core.specs.Machine.{IsFresh};
 ghost use Rattle.rt_script.specs.Script.{HasNames};
 ghost use Rattle.rt_board.specs.Board.{AreInputs};
-ghost use Rattle.rt_board.specs.Reading.{IsBoardOf};
+ghost use Rattle.rt_target.specs.Reading.{IsBoardOf};
 ghost use Rattle.rt_given.specs.Given.{asked};
 ghost use Rattle.rt_top.specs.Program.{inputs};
 ghost use Rattle.rt_top.specs.Inside.Decides.{EndsAs, ConductsOne};
@@ -60,6 +60,7 @@ pub(crate) fn run<S: Source, K: Sink>(
 
 /// Runs a core under a script beside devices: writes the listing of its image, and its trace. It wants no memory after
 /// the first byte.
+#[inline(never)]
 fn run_script<K: Sink>(
     alloc: Global,
     app: &App,

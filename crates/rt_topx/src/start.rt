@@ -9,7 +9,7 @@ ghost use Rattle.rt_build.specs.Accepted.{IsApplication};
 ghost use Rattle.rt_code.specs.Lines.{HasLines};
 ghost use Rattle.rt_core.specs.Machine.{IsFresh};
 ghost use Rattle.rt_script.specs.Script.{HasNames};
-ghost use Rattle.rt_board.specs.Reading.{IsBoardOf};
+ghost use Rattle.rt_target.specs.Reading.{IsBoardOf};
 ghost use Rattle.rt_given.specs.Given.{asked, GiveInputs};
 ghost use Rattle.rt_given.specs.Reading.{IsGivenText};
 ghost use Rattle.rt_top.specs.Program.{Inputs};

@@ -1,9 +1,9 @@
-use Rattle.std.proofs.Common.{refl, subst, ◌∙◌}
+use Rattle.std.proofs.Common.{refl, sym, subst, ◌∙◌}
 use Rattle.rt_ids.specs.declared.status.Status.TheVariants as status
 use Rattle.rt_lines.specs.Refusal.{too_long, refused_at}
 use Rattle.rt_app.specs.View.{app_of}
-use Rattle.rt_board.specs.Reading.{IsBoardOf, IsRefused}
-use Rattle.rt_board.specs.declared.refusal.Cause.TheVariants as cause
+use Rattle.rt_target.specs.Reading.{IsSetupOf, IsRefused}
+use Rattle.rt_target.specs.declared.refusal.Cause.TheVariants as cause
 use Rattle.rt_top.specs.Inside.Using.{for_memory, stop}
 use Rattle.rt_top.proofs.Conducting.{refused_over, refusal_reads}
 use Rattle.rt_topx.specs.Kinds as kind
@@ -24,20 +24,24 @@ returns-in-Ok-None-clause-reads g c t is =
 pub returns-in-Err-clause-reads : goal.returns-in-Err-clause-reads
 returns-in-Err-clause-reads g c t is = stop c.in-Err.status c.in-Err.ensures
 
-pub returns-in-Ok-read_board-clause-reads : goal.returns-in-Ok-read_board-clause-reads
-returns-in-Ok-read_board-clause-reads g c t is =
+pub returns-in-Ok-read_setup-clause-reads : goal.returns-in-Ok-read_setup-clause-reads
+returns-in-Ok-read_setup-clause-reads g c t is =
     let read = rw c.in-Ok-Some.field-0-is at c.in-Ok-Some.ensures in (
       read.0,
-      subst (λ text. IsBoardOf (app_of c.args.app.now) text c.in-Ok-read_board.board) (c.deref.ensures.value ∙ read.1)
-          c.in-Ok-read_board.ensures.read,
+      (
+        c.in-Ok-read_setup.setup,
+        sym c.into_board.ensures,
+        subst (λ text. IsSetupOf (app_of c.args.app.now) text c.in-Ok-read_setup.setup)
+            (c.deref.ensures.value ∙ read.1) c.in-Ok-read_setup.ensures.read,
+      ),
     )
 
 pub returns-clause-reads : goal.returns-clause-reads
 returns-clause-reads g c t is =
     let read = rw c.in-Ok-Some.field-0-is at c.in-Ok-Some.ensures in
-    let refusal = c.in-Err-read_board.refusal in
+    let refusal = c.in-Err-read_setup.refusal in
     let refused = subst (λ text. IsRefused (app_of c.args.app.now) text refusal) (c.deref.ensures.value ∙ read.1)
-    c.in-Err-read_board.ensures.refused in
+    c.in-Err-read_setup.ensures.refused in
     refusal_reads rticx_program kind.Board t _ _ read.0 read.0.1 status.Text (SaysBoard refusal)
-    (λ line says. (refl, refused_over _ is refusal refused says)) c.refuse_board-in-Err-read_board.result
-    c.refuse_board-in-Err-read_board.ensures
+    (λ line says. (refl, refused_over _ is refusal refused says)) c.refuse_board-in-Err-read_setup.result
+    c.refuse_board-in-Err-read_setup.ensures

@@ -10,3 +10,10 @@ returns-in-audit-clause-some c =
 
 pub returns-in-live-clause-some : goal.returns-in-live-clause-some
 returns-in-live-clause-some c = (_, _, _, with_verb 3 _ c.in-live.is-live c.in-live.len_at_least c.in-live.len_below)
+
+pub returns-in-native-clause-some : goal.returns-in-native-clause-some
+returns-in-native-clause-some c =
+    (_, _, with_verb 2 _ c.in-native.is-native c.in-native.len_at_least c.in-native.len_below)
+
+pub returns-in-why-clause-some : goal.returns-in-why-clause-some
+returns-in-why-clause-some c = (_, with_verb 1 _ c.in-why.is-why c.in-why.len_at_least c.in-why.len_below)

@@ -1,21 +1,28 @@
 use Rattle.rt_app.specs.View.{app_of}
 use Rattle.rt_top.specs.Program.{inputs}
 use Rattle.rt_top.specs.Reads.{given_by}
-use Rattle.rt_top.proofs.Conducting.{kept, conducts_behind, finished, refused_answers}
+use Rattle.rt_top.proofs.Conducting.{kept, conducts_behind, finished, one_answers, refused_answers}
 use Rattle.rt_topx.proofs.Conducting.{not_application, begins}
 use Rattle.rt_topx.proofs.decide.decide.Goals as goal
+
+pub returns-in-Why : goal.returns-in-Why
+returns-in-Why g c =
+    let second = given_by g.B.Source.past c.args.second.now c.args.second.now in
+    let third = given_by g.C.Source.past c.args.third.now c.args.third.now in
+    rw c.in-Why.is (finished (one_answers (kept, (kept, tt)) (c.why.ensures second third)) c.finish.ensures.finished
+    c.finish.ensures.heard)
 
 pub returns-in-Ok : goal.returns-in-Ok
 returns-in-Ok g c =
     let read = c.in-Ok.ensures.reads in
-    let kinds = begins c.args.command in
+    let kinds = begins c.args.command c.in_default.not-Why in
     rw kinds (conducts_behind read.0 (app_of c.in-Ok.app, read.1) (c.decide_of.ensures _ read.1))
 
 pub returns-in-Err : goal.returns-in-Err
 returns-in-Err g c =
     let second = given_by g.B.Source.past c.args.second.now c.args.second.now in
     let third = given_by g.C.Source.past c.args.third.now c.args.third.now in
-    let kinds = begins c.args.command in
+    let kinds = begins c.args.command c.in_default.not-Why in
     rw kinds (finished (refused_answers (kept, (kept, tt))
-    (not_application (inputs _ second third) _ _ _ c.in-Err.ensures.reads)) c.finish.ensures.finished
-    c.finish.ensures.heard)
+    (not_application (inputs _ second third) _ _ _ c.in-Err.ensures.reads)) c.finish-in-Err.ensures.finished
+    c.finish-in-Err.ensures.heard)

@@ -1,23 +1,10 @@
-use Rattle.rt_app.specs.View.{app_of}
-use Rattle.rt_top.specs.Program.{inputs}
-use Rattle.rt_top.specs.Reads.{given_by}
-use Rattle.rt_top.proofs.Conducting.{kept, conducts_behind, finished, refused_answers}
-use Rattle.rt_topx.proofs.Conducting.{goes_on}
+use Rattle.rt_top.proofs.Conducting.{kept, one_answers, finished}
 use Rattle.rt_topx.proofs.decide.decide_of.Goals as goal
 
-pub returns-in-Ok : goal.returns-in-Ok
-returns-in-Ok g c first is =
-    let second = given_by g.B.Source.past c.args.second.now c.read_board_of.new.source in
-    let third = given_by g.C.Source.past c.args.third.now c.decide_beside.new.third in
-    let read = c.in-Ok.ensures.reads (inputs first second third) is in
-    let kinds = goes_on c.args.command in
-    rw kinds (conducts_behind read.0 (app_of c.args.app.now, is, c.in-Ok.board, read.1)
-    (c.decide_beside.ensures first second is read.1))
+pub returns-in-Some : goal.returns-in-Some
+returns-in-Some g c first is = rw c.in-Some.ensures (c.decide_on_board.ensures first is)
 
-pub returns-in-Err : goal.returns-in-Err
-returns-in-Err g c first is =
-    let second = given_by g.B.Source.past c.args.second.now c.read_board_of.new.source in
-    let third = given_by g.C.Source.past c.args.third.now c.args.third.now in
-    let kinds = goes_on c.args.command in
-    rw kinds (finished (refused_answers (kept, tt) (c.in-Err.ensures.reads (inputs first second third) is))
-    c.finish.ensures.finished c.finish.ensures.heard)
+pub returns-in-None : goal.returns-in-None
+returns-in-None g c first is =
+    rw c.in-None.ensures (finished (one_answers (kept, tt) (c.native.ensures first _ is)) c.finish.ensures.finished
+    c.finish.ensures.heard)

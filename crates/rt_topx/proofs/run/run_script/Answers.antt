@@ -14,7 +14,8 @@ returns-in-Ok-run_with_inputs-clause-ends g c =
     let head = subst (λ i. IsHeading i front) c.image.ensures (subst (IsHeading c.image.result.now)
     (sym c.deref.ensures.value) c.in-Ok.ensures) in
     let shown = text_with_inputs (app_of c.args.app.now) image c.args.board.now c.args.script.now in
-    all_ends (ShowsRun (app_of c.args.app.now) image c.args.board.now c.args.script.now) front shown (refl, head.numbers, ap (λ l. l ++ shown) head.is)
+    all_ends (ShowsRun (app_of c.args.app.now) image c.args.board.now c.args.script.now) front shown
+    (refl, head.numbers, ap (λ l. l ++ shown) head.is)
     _ _ _ _ _ c.in-Ok-put_all.ensures.ok c.in-Ok-run_with_inputs.ensures.ok
 
 pub returns-in-Ok-put_all-clause-ends : goal.returns-in-Ok-put_all-clause-ends
@@ -24,9 +25,11 @@ returns-in-Ok-put_all-clause-ends g c =
     let head = subst (λ i. IsHeading i front) c.image.ensures (subst (IsHeading c.image.result.now)
     (sym c.deref.ensures.value) c.in-Ok.ensures) in
     let shown = text_with_inputs (app_of c.args.app.now) image c.args.board.now c.args.script.now in
-    part_ends (ShowsRun (app_of c.args.app.now) image c.args.board.now c.args.script.now) front shown (refl, head.numbers, ap (λ l. l ++ shown) head.is)
+    part_ends (ShowsRun (app_of c.args.app.now) image c.args.board.now c.args.script.now) front shown
+    (refl, head.numbers, ap (λ l. l ++ shown) head.is)
     _ _ _ _ _ (subst (λ n. Rose n (g.K.Sink.faults c.run_with_inputs.new.out)) c.in-Ok-put_all.ensures.quiet
-    (c.in-Err-run_with_inputs.ensures.cause.failed refl)) c.in-Ok-put_all.ensures.ok c.in-Err-run_with_inputs.ensures.err
+    (c.in-Err-run_with_inputs.ensures.cause.failed refl)) c.in-Ok-put_all.ensures.ok
+    c.in-Err-run_with_inputs.ensures.err
 
 pub returns-clause-ends : goal.returns-clause-ends
 returns-clause-ends g c =
@@ -35,5 +38,6 @@ returns-clause-ends g c =
     let head = subst (λ i. IsHeading i front) c.image.ensures (subst (IsHeading c.image.result.now)
     (sym c.deref.ensures.value) c.in-Ok.ensures) in
     let shown = text_with_inputs (app_of c.args.app.now) image c.args.board.now c.args.script.now in
-    front_ends (ShowsRun (app_of c.args.app.now) image c.args.board.now c.args.script.now) front shown (refl, head.numbers, ap (λ l. l ++ shown) head.is)
+    front_ends (ShowsRun (app_of c.args.app.now) image c.args.board.now c.args.script.now) front shown
+    (refl, head.numbers, ap (λ l. l ++ shown) head.is)
     _ (g.K.Sink.taken c.put_all.new.sink) _ _ _ (c.in-Err.ensures.cause.failed refl) c.in-Err.ensures.err

@@ -6,5 +6,6 @@ use Rattle.rt_topx.proofs.start.refuse_script.Goals as goal
 
 pub returns-in-Wrong : goal.returns-in-Wrong
 returns-in-Wrong c =
-    rw c.in-Wrong.is (made_tells status.Text (λ bytes. bytes ≡ refusal_text c.in-Wrong.line c.in-Wrong.cause) c.refusal_text.result
-    c.refusal_text.ensures c.reply_of_text.result c.reply_of_text.ensures.text c.reply_of_text.ensures.memory)
+    rw c.in-Wrong.is (made_tells status.Text (λ bytes. bytes ≡ refusal_text c.in-Wrong.line c.in-Wrong.cause)
+    c.refusal_text.result c.refusal_text.ensures c.reply_of_text.result c.reply_of_text.ensures.text
+    c.reply_of_text.ensures.memory)
