@@ -1,0 +1,11 @@
+-- The lemmas of this crate, a file each.
+pub mod Agreeing
+pub mod Keeping
+pub mod Controller
+pub mod Memory
+pub mod Pieces
+pub mod Plain
+pub mod Setting
+pub mod Running
+pub mod Handler
+pub mod Ticking

@@ -1,0 +1,7 @@
+-- The definitions of this crate, a file each.
+pub mod Agreeing
+pub mod Keeping
+pub mod Controller
+pub mod Lying
+pub mod Setting
+pub mod Ticking
