@@ -8,4 +8,6 @@ pub mod Plain
 pub mod Setting
 pub mod Running
 pub mod Handler
+pub mod Lying
 pub mod Ticking
+pub mod Vectors

@@ -18,7 +18,6 @@ use Rattle.rt_native.specs.Service.{tick, due_at_tick, due_size_at_tick, pend_ti
 use Rattle.rt_native.specs.declared.outside.Outside.{Outside}
 use Rattle.rt_native.proofs.Sizes.{tick_bytes, tick_bytes_alone}
 use Rattle.rt_thumb.specs.Effect.{effect}
-use Rattle.rt_thumb.specs.Encoding.{encode, size}
 use Rattle.rt_thumb.specs.Exceptions.{systick, external, execution_priority, entered}
 use Rattle.rt_thumb.specs.Machine.{Machine, Seen, Posted, Entered, Returned, word_at, byte_at}
 use Rattle.rt_thumb.specs.Step.{Program, Event, Goes, after, going}
@@ -37,6 +36,7 @@ use Rattle.rt_priorities.specs.Ticking.{TellsTheTime, HasInstants, LieApart, Ser
 use Rattle.rt_priorities.specs.Ticking.{TicksAtOnce, TicksAreOneEvent, requested, alarm_word}
 use Rattle.rt_priorities.proofs.Handler.{ComesToItsEnd, AreWords, with_time, with_no_alarm, front, due}
 use Rattle.rt_priorities.proofs.Handler.{quiet_end, due_end, same_word}
+use Rattle.rt_priorities.proofs.Lying.{lie_front}
 use Rattle.rt_priorities.proofs.Keeping.{others_keep_agreeing, pended_by}
 use Rattle.rt_priorities.proofs.Running.{put_word, at_top}
 
@@ -51,10 +51,6 @@ run_more p i [] m late last run top code does = (
 )
 run_more p i (j ∷ is) m late last run top code does =
     (run.0, run.1, (run.2.0, run.2.1, run_more p i is run.2.0 late last run.2.2 top code does))
-
-lie_front : (p : Program) (xs ys : List Instruction) (a : ℕ) → LieFrom p a (xs ++ ys) → LieFrom p a xs
-lie_front p [] ys a code = tt
-lie_front p (x ∷ xs) ys a code = (code.0, lie_front p xs ys (a + size (encode x)) code.1)
 
 -- the code of a tick leads over what is done where an alarm is due
 record Skips (p : Program) (at : Outside) (place x : ℕ) : Type 0 where

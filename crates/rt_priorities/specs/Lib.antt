@@ -5,3 +5,4 @@ pub mod Controller
 pub mod Lying
 pub mod Setting
 pub mod Ticking
+pub mod Vectors

@@ -6,6 +6,7 @@ ghost use Rattle.rt_priorities.specs.Keeping.{ArrivalsKeepAgreeing, EntriesKeepA
 ghost use Rattle.rt_priorities.specs.Keeping.{ReturnsKeepAgreeing};
 ghost use Rattle.rt_priorities.specs.Setting.{ResetBeginsSo, ResetSetsUp};
 ghost use Rattle.rt_priorities.specs.Ticking.{TicksAreOneEvent};
+ghost use Rattle.rt_priorities.specs.Vectors.{EntriesLead, TicksLead};
 
 /// A processor that says the same of interrupts as a core has its execution priority, and takes what it takes.
 pub fn they_take_the_same()
@@ -38,4 +39,11 @@ pub fn reset_sets_up()
 /// after its tick, and what was interrupted goes on as it was.
 pub fn ticks_are_one_event()
     ensures { TicksAreOneEvent }
+{}
+
+/// Where a program lies in flash, an interrupt's entry leads to what runs first as it is taken, and SysTick's to the
+/// code of a tick.
+pub fn entries_lead_to_their_code()
+    ensures interrupts { EntriesLead }
+    ensures ticks { TicksLead }
 {}
