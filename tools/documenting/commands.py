@@ -8,8 +8,11 @@ import tempfile
 
 from documenting.page import Page
 from documenting.tree import ROOT
+from explaining.program import asked_program
 
 LONG = ("./build", "./test", "rt ", ".ci/run", "bench/")
+# what a command may need, and a machine may lack: the second program, and an emulator
+BESIDE, EMULATOR = "./rticx", "qemu-system-arm"
 STATUS = re.compile(r"\s+# status (\d+)$")
 SECONDS = 60
 
@@ -26,6 +29,11 @@ class Shown:
     def is_long(self):
         """Whether it is one of those that are not run here, because they take minutes."""
         return self.command.startswith(LONG)
+
+    def lacks(self, folder):
+        """What the command needs that is not there: the second program, or an emulator."""
+        there = {BESIDE: os.path.exists(os.path.join(folder, BESIDE)), EMULATOR: shutil.which(EMULATOR)}
+        return [name for name in there if name in self.command.split() and not there[name]]
 
     def matches(self, text):
         """Whether a text is the lines below."""
@@ -58,6 +66,9 @@ def folder_of(program):
         if path.is_dir() and path.name != ".git":
             os.symlink(path, os.path.join(folder, path.name))
     os.symlink(program, os.path.join(folder, "rtic"))
+    beside = asked_program("rticx")
+    if beside:
+        os.symlink(os.path.abspath(beside), os.path.join(folder, BESIDE))
     return folder
 
 
@@ -70,8 +81,9 @@ def ended(command, folder, program):
 
 
 def faults_of(path, program, text=None):
-    """How many commands of a document were run, those that were left out, and the faults of the others."""
-    run, left_out, faults = 0, [], []
+    """How many commands of a document were run, those that take too long, what others need and is not there, and
+    the faults."""
+    run, left_out, lacking, faults = 0, [], [], []
     for block in commands(Page(path, text)):
         folder = folder_of(pathlib.Path(program).resolve())
         try:
@@ -82,6 +94,10 @@ def faults_of(path, program, text=None):
                     if first != "rt" and not os.access(ROOT / first, os.X_OK):
                         faults.append(f"{path}:{shown.number}: no program {first}")
                     continue
+                if shown.lacks(folder):
+                    lacking += shown.lacks(folder)
+                    # those behind it in the block may need what it writes
+                    break
                 run += 1
                 status, written = ended(shown.command, folder, program)
                 if status != shown.status:
@@ -90,7 +106,7 @@ def faults_of(path, program, text=None):
                     faults.append(f"{path}:{shown.number}: `{shown.command}` writes\n{written}")
         finally:
             shutil.rmtree(folder)
-    return run, left_out, faults
+    return run, left_out, lacking, faults
 
 
 # The documents that quote lines of what these commands write, and what such a line looks like.

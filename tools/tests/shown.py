@@ -33,13 +33,15 @@ def main():
         missing = "the proved program is not built (./build makes it), and RTIC names no other"
         print(f"shown: skipped: {count} commands, because {missing}")
         return 0
-    faults = [f"not seen: {text}" for text in PLANTED if not faults_of("README.md", program, text)[2]]
-    run, left_out = 0, []
+    faults = [f"not seen: {text}" for text in PLANTED if not faults_of("README.md", program, text)[-1]]
+    run, left_out, lacking = 0, [], []
     for path in sys.argv[1:] or DOCUMENTS:
-        ran, left, found = faults_of(path, program)
-        run, left_out, faults = run + ran, left_out + left, faults + found
+        ran, left, lacks, found = faults_of(path, program)
+        run, left_out, lacking, faults = run + ran, left_out + left, lacking + lacks, faults + found
     quoted, found = quotes_amiss(program)
     faults += found
+    if lacking:
+        print(f"shown: skipped in part: what needs {' and '.join(sorted(set(lacking)))}, because that is not there")
     print("\n".join(faults) + "\n" * bool(faults), end="")
     print(f"shown: {run} commands run, {quoted} lines of output found, {len(PLANTED)} planted faults tried;"
           f" too long for a test: {', '.join(left_out)}")
