@@ -19,7 +19,8 @@ STIR, ICSR, PEND_TICK, PORT = 0xE000EF00, 0xE000ED04, 1 << 26, 0x4002804C
 CHIP = f"flash 0 0x400000\nram 0x20000000 0x400000\nport {PORT:#x}\nbits 8\n"
 # STR r1, [r0]: with other registers and another address, a request is made by executing it once.
 STORE = b"\x01\x60"
-R0, R1, PC = 0, 1, 15
+R0, R1, SP, PC = 0, 1, 13, 15
+EMULATOR = "qemu-system-arm"
 # Seconds until an answer at most.
 LONGEST = 120
 
@@ -36,18 +37,26 @@ class Debugger:
                 break
             except OSError:
                 time.sleep(0.02)
-        self.got = b""
+        self.got, self.acknowledges = b"", True
 
     def send(self, text):
         data = text.encode()
         self.socket.sendall(b"$" + data + b"#%02x" % (sum(data) & 255))
+
+    def begin(self):
+        """The registers' names, and from then on no packet is acknowledged."""
+        self.ask("qSupported:xmlRegisters=arm")
+        self.ask("qXfer:features:read:target.xml:0,ffb")
+        self.ask("QStartNoAckMode")
+        self.acknowledges = False
 
     def receive(self):
         while True:
             found = re.search(rb"\$([^#]*)#..", self.got)
             if found:
                 self.got = self.got[found.end():]
-                self.socket.sendall(b"+")
+                if self.acknowledges:
+                    self.socket.sendall(b"+")
                 return found[1].decode()
             more = self.socket.recv(65536)
             if not more:
@@ -75,13 +84,13 @@ class Board:
         self.folder = tempfile.TemporaryDirectory()
         self.log = pathlib.Path(self.folder.name, "port.log")
         path = str(pathlib.Path(self.folder.name, "port"))
-        words = ["qemu-system-arm", "-M", "mps2-an386", "-nographic", "-monitor", "none", "-serial", "none", "-S"]
+        words = [EMULATOR, "-M", "mps2-an386", "-nographic", "-monitor", "none", "-serial", "none", "-S"]
         words += ["-kernel", str(executable), "-gdb", f"unix:{path},server=on,wait=off"]
         words += ["-trace", "mps2_fpgaio_write", "-D", str(self.log)]
         self.process = subprocess.Popen(words, stdin=subprocess.DEVNULL, stdout=subprocess.DEVNULL)
         self.debugger = Debugger(path)
-        self.debugger.ask("qSupported:xmlRegisters=arm")
-        self.debugger.ask("qXfer:features:read:target.xml:0,ffb")
+        self.debugger.begin()
+        self.mode = None
         header = pathlib.Path(executable).read_bytes()[52:84]
         offset, address, _, size = struct.unpack("<4I", header[4:20])
         text = pathlib.Path(executable).read_bytes()[offset:offset + size]
@@ -99,20 +108,35 @@ class Board:
         self.debugger.ask("c")
         self.debugger.ask(f"z0,{address:x},2")
 
+    def registers(self):
+        """The registers 0 to 15."""
+        return struct.unpack_from("<16I", bytes.fromhex(self.debugger.ask("g")[:128]))
+
+    def word(self, address):
+        """A word of memory."""
+        return int.from_bytes(self.debugger.read(address, 4), "little")
+
     def step(self, requests=True):
         """Executes one instruction; without requests no interrupt is taken before it."""
-        self.debugger.ask("Qqemu.sstep=5" if requests else "Qqemu.sstep=7")
+        mode = "5" if requests else "7"
+        if mode != self.mode:
+            self.debugger.ask("Qqemu.sstep=" + mode)
+            self.mode = mode
         self.debugger.ask("s")
 
-    def pend(self, number):
-        """A request of an interrupt, or, where there is no number, of a tick; registers are put back."""
+    def skip(self, place):
+        """Passes over a WFI, which would let the emulator wait for a request."""
+        self.debugger.set_register(PC, place + 2)
+
+    def pend(self, number, now):
+        """A request of an interrupt, or, where there is no number, of a tick; the registers, given as they are now, are
+        put back."""
         address, value = (ICSR, PEND_TICK) if number is None else (STIR, number)
-        kept = {register: self.debugger.register(register) for register in (R0, R1, PC)}
         for register, other in {R0: address, R1: value, PC: self.store}.items():
             self.debugger.set_register(register, other)
         self.step(requests=False)
-        for register, old in kept.items():
-            self.debugger.set_register(register, old)
+        for register in (R0, R1, PC):
+            self.debugger.set_register(register, now[register])
 
     def emitted(self):
         """The words that were stored to the port so far."""

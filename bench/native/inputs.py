@@ -9,20 +9,19 @@ stands for the device's register. For each pair REQUESTS requests are made up fr
 application declares, one to three at once, each behind new words for all inputs. `RTICX run` takes them by `give` and
 `pend`; on the emulated board the words are put into the registers, and the same requests come while the core waits. The
 words that were stored to the port have to be those that the model emitted, in order. Passed over is an application with
-an interrupt past the board's 32 lines. Ends with 1 where an application differs.
+an interrupt past the board's 32 lines, and one whose thread does not wait. Ends with 1 where an application differs.
 """
 import pathlib
 import random
 import re
-import subprocess
 import sys
 import tempfile
 
 from emulator import CHIP, PC, Board
-from run import LINES, STEPS, interrupts_of, wait_address
+from run import LINES, Application
 
-# the words that stand for the registers of devices
-REGISTERS = 0x2100_0000
+# the words that stand for the registers of devices, and core steps in which all is done that a request asks for
+REGISTERS, STEPS = 0x2100_0000, 6000
 
 
 def turns_of(rng, inputs, names, requests):
@@ -40,16 +39,16 @@ def script_of(inputs, turns):
     return "".join(line + "\n" for line in lines)
 
 
-def emitted_by_board(executable, turns, numbers):
+def emitted_by_board(application, turns):
     """The words that an executable stores to the port."""
-    wait, board = wait_address(executable), Board(executable)
+    wait, board = application.program.wait(), Board(application.path("executable"))
     try:
         board.run_to(wait)
         for words, together in turns:
             for at, word in enumerate(words):
                 board.debugger.ask(f"M{REGISTERS + 4 * at:x},4:" + word.to_bytes(4, "little").hex())
             for name in together:
-                board.pend(numbers[name])
+                board.pend(application.image.irqs[name].number, board.registers())
             board.debugger.set_register(PC, wait + 2)
             board.run_to(wait)
         return board.emitted()
@@ -59,23 +58,17 @@ def emitted_by_board(executable, turns, numbers):
 
 def compare(rticx, rng, requests, app, board):
     """One application: how many words were emitted, None where it is passed over, and the first difference."""
-    text = pathlib.Path(board).read_text(encoding="ascii")
-    inputs = re.findall(r"^input \S+ (\S+)$", text, re.M)
+    text, beside = (pathlib.Path(path).read_text(encoding="ascii") for path in (app, board))
+    inputs = re.findall(r"^input \S+ (\S+)$", beside, re.M)
+    registers = "".join(f"word {name} {REGISTERS + 4 * at:#x}\n" for at, name in enumerate(inputs))
     with tempfile.TemporaryDirectory() as folder:
-        beside, script, made = (pathlib.Path(folder, name) for name in ("board", "script", "executable"))
-        registers = "".join(f"word {name} {REGISTERS + 4 * at:#x}\n" for at, name in enumerate(inputs))
-        beside.write_text(text + "\n" + CHIP + registers)
-        script.write_text("step 1\n")
-        listing = subprocess.run([rticx, "run", app, beside, script], capture_output=True, text=True, check=True).stdout
-        numbers = interrupts_of(listing)
-        if max(numbers.values()) >= LINES:
+        application = Application(rticx, text, folder, f"{beside}\n{CHIP}{registers}")
+        if max(irq.number for irq in application.image.irqs.values()) >= LINES or not application.image.waits():
             return None, None
-        turns = turns_of(rng, inputs, list(numbers), requests)
-        script.write_text(script_of(inputs, turns))
-        done = subprocess.run([rticx, "run", app, beside, script], capture_output=True, text=True, check=True).stdout
-        made.write_bytes(subprocess.run([rticx, "native", app, beside], stdout=subprocess.PIPE, check=True).stdout)
-        model = [int(value) for value in re.findall(r"^\d+ emit (\d+)$", done, re.M)]
-        board = emitted_by_board(made, turns, numbers)
+        turns = turns_of(rng, inputs, list(application.image.irqs), requests)
+        done = application.modelled(script_of(inputs, turns))
+        model = [int(value) for value in re.findall(r"^\d+ emit (\d+)$", "\n".join(done), re.M)]
+        board = emitted_by_board(application, turns)
     first = next((at for at, pair in enumerate(zip(model, board)) if pair[0] != pair[1]), min(len(model), len(board)))
     return len(model), None if model == board else f"word {first}: model {model[first:][:4]}, board {board[first:][:4]}"
 

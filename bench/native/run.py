@@ -1,15 +1,24 @@
 #!/usr/bin/env python3
-"""Whether executables emit on an emulated board what their applications emit in the model.
+"""Whether executables do on an emulated board, one machine instruction at a time, what their applications do in the
+model.
 
-    run.py RTIC RTICX SEED REQUESTS APP..
+    run.py RTICX SEED RUNS APP..
+    run.py RTICX SEED RUNS planted APP..
 
-RTIC and RTICX are the programs `rtic` and `rticx`, or others with the same words. For each application a script of
-REQUESTS requests is made up from SEED: `pend` of any interrupt that it declares, one to three at once, and `tick`s,
-each followed by steps in which all is done. RTIC runs it. The executable that `RTICX native` writes for QEMU's
-mps2-an386 (emulator.py) runs there, where the same requests come while the core waits. The words that were stored to
-the port have to be those that the model emitted, in order. Passed over is an application that never waits, since it has
-an `idle` or pends itself for ever (twice the steps take twice the interrupts), and one with an interrupt past the
-board's 32 lines. Ends with 1 where an application differs.
+RTICX is the program `rticx`, or another with the same words. Of each application the executable that `RTICX native`
+makes for QEMU's mps2-an386 runs there RUNS times (stepped.py), with requests of its interrupts, and ticks, before
+machine instructions that SEED chooses: rather before those at which no run was preempted yet. What was seen has to be
+the trace that `RTICX run` gives for the script of the events that were found, line by line. An entry may be less deep
+than in the model, where it meets the first or the last instructions of a handler, or where the application asks for
+floating point, whose registers the code never uses.
+
+The board has 32 lines: numbers of interrupts are put into their order first, so 32 declared ones fit, and an
+application with more is passed over. Told are the applications that differ; how often each machine instruction of each
+kind of image instruction was preempted, and those that never were; and all counts. Ends with 1 where an application
+differs, or a machine instruction was never preempted that can be.
+
+With `planted` each fault of planted.py is planted into the executables, one application after the other, until a run
+differs. Ends with 1 where no run shows a fault.
 """
 import pathlib
 import random
@@ -17,121 +26,197 @@ import re
 import subprocess
 import sys
 import tempfile
+from collections import Counter
 
-from emulator import CHIP, PC, Board
+from emulator import CHIP, PC
+from listing import Image
+from planted import FAULTS, with_changes
+from program import Program
+from stepped import Lost, Run
 
-LINES, STEPS, WFI = 32, 6000, 0xBF30
-
-
-def interrupts_of(listing):
-    """The declared interrupts and their numbers."""
-    return {name: int(number) for name, number in re.findall(r"^irq (\S+) (\d+) ", listing, re.M)}
-
-
-def waits(listing):
-    """Whether the thread waits where `init` ends."""
-    return re.search(r"^code \d+ wait$", listing, re.M) is not None
-
-
-def events_of(rng, names, has_alarm, requests):
-    """Requests, some at once: each is the name of an interrupt, or None for a tick."""
-    events = []
-    for _ in range(requests):
-        if has_alarm and (not names or rng.random() < 0.6):
-            events.append([None])
-        elif names:
-            events.append([rng.choice(names) for _ in range(rng.choice((1, 1, 2, 3)))])
-    return events
+LINES = 32
+# Machine instructions, of a run at least; requests of a run at most; and how likely one is, before any instruction,
+# where the core waits, and before an instruction at which no run was preempted yet.
+LENGTHS, MOST_REQUESTS, OFTEN, ASLEEP, FIRST = (200, 400, 700), 60, 0.02, 0.4, 0.4
+# With planted faults: how long runs are, and for how many machine instructions from a changed one on a request is
+# wanted.
+LONG, NEAR = (2000,), 12
+# What runs with all interrupts masked: no request is taken before these.
+MASKED = {("unmask", 0), ("unmask", 1), ("serve", 0)}
 
 
-def script_of(events, steps):
-    """The script of these requests, with so many steps for each."""
-    words = [f"step {steps}"]
-    for together in events:
-        words += ["tick 1" if name is None else f"pend {name}" for name in together] + [f"step {steps}"]
-    return "".join(word + "\n" for word in words)
+def numbered(text):
+    """An application whose interrupts have the numbers from 0 on, in the order of those that it declares; None where
+    they are too many."""
+    found = re.search(r"interrupts\s*\{([^}]*)\}", text)
+    rows = re.findall(r"(\w+)\s*=\s*(\d+)", re.sub(r"//[^\n]*", "", found[1]))
+    numbers = sorted({int(number) for _, number in rows})
+    if len(numbers) > LINES:
+        return None
+    if numbers[-1:] < [LINES]:
+        return text
+    listed = ", ".join(f"{name} = {numbers.index(int(number))}" for name, number in rows)
+    return text[:found.start(1)] + " " + listed + " " + text[found.end(1):]
 
 
-def done_by_model(rtic, app, script):
-    """The words that are emitted, and how many interrupts are taken."""
-    with tempfile.NamedTemporaryFile("w", suffix=".script") as file:
-        file.write(script)
-        file.flush()
-        done = subprocess.run([rtic, "run", app, file.name], capture_output=True, text=True, check=True)
-    takes = len(re.findall(r"^\d+ take ", done.stdout, re.M))
-    return [int(value) for value in re.findall(r"^\d+ emit (\d+)$", done.stdout, re.M)], takes
+class Application:
+    """An application with its image and its executable, in a folder."""
+
+    def __init__(self, rticx, text, folder, board=CHIP):
+        self.rticx, self.folder = rticx, pathlib.Path(folder)
+        for name, told in (("app", text), ("board", board), ("script", "step 1\n")):
+            self.path(name).write_text(told)
+        self.image = Image(self.told("run", "script"))
+        words = [rticx, "native", self.path("app"), self.path("board")]
+        self.take(subprocess.run(words, stdout=subprocess.PIPE, check=True).stdout)
+
+    def take(self, data, moved=None):
+        """Its executable, in which a planted fault may have moved commits."""
+        self.data, self.program = data, Program(data, self.image, moved)
+        self.path("executable").write_bytes(data)
+
+    def path(self, name):
+        """A file of this name."""
+        return self.folder / name
+
+    def told(self, command, name):
+        """What RTICX writes of the application, the board, and the file of this name."""
+        words = [self.rticx, command, self.path("app"), self.path("board"), self.path(name)]
+        return subprocess.run(words, capture_output=True, text=True, check=True).stdout
+
+    def modelled(self, script):
+        """The trace of a script in the model."""
+        self.path("script").write_text(script)
+        return self.told("run", "script").partition("\ntrace\n")[2].split("\n")[:-1]
 
 
-def wait_address(executable):
-    """Where the thread waits: the only WFI."""
-    bytes_ = pathlib.Path(executable).read_bytes()
-    fields = ("at", 4), ("address", 8), ("size", 16)
-    sizes = {kind: int.from_bytes(bytes_[52 + at:56 + at], "little") for kind, at in fields}
-    reset = int.from_bytes(bytes_[24:28], "little") & ~1
-    start = sizes["at"] + reset - sizes["address"]
-    text = bytes_[start:sizes["at"] + sizes["size"]]
-    at, width = 0, {0b11101: 4, 0b11110: 4, 0b11111: 4}
-    while int.from_bytes(text[at:at + 2], "little") != WFI:
-        at += width.get(text[at + 1] >> 3, 2)
-    return reset + at
+def requests_before(rng, run, is_wanted):
+    """What is requested before the next instruction: names of interrupts, None for a tick."""
+    irqs, enabled = run.image.irqs, run.image.enabled()
+    if rng.random() < (ASLEEP if run.is_asleep() else OFTEN):
+        return [rng.choice([*irqs, *[None] * run.image.has_alarm() * len(irqs)] or [None])]
+    if not run.masked and not run.in_tick and is_wanted(run) and rng.random() < FIRST:
+        return [rng.choice([None, *(irq.name for irq in [*enabled[:1], *enabled])])]
+    return []
 
 
-def emitted_by_board(executable, events, numbers):
-    wait = wait_address(executable)
-    board = Board(executable)
+def run_once(rng, application, is_wanted, lengths=LENGTHS):
+    """One run, in which requests come rather where they are wanted, and its first difference from the model or None."""
+    run, length = Run(application.program, application.path("executable")), rng.choice(lengths)
     try:
-        board.run_to(wait)
-        for together in events:
-            for name in together:
-                board.pend(None if name is None else numbers[name])
-            board.debugger.set_register(PC, wait + 2)
-            board.run_to(wait)
-        return board.emitted()
+        while run.executed < length or run.in_tick:
+            if run.requests < MOST_REQUESTS:
+                for name in requests_before(rng, run, is_wanted):
+                    run.request(name)
+            run.step()
+        return run, difference(run, application.modelled(run.script()))
+    except Lost as fault:
+        return run, f"lost behind {run.steps} steps: {fault}"
     finally:
-        board.close()
+        run.close()
 
 
-def executable_of(rticx, app, folder):
-    """The executable of an application for the emulated board."""
-    board, made = pathlib.Path(folder, "board"), pathlib.Path(folder, "executable")
-    board.write_text(CHIP)
-    made.write_bytes(subprocess.run([rticx, "native", app, board], stdout=subprocess.PIPE, check=True).stdout)
-    return made
+def difference(run, model):
+    """The first line that differs from the model's, or None; entries that are less deep are counted."""
+    for at, (seen, wanted) in enumerate(zip(run.trace(), model)):
+        if seen == wanted:
+            continue
+        *front, depth = seen.split()
+        *same, deeper = wanted.split()
+        if front[1:2] != ["take"] or front != same or int(depth) > int(deeper):
+            return f"line {at + 1}: board {seen}, model {wanted}"
+        run.shallow += 1
+    return None if len(run.trace()) == len(model) else f"{len(run.trace())} lines, model {len(model)}"
 
 
-def compare(rtic, rticx, seed, requests, app):
-    """One application: how many words were emitted, None where it is passed over, and the first difference."""
-    listing = subprocess.run([rtic, "build", app], capture_output=True, text=True, check=True).stdout
-    numbers = interrupts_of(listing)
-    if not waits(listing) or max(numbers.values(), default=0) >= LINES:
-        return None, None
-    events = events_of(random.Random(f"{seed} {app}"), list(numbers), " alarm " in listing, requests)
-    model, takes = done_by_model(rtic, app, script_of(events, STEPS))
-    if done_by_model(rtic, app, script_of(events, 2 * STEPS)) != (model, takes):
-        return None, None
-    with tempfile.TemporaryDirectory() as folder:
-        board = emitted_by_board(executable_of(rticx, app, folder), events, numbers)
-    if board == model:
-        return len(model), None
-    first = next((k for k, (a, b) in enumerate(zip(model, board)) if a != b), min(len(model), len(board)))
-    shown = f"model {model[first:first + 4]}, board {board[first:first + 4]}"
-    return len(model), f"word {first}: {shown}, {len(model)} and {len(board)}"
+def shown(preempted, lengths):
+    """A line for each kind: how often each of its machine instructions was preempted; and those that never were."""
+    never = []
+    for kind in sorted(lengths):
+        counts = [preempted[kind, index] for index in range(lengths[kind])]
+        print(f"  {kind:8}", *("masked" if (kind, at) in MASKED else count for at, count in enumerate(counts)))
+        never += [f"{kind} {at}" for at, count in enumerate(counts) if not count and (kind, at) not in MASKED]
+    return never
+
+
+def applications(rticx, seed, paths, sums):
+    """The applications that the board can run, each with its path and its chances."""
+    for path in paths:
+        text = numbered(pathlib.Path(path).read_text(encoding="ascii"))
+        if text is None:
+            sums["passed over"] += 1
+            continue
+        sums["applications"] += 1
+        with tempfile.TemporaryDirectory() as folder:
+            yield path, random.Random(f"{seed} {path}"), Application(rticx, text, folder)
+
+
+class Near:
+    """Whether a request is wanted at a changed instruction, or soon behind one: one, since a second one may hide what
+    the first one has shown."""
+
+    def __init__(self, changes):
+        self.changes, self.requests, self.until, self.rests = changes, 0, 0, 0
+
+    def __call__(self, run):
+        if run.requests > self.requests:
+            self.requests, self.until, self.rests = run.requests, 0, run.executed + NEAR
+        if run.now[PC] in self.changes and run.executed >= self.rests:
+            self.until = run.executed + NEAR
+        return run.executed < self.until
+
+
+def first_seen(fault, rticx, seed, runs, paths):
+    """The first run in which a planted fault is seen: how many there were, and what was seen, None for nothing."""
+    count = 0
+    for path, rng, application in applications(rticx, seed, paths, Counter()):
+        made = FAULTS[fault](application.program)
+        if not made[0]:
+            continue
+        changes, moved = made
+        application.take(with_changes(application, changes), moved)
+        for _ in range(runs):
+            count += 1
+            _, wrong = run_once(rng, application, Near(changes), LONG)
+            if wrong:
+                return count, f"{path}: {wrong}"
+    return count, None
+
+
+def seen_all(rticx, seed, runs, paths):
+    """Whether each planted fault is seen, with a line for each."""
+    missed = 0
+    for fault in FAULTS:
+        count, seen = first_seen(fault, rticx, seed, runs, paths)
+        missed += seen is None
+        told = f"seen in run {count}: {seen}" if seen else f"not seen in {count} runs"
+        print(f"planted {fault}: {told}", flush=True)
+    return 1 if missed else 0
 
 
 def main(words):
-    rtic, rticx, seed, requests, *apps = words
-    ran = passed_over = emitted = wrong = 0
-    for app in apps:
-        count, difference = compare(rtic, rticx, int(seed), int(requests), app)
-        if count is None:
-            passed_over += 1
-            continue
-        ran, emitted = ran + 1, emitted + count
-        if difference:
-            wrong += 1
-            print(f"{app}: {difference}", flush=True)
-    print(f"{ran} applications, {emitted} words emitted, {wrong} different, {passed_over} passed over")
-    return 1 if wrong else 0
+    """Ends with 1 where an application differs, an instruction was never preempted, or a fault was not seen."""
+    rticx, seed, runs, *paths = words
+    if paths[:1] == ["planted"]:
+        return seen_all(rticx, seed, int(runs), paths[1:])
+    preempted, sums, lengths = Counter(), Counter(), {"take": 2}
+    for path, rng, application in applications(rticx, seed, paths, sums):
+        for number, index in application.program.what.values():
+            kind = application.image.code[number].word
+            lengths[kind] = max(lengths.get(kind, 0), index + 1)
+        for _ in range(int(runs)):
+            run, wrong = run_once(rng, application, lambda run: not preempted[run.program.kind_at(run.now[PC])])
+            preempted += run.preempted
+            sums.update({"runs": 1, "machine instructions": run.executed, "core steps": run.steps,
+                         "requests and ticks": run.requests, "interrupts taken": run.takes,
+                         "of these less deep": run.shallow, "different": wrong is not None})
+            if wrong:
+                print(f"{path}: {wrong}", flush=True)
+    print("preempted before each machine instruction of each kind:")
+    never = shown(preempted, lengths)
+    print("never preempted:", ", ".join(never) or "none")
+    print(", ".join(f"{count} {name}" for name, count in sums.items()))
+    return 1 if sums["different"] or never else 0
 
 
 if __name__ == "__main__":
