@@ -10,6 +10,8 @@ NO_NOT = "there is no `!`: `(a == 0)` is 1 where a is 0, and `(a ^ 0xffffffff)` 
 IN_IF = "there is no `!`: `(a == 0)` is 1 where a is 0"
 
 FOREIGN = [
+    (r"", r"(?P<w># \[ (?:rtic : : )?(?P<v>app|task|init|idle|shared|local|monotonic)\b[^{};]*\]) (?P=v)\b",
+     "attributes of Rust have no place here: `<v> ..` alone is the declaration => ~<w>"),
     (r"", r"# \[ (?:rtic : : )?app\b",
      "`#[rtic::app(dispatchers = ..)]` is `app name(bits = 4, dispatchers = ..);` here"),
     (r"", r"# \[ (?:\w+ : : )?task\b", "`#[task(..)] fn foo(..)` is `task foo(..)` here"),

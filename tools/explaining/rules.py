@@ -183,11 +183,11 @@ class Rules:
         return ROLES[use.role], use.token, body, use
 
     def unlisted(self, table, name, body):
-        self.row(table, "E05 unlisted", N=name, B=body.name.text)
-        for other in self.app.bodies:
-            for token in other.local:
-                if token.text == name:
-                    self.note(f"it is listed here, by `{other.name.text}`", token)
+        rows = [(other, token) for other in self.app.bodies for token in other.local if token.text == name]
+        begins = rows and body.kind == "init"
+        self.row(table, "E05 unlisted init" if begins else "E05 unlisted", N=name, B=body.name.text)
+        for other, token in rows:
+            self.note(f"it is listed here, by `{other.name.text}`", token)
 
     def variable(self, table, name, body, use, wanted):
         """Whether the name is a variable, here or elsewhere; then it is said."""
