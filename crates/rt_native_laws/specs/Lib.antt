@@ -1,0 +1,9 @@
+-- The definitions of this crate, a file each.
+pub mod Own
+pub mod Standing
+pub mod Doing
+pub mod Opening
+pub mod Saving
+pub mod Ticking
+pub mod Laws
+pub mod Phases

@@ -1,0 +1,103 @@
+// The laws, by kinds of instructions.
+
+ghost use Rattle.rt_native_laws.specs.Laws.{SetIsDone, CopyIsDone, CalculationIsDone, JumpIsDone, JumpIfZeroIsDone};
+ghost use Rattle.rt_native_laws.specs.Laws.{MarkIsDone, WaitIsDone, LoadIsDone, StoreIsDone, LoadAtIsDone};
+ghost use Rattle.rt_native_laws.specs.Laws.{StoreAtIsDone, EmitIsDone, ClockIsDone, RaiseIsDone, RestoreIsDone};
+ghost use Rattle.rt_native_laws.specs.Laws.{MaskIsDone, UnmaskIsDone, ServeIsDone, PostIsDone, NoAlarmIsDone};
+ghost use Rattle.rt_native_laws.specs.Laws.{RetIsDone, BackIsDone, CallIsDone, AlarmIsDone, PrivateIsUnseen};
+ghost use Rattle.rt_native_laws.specs.Laws.{PrivateIsUndisturbed, WordsAreKept};
+ghost use Rattle.rt_native_laws.specs.Opening.{OpeningIsDone};
+ghost use Rattle.rt_native_laws.specs.Phases.{ToComeIsKept, DoneIsKept};
+ghost use Rattle.rt_native_laws.specs.Saving.{EntryPushesBelow, EntryIsUndone};
+ghost use Rattle.rt_native_laws.specs.Ticking.{TickIsServed};
+
+/// The code of `set`, of `copy` and of the operations does what they do, and nobody else sees anything of it.
+pub fn moves_are_done()
+    ensures set { SetIsDone }
+    ensures copy { CopyIsDone }
+    ensures calculation { CalculationIsDone }
+{}
+
+/// The code of `jump`, `jumpz`, `mark` and `wait` does what they do, and nobody else sees anything of it.
+pub fn jumps_are_done()
+    ensures jump { JumpIsDone }
+    ensures jump_if_zero { JumpIfZeroIsDone }
+    ensures mark { MarkIsDone }
+    ensures wait { WaitIsDone }
+{}
+
+/// The code of `load`, `store`, `loadat`, `storeat`, `emit` and `clock` does what they do, and of each others see one
+/// machine instruction.
+pub fn accesses_are_done()
+    ensures load { LoadIsDone }
+    ensures store { StoreIsDone }
+    ensures load_at { LoadAtIsDone }
+    ensures store_at { StoreAtIsDone }
+    ensures emit { EmitIsDone }
+    ensures clock { ClockIsDone }
+{}
+
+/// The code of `raise`, `restore`, `mask`, `unmask` and `serve` does what they do, and of each others see one machine
+/// instruction.
+pub fn masks_are_done()
+    ensures raise { RaiseIsDone }
+    ensures restore { RestoreIsDone }
+    ensures mask { MaskIsDone }
+    ensures unmask { UnmaskIsDone }
+    ensures serve { ServeIsDone }
+{}
+
+/// The code of `post` and `noalarm` does what they do, and of each others see one machine instruction.
+pub fn requests_are_done()
+    ensures post { PostIsDone }
+    ensures no_alarm { NoAlarmIsDone }
+{}
+
+/// The code of `call` and `back` does what they do, and others see nothing of it but a frame that comes into being.
+pub fn calls_are_done()
+    ensures call { CallIsDone }
+    ensures back { BackIsDone }
+{}
+
+/// The code of `ret` gives up the handler's frame, and then the processor returns from the exception.
+pub fn returns_are_done()
+    ensures { RetIsDone }
+{}
+
+/// The code of `alarm` does what it does, run with no exception taken in its tail.
+pub fn alarms_are_done()
+    ensures { AlarmIsDone }
+{}
+
+/// What runs first as an interrupt is taken makes room for its handler's frame, and leads to the handler's code.
+pub fn openings_are_done()
+    ensures { OpeningIsDone }
+{}
+
+/// The handler of ticks is a tick of the core.
+pub fn ticks_are_served()
+    ensures { TickIsServed }
+{}
+
+/// What is executed privately is seen by nobody else, and is not disturbed by what others do.
+pub fn private_is_unseen()
+    ensures unseen { PrivateIsUnseen }
+    ensures undisturbed { PrivateIsUndisturbed }
+{}
+
+/// An instruction leaves words of 32 bits in registers and memory.
+pub fn words_are_kept()
+    ensures { WordsAreKept }
+{}
+
+/// Exception entry pushes eight words, and exception return gives an interrupted job back what they saved.
+pub fn entries_are_undone()
+    ensures pushed { EntryPushesBelow }
+    ensures undone { EntryIsUndone }
+{}
+
+/// What others do leaves each job in its phase.
+pub fn phases_are_kept()
+    ensures to_come { ToComeIsKept }
+    ensures done { DoneIsKept }
+{}

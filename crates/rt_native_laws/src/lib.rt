@@ -1,0 +1,14 @@
+// Laws of native code: each sequence of machine instructions does what its instruction does, and, but for `alarm`,
+// others see at most one machine instruction of it; what is private to a job is not disturbed by others.
+// Promises: each kind of instruction is done, run alone; so are a tick's handler, and what an entry leads to.
+// Stands on: rt_lemmas, rt_ids, rt_code, rt_core, rt_trace, rt_thumb, rt_native, rt_priorities.
+// Read next: specs/Own.antt, Standing.antt and Doing.antt, then src/laws.rt.
+#![tactic(auto)]
+
+mod laws;
+
+pub use laws::{
+    accesses_are_done, alarms_are_done, calls_are_done, entries_are_undone, jumps_are_done,
+    masks_are_done, moves_are_done, openings_are_done, phases_are_kept, private_is_unseen,
+    requests_are_done, returns_are_done, ticks_are_served, words_are_kept,
+};
