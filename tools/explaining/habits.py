@@ -502,6 +502,7 @@ SYNTAX = [
 
 # what comes in the values of a body
 VALUES = [
+    (r"(?:\w|\))$", r"is not\b", "there is no `is`, and not equal is `!=` => !="),
     *[(r"(?:\w|\))$", rf"{word}\b", f"there is no `{word}`: the sign is `{sign}` => {sign}")
       for word, sign in WORD_SIGNS.items()],
     (rf"(?:^|(?<!\w))(?P<f>{OTHER_NAME})$", r"\(", "there are no functions: a value is calculated where it is used",

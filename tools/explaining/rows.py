@@ -48,7 +48,9 @@ def meant(source):
     front, mark, note = source.partition(";")
     forms = [f"{word} {form}" for word in FORMS for form in FORMS[word] if word != "image"]
     if "code" in source:
-        forms = [f"code N {word} {form}".strip() for word, form in INSTRUCTIONS.items()]
+        # an instruction that is there is meant, whatever its operands are
+        words = [word for word in front.split()[2:3] if word in INSTRUCTIONS] or INSTRUCTIONS
+        forms = [f"code N {word} {INSTRUCTIONS[word]}".strip() for word in words]
     found = line_of(front.strip(), forms, {"NAME": ANY, "T": ANY, "I": ANY})
     return f"{found} ;{note}" if found and mark and note.startswith(" ") else found
 

@@ -167,6 +167,9 @@ def short_words(app, said, words, has_words):
         said.helps = ["a line requests one interrupt"]
     if has_words and words[2] in ("from", "seed"):
         return said.at(words[2], f"`{words[2]}` comes behind a number of requests")
+    if len(words) > 3 and not NUMERAL.fullmatch(words[2]):
+        fact = "after `pend I` comes how many requests there are at once"
+        return said.at(words[2], f"{fact}, and `{words[2]}` is no number")
     if len(words) > 3:
         return said.at(words[3], "at most one number comes after `pend I`")
     return said.at(words[2], f"`{words[2]}` is no number of one to nine digits")
