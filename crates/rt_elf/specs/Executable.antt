@@ -1,6 +1,6 @@
 -- What an executable has: code and data with their addresses, room for the stack, an entry and symbols (ELF
 -- specification, TIS 1.2, book I: sections, symbols and segments). Headers.antt says what becomes of each.
-use Rattle.std.specs.Prelude.{ℕ, List}
+use Rattle.std.specs.Prelude.{ℕ, List, ◌++◌}
 use Rattle.rt_elf.specs.declared.executable.Symbol.{Symbol}
 
 pub record Executable : Type 0 where
@@ -20,3 +20,7 @@ pub record Executable : Type 0 where
   pub marks : List Symbol
   -- symbols that other files may name
   pub symbols : List Symbol
+
+-- all symbols: those that are local come first
+abbrev pub all_symbols : Executable → List Symbol
+all_symbols e = e.marks ++ e.symbols

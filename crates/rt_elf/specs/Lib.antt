@@ -5,3 +5,5 @@ pub mod Headers
 pub mod Symbols
 pub mod Offsets
 pub mod File
+pub mod Object
+pub mod Linking

@@ -3,7 +3,7 @@
 -- strings of symbols. The ELF specification (TIS 1.2, figure 1-1) leaves this order free, save that the header of the
 -- file comes first.
 use Rattle.std.specs.Prelude.{ℕ, ◌+◌, ◌*◌, length}
-use Rattle.rt_elf.specs.Executable.{Executable}
+use Rattle.rt_elf.specs.Executable.{Executable, all_symbols}
 use Rattle.rt_elf.specs.Headers.{HEADER_BYTES, SEGMENT_BYTES, SECTION_BYTES, section_names}
 use Rattle.rt_elf.specs.Symbols.{symbol_table_size, strings_size}
 use Rattle.rt_elf.specs.declared.offsets.Offsets.{Offsets}
@@ -19,7 +19,7 @@ module _ (e : Executable) where
   symbols_offset = data_offset + length e.values
 
   abbrev pub sections_offset : ℕ
-  sections_offset = symbols_offset + symbol_table_size e
+  sections_offset = symbols_offset + symbol_table_size (all_symbols e)
 
   abbrev pub names_offset : ℕ
   names_offset = sections_offset + 7 * SECTION_BYTES
@@ -28,7 +28,7 @@ module _ (e : Executable) where
   strings_offset = names_offset + length section_names
 
   abbrev pub file_size : ℕ
-  file_size = strings_offset + strings_size e
+  file_size = strings_offset + strings_size (all_symbols e)
 
   abbrev pub offsets_of : Offsets
   offsets_of = record {
@@ -37,9 +37,9 @@ module _ (e : Executable) where
     values = data_offset;
     values_size = length e.values;
     symbols = symbols_offset;
-    symbols_size = symbol_table_size e;
+    symbols_size = symbol_table_size (all_symbols e);
     sections = sections_offset;
     names = names_offset;
     strings = strings_offset;
-    strings_size = strings_size e;
+    strings_size = strings_size (all_symbols e);
   }

@@ -7,7 +7,6 @@ use Rattle.rt_elf.specs.declared.executable.Part.TheVariants as part
 use Rattle.rt_elf.specs.declared.executable.Kind.{Kind}
 use Rattle.rt_elf.specs.declared.executable.Kind.TheVariants as kind
 use Rattle.rt_elf.specs.declared.executable.Symbol.{Symbol}
-use Rattle.rt_elf.specs.Executable.{Executable}
 use Rattle.rt_elf.specs.Word.{half, words}
 
 -- st_info: the binding times 16, and the type: STB_LOCAL 0, STB_GLOBAL 1; STT_NOTYPE 0, STT_OBJECT 1, STT_FUNC 2
@@ -16,10 +15,12 @@ info kind.Mark = 0 * 16 + 0
 info kind.Object = 1 * 16 + 1
 info kind.Function = 1 * 16 + 2
 
--- st_shndx: the section that it lies in, by its place in the table of sections
+-- st_shndx: the section that it lies in, by its place in the table of sections; SHN_ABS and SHN_UNDEF
 abbrev pub section_index : Part → ℕ
 section_index part.Text = 1
 section_index part.Data = 2
+section_index part.Absolute = 0xFFF1
+section_index part.Elsewhere = 0
 
 -- Elf32_Sym: st_name, st_value and st_size, then st_info, st_other and st_shndx
 abbrev pub symbol_entry : ℕ → Symbol → List ℕ
@@ -39,22 +40,18 @@ abbrev pub symbol_entries : ℕ → List Symbol → List ℕ
 symbol_entries name [] = []
 symbol_entries name (s ∷ more) = symbol_entry name s ++ symbol_entries (name + string_bytes s) more
 
--- all symbols: those that are local come first
-abbrev pub all_symbols : Executable → List Symbol
-all_symbols e = e.marks ++ e.symbols
-
 -- the symbol table: its first entry is of no symbol (figure 1-18)
-unfoldable pub symbol_table : Executable → List ℕ
-symbol_table e = words (0 ∷ 0 ∷ 0 ∷ 0 ∷ []) ++ symbol_entries 1 (all_symbols e)
+unfoldable pub symbol_table : List Symbol → List ℕ
+symbol_table symbols = words (0 ∷ 0 ∷ 0 ∷ 0 ∷ []) ++ symbol_entries 1 symbols
 
 -- the strings: an empty one first (figure 1-14)
-unfoldable pub strings : Executable → List ℕ
-strings e = 0 ∷ flat_map (λ s. s.name ++ 0 ∷ []) (all_symbols e)
+unfoldable pub strings : List Symbol → List ℕ
+strings symbols = 0 ∷ flat_map (λ s. s.name ++ 0 ∷ []) symbols
 
 -- how many bytes the symbol table has, 16 for each
-abbrev pub symbol_table_size : Executable → ℕ
-symbol_table_size e = 16 + 16 * length (all_symbols e)
+abbrev pub symbol_table_size : List Symbol → ℕ
+symbol_table_size symbols = 16 + 16 * length symbols
 
 -- how many bytes the strings have
-abbrev pub strings_size : Executable → ℕ
-strings_size e = 1 + sum_by string_bytes (all_symbols e)
+abbrev pub strings_size : List Symbol → ℕ
+strings_size symbols = 1 + sum_by string_bytes symbols

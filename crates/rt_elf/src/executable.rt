@@ -3,13 +3,17 @@
 use rt_ids::Name;
 use std::marker::Model;
 
-/// The part of an executable that a symbol lies in.
+/// The part of a file that a symbol lies in.
 #[derive(Clone, Copy)]
 pub enum Part {
     /// The bytes of code.
     Text,
     /// The bytes of data.
     Data,
+    /// No part: its value is an address that no linker changes.
+    Absolute,
+    /// No part of this file: another file has it.
+    Elsewhere,
 }
 
 /// What a symbol names.
@@ -27,7 +31,8 @@ pub enum Kind {
 #[derive(Drop)]
 pub struct Symbol {
     pub name: Name,
-    /// The address; that of a function of Thumb instructions has bit 0 set.
+    /// The address, and in an object the offset in the section, unless it is absolute; that of a function of Thumb
+    /// instructions has bit 0 set.
     pub value: u32,
     /// How many bytes it names, 0 where that is not known.
     pub size: u32,

@@ -1,6 +1,7 @@
 // The one public call: the bytes of an executable.
 
 ghost use Rattle.std.specs.Prelude.{◌≡◌, ◌++◌, ◌<◌, ◌^◌, IfOk, OnOk};
+ghost use Rattle.rt_elf.specs.Executable.{all_symbols};
 ghost use Rattle.rt_elf.specs.File.{elf_of};
 ghost use Rattle.rt_elf.specs.Offsets.{file_size};
 ghost use Rattle.rt_elf.specs.Symbols as spec;
@@ -35,7 +36,7 @@ pub fn elf_bytes(alloc: Global, executable: &Executable) -> Result<Vec<u8>, NoMe
 #[tactic(auto, using(crate::proofs::Entries::sizes_append))]
 fn push_symbol_table(out: &mut Vec<u8>, executable: &Executable) -> Result<(), NoMemory>
     requires { file_size executable.now < 2 ^ 32 }
-    ensures { OnOk result (out.new.items ≡ out.old.items ++ spec.symbol_table executable.now) }
+    ensures { OnOk result (out.new.items ≡ out.old.items ++ spec.symbol_table (all_symbols executable.now)) }
 {
     push_words(out, &[0, 0, 0, 0])?;
     let next = push_symbols(out, 1, &executable.marks)?;
@@ -46,7 +47,7 @@ fn push_symbol_table(out: &mut Vec<u8>, executable: &Executable) -> Result<(), N
 /// Appends the strings that symbols name.
 #[tactic(auto, unfolding(crate::specs::Symbols::strings))]
 fn push_all_strings(out: &mut Vec<u8>, executable: &Executable) -> Result<(), NoMemory>
-    ensures { OnOk result (out.new.items ≡ out.old.items ++ spec.strings executable.now) }
+    ensures { OnOk result (out.new.items ≡ out.old.items ++ spec.strings (all_symbols executable.now)) }
 {
     push_bytes(out, &[0])?;
     push_strings(out, &executable.marks)?;

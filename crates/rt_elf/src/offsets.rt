@@ -22,7 +22,7 @@ pub(crate) struct Offsets {
 }
 
 /// How many bytes the names of symbols take, each with a 0 at its end.
-fn names_size(symbols: &[Symbol]) -> u32
+pub(crate) fn names_size(symbols: &[Symbol]) -> u32
     requires { sum_by string_bytes symbols.now < 2 ^ 32 }
     ensures { result ≡ sum_by string_bytes symbols.now }
 {
@@ -60,7 +60,7 @@ pub(crate) fn part_offsets(executable: &Executable) -> Offsets
 }
 
 /// What is left of some bytes where others are taken.
-fn left_of(room: u32, bytes: usize) -> Option<u32>
+pub(crate) fn left_of(room: u32, bytes: usize) -> Option<u32>
     ensures some { IfSome result (λ left. left + bytes ≡ room) }
     ensures none { IfNone result (room < bytes) }
 {
@@ -80,7 +80,7 @@ fn left_of_symbol(room: u32, symbol: &Symbol) -> Option<u32>
 }
 
 /// What is left of some bytes where symbols take their own.
-fn left_of_symbols(room: u32, symbols: &[Symbol]) -> Option<u32>
+pub(crate) fn left_of_symbols(room: u32, symbols: &[Symbol]) -> Option<u32>
     ensures some { IfSome result (λ left. left + sum_by symbol_bytes symbols.now ≡ room) }
     ensures none { IfNone result (room < sum_by symbol_bytes symbols.now) }
 {

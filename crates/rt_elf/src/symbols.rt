@@ -26,6 +26,8 @@ fn section_index(part: Part) -> u16
     match part {
         Part::Text => 1,
         Part::Data => 2,
+        Part::Absolute => 0xFFF1,
+        Part::Elsewhere => 0,
     }
 }
 
