@@ -14,7 +14,7 @@ use Rattle.rt_native.specs.Layout.{outside, places_from, sizes_from, fault_at, t
 use Rattle.rt_native.specs.Layout.{stubs_at, reset_at, code_at, code_end, load_at, flash_end, in_words, values_size}
 use Rattle.rt_native.specs.Pieces.{bytes_of}
 use Rattle.rt_native.specs.Sequences.{sequence}
-use Rattle.rt_native.specs.Service.{fault, stub_size}
+use Rattle.rt_native.specs.Service.{fault, entrance_size}
 use Rattle.rt_native.specs.Target.{Target}
 use Rattle.rt_native.specs.declared.target.Unfit.{Unfit}
 use Rattle.rt_native.specs.declared.target.Unfit.TheVariants as unfit
@@ -65,9 +65,9 @@ code_end_is img target = sizes_end img target (code_at img target) (length img.c
 
 -- where what runs first as interrupts are taken ends
 pub reset_at_is : (img : Image) (target : Target)
-    → reset_at img target ≡ stubs_at img target + sum_by (stub_size (outside img target) target.inputs) img.irqs
+    → reset_at img target ≡ stubs_at img target + sum_by (entrance_size (outside img target) target) img.irqs
 reset_at_is img target =
-    rows_end (stubs_at img target) (length img.irqs) (stub_size (outside img target) target.inputs) img.irqs refl
+    rows_end (stubs_at img target) (length img.irqs) (entrance_size (outside img target) target) img.irqs refl
 
 -- a multiple of 4 that is no less
 in_words_above : (n : ℕ) → n ≤ in_words n

@@ -1,7 +1,7 @@
 -- The code of a program has its places.
 use Rattle.std.proofs.Common.{◌≡◌, ◌∙◌, ℕ, zero, suc, ◌+◌, List, [], ◌∷◌, ◌++◌, Option, Some, None, ap, sym, refl}
 use Rattle.std.proofs.Common.{subst, length, map, flat_map, slice_get, slice_index, append_assoc, add-zero, zero-add}
-use Rattle.std.proofs.Common.{add-one, add_assoc, arith}
+use Rattle.std.proofs.Common.{add-one, add_assoc, arith, true, if◌then◌else◌, ◌-◌, ◌^◌}
 use Rattle.std.proofs.lemmas.List.Sums.{sum_by-append}
 use Rattle.rt_ids.specs.Operation.{wrapped_number as word}
 use Rattle.rt_code.specs.Image.{Image}
@@ -15,7 +15,7 @@ use Rattle.rt_thumb.specs.Encoding.{encode, size}
 use Rattle.rt_thumb.specs.declared.instruction.Condition.TheVariants as condition
 use Rattle.rt_thumb.specs.declared.instruction.Instruction.{Instruction}
 use Rattle.rt_thumb.specs.declared.instruction.Instruction.TheVariants as instruction
-use Rattle.rt_native.specs.Laws.{LiesAt, Lies, CodeHasItsPlaces, StubsHaveTheirPlaces}
+use Rattle.rt_native.specs.Laws.{LiesAt, Lies, CodeHasItsPlaces, StubsHaveTheirPlaces, CallsHaveTheirPlaces}
 use Rattle.rt_native.specs.Layout.{outside, places, places_from, sizes_from, stub_places, fault_at, tick_at, stubs_at}
 use Rattle.rt_native.specs.Layout.{reset_at, code_at, load_at}
 use Rattle.rt_native.specs.Pieces.{address, bytes_of, read_slot, write_slot, open_frame, leap}
@@ -23,10 +23,10 @@ use Rattle.rt_native.specs.Program.{instructions, sequences_from}
 use Rattle.rt_native.specs.Sequences.{sequence, branch, branch_if_zero, wait, call, read_arguments, write_arguments}
 use Rattle.rt_native.specs.Sequences.{RETURN_SLOT}
 use Rattle.rt_native.specs.Service.{fault, tick, timer_irq, reset, copy_words, enable, start_tick, opening, stub}
-use Rattle.rt_native.specs.Service.{stubs_from, stub_size, handler_size}
+use Rattle.rt_native.specs.Service.{entrance, entrances_from, entrance_size, first_call, handler_size, calls_first}
+use Rattle.rt_native.specs.Service.{call_function, keep_return, take_return}
 use Rattle.rt_native.specs.Target.{Target}
 use Rattle.rt_native.specs.declared.outside.Outside.{Outside}
-use Rattle.rt_native.specs.declared.target.Input.{Input}
 
 -- the bytes of joined code
 joined : (xs ys : List Instruction) → bytes_of (xs ++ ys) ≡ bytes_of xs + bytes_of ys
@@ -202,56 +202,64 @@ module _ (img : Image) (target : Target) where
       (sequence_bytes (outside img target) img (places img target) [] n first.0)
       (sequence_lies (p + size) (n + 1) k m more line here (omega arith))
 
-module _ (at : Outside) (inputs : List Input) (places begins : List ℕ) where
+module _ (at : Outside) (target : Target) (places begins : List ℕ) where
   -- what runs first as an interrupt is taken takes as many bytes wherever code lies
   stub_bytes : (behind irq : ℕ) (handler : Option Handler)
-      → bytes_of (stub at inputs places behind irq handler) ≡ handler_size at inputs irq handler
+      → bytes_of (stub at target.inputs places behind irq handler) ≡ handler_size at target.inputs irq handler
   unfolding stub branch
   stub_bytes behind irq None = refl
   stub_bytes behind irq (Some h) =
-      joined (opening at inputs irq h) (branch behind (slice_index places h.entry))
+      joined (opening at target.inputs irq h) (branch behind (slice_index places h.entry))
+
+  entrance_bytes : (behind : ℕ) (row : IrqRow)
+      → bytes_of (entrance at target places behind row) ≡ entrance_size at target row
+  unfolding entrance
+  entrance_bytes behind row =
+      let call = first_call target.calls row.number row.handler in
+      joined call (stub at target.inputs places behind row.number row.handler)
+      ∙ ap (λ n. bytes_of call + n) (stub_bytes behind row.number row.handler)
 
   -- that of a row among those of rows from one on
-  stub_lies : (p n k m : ℕ) (rows : List IrqRow) (row : IrqRow) → slice_get rows k ≡ Some row → n + k ≡ m
-      → LiesAt (stubs_from at inputs places begins n rows) p
-      (slice_index (places_from p (map (stub_size at inputs) rows)) k)
-      (stub at inputs places (slice_index begins (m + 1)) row.number row.handler)
-      (slice_index (places_from p (map (stub_size at inputs) rows)) (suc k))
-  stub_lies p n k m [] row here e = absurd (cc)
-  stub_lies p n zero m (first ∷ more) row here e =
+  entrance_lies : (p n k m : ℕ) (rows : List IrqRow) (row : IrqRow) → slice_get rows k ≡ Some row → n + k ≡ m
+      → LiesAt (entrances_from at target places begins n rows) p
+      (slice_index (places_from p (map (entrance_size at target) rows)) k)
+      (entrance at target places (slice_index begins (m + 1)) row)
+      (slice_index (places_from p (map (entrance_size at target) rows)) (suc k))
+  entrance_lies p n k m [] row here e = absurd (cc)
+  entrance_lies p n zero m (first ∷ more) row here e =
       let same : first ≡ row = cc in
       let number : n ≡ m = sym (add-zero n) ∙ e in
-      let size = stub_size at inputs first in
+      let size = entrance_size at target first in
       let Here : ℕ → IrqRow → Type 0 =
-      λ j r. LiesAt (stubs_from at inputs places begins n (first ∷ more)) p p
-      (stub at inputs places (slice_index begins (j + 1)) r.number r.handler)
-      (slice_index (places_from (p + size) (map (stub_size at inputs) more)) 0) in
+      λ j r. LiesAt (entrances_from at target places begins n (first ∷ more)) p p
+      (entrance at target places (slice_index begins (j + 1)) r)
+      (slice_index (places_from (p + size) (map (entrance_size at target) more)) 0) in
       subst (λ (r : IrqRow). Here m r) same
       (subst (λ (j : ℕ). Here j first) number
-      (first_placed p size (map (stub_size at inputs) more)
-      (stub at inputs places (slice_index begins (n + 1)) first.number first.handler)
-      (stubs_from at inputs places begins (n + 1) more)
-      (stub_bytes (slice_index begins (n + 1)) first.number first.handler)))
-  stub_lies p n (suc k) m (first ∷ more) row here e =
-      let size = stub_size at inputs first in
-      behind_lies (stub at inputs places (slice_index begins (n + 1)) first.number first.handler)
-      (stubs_from at inputs places begins (n + 1) more) p size _ _ _
-      (stub_bytes (slice_index begins (n + 1)) first.number first.handler)
-      (stub_lies (p + size) (n + 1) k m more row here (omega arith))
+      (first_placed p size (map (entrance_size at target) more)
+      (entrance at target places (slice_index begins (n + 1)) first)
+      (entrances_from at target places begins (n + 1) more)
+      (entrance_bytes (slice_index begins (n + 1)) first)))
+  entrance_lies p n (suc k) m (first ∷ more) row here e =
+      let size = entrance_size at target first in
+      behind_lies (entrance at target places (slice_index begins (n + 1)) first)
+      (entrances_from at target places begins (n + 1) more) p size _ _ _
+      (entrance_bytes (slice_index begins (n + 1)) first)
+      (entrance_lies (p + size) (n + 1) k m more row here (omega arith))
 
   -- where those of all rows end
-  stubs_end : (p n : ℕ) (rows : List IrqRow)
-      → slice_index (places_from p (map (stub_size at inputs) rows)) (length rows)
-      ≡ p + bytes_of (stubs_from at inputs places begins n rows)
-  stubs_end p n [] = sym (add-zero p)
-  stubs_end p n (row ∷ rows) =
-      let first = stub at inputs places (slice_index begins (n + 1)) row.number row.handler in
-      let rest = stubs_from at inputs places begins (n + 1) rows in
-      let size = stub_size at inputs row in
-      stubs_end (p + size) (n + 1) rows
+  entrances_end : (p n : ℕ) (rows : List IrqRow)
+      → slice_index (places_from p (map (entrance_size at target) rows)) (length rows)
+      ≡ p + bytes_of (entrances_from at target places begins n rows)
+  entrances_end p n [] = sym (add-zero p)
+  entrances_end p n (row ∷ rows) =
+      let first = entrance at target places (slice_index begins (n + 1)) row in
+      let rest = entrances_from at target places begins (n + 1) rows in
+      let size = entrance_size at target row in
+      entrances_end (p + size) (n + 1) rows
       ∙ (add_assoc p size (bytes_of rest)
       ∙ ap (λ k. p + k)
-      (ap (λ k. k + bytes_of rest) (sym (stub_bytes (slice_index begins (n + 1)) row.number row.handler))
+      (ap (λ k. k + bytes_of rest) (sym (entrance_bytes (slice_index begins (n + 1)) row))
       ∙ sym (joined first rest)))
 
 -- what runs at reset, in its parts
@@ -283,9 +291,9 @@ reset_bytes at reload img load other =
 -- what runs at reset begins behind what runs first as interrupts are taken
 reset_begins : (img : Image) (target : Target)
     → reset_at img target ≡ stubs_at img target
-    + bytes_of (stubs_from (outside img target) target.inputs (places img target) (stub_places img target) 0 img.irqs)
+    + bytes_of (entrances_from (outside img target) target (places img target) (stub_places img target) 0 img.irqs)
 reset_begins img target =
-    stubs_end (outside img target) target.inputs (places img target) (stub_places img target) (stubs_at img target) 0
+    entrances_end (outside img target) target (places img target) (stub_places img target) (stubs_at img target) 0
     img.irqs
 
 module _ (img : Image) (target : Target) where
@@ -295,7 +303,7 @@ module _ (img : Image) (target : Target) where
 
   taken : List Instruction
   taken =
-      stubs_from (outside img target) target.inputs (places img target) (stub_places img target) 0 img.irqs
+      entrances_from (outside img target) target (places img target) (stub_places img target) 0 img.irqs
 
   begun : List Instruction
   begun = reset (outside img target) target.tick img (load_at img target)
@@ -343,10 +351,48 @@ unfolding taken
 stubs_have_their_places img target k row here =
     let begins = stub_places img target in
     let piece =
-    stub (outside img target) target.inputs (places img target) (slice_index begins (k + 1)) row.number row.handler in
+    entrance (outside img target) target (places img target) (slice_index begins (k + 1)) row in
     subst (λ (j : ℕ). Lies img target (slice_index begins k) piece (slice_index begins j)) (sym (add-one k))
     (behind_served img target (slice_index begins k) piece (slice_index begins (suc k))
     (before_lies (taken img target) (begun img target ++ code img target) (stubs_at img target) (slice_index begins k)
     piece (slice_index begins (suc k))
-    (stub_lies (outside img target) target.inputs (places img target) begins (stubs_at img target) 0 k k img.irqs row
+    (entrance_lies (outside img target) target (places img target) begins (stubs_at img target) 0 k k img.irqs row
     here (zero-add k))))
+
+-- a part of a piece
+part_lies : (all : List Instruction) (start begin : ℕ) (code : List Instruction) (end : ℕ)
+    (front piece rest : List Instruction) → code ≡ front ++ (piece ++ rest) → LiesAt all start begin code end
+    → LiesAt all start (begin + bytes_of front) piece (begin + bytes_of front + bytes_of piece)
+part_lies all start begin code end front piece rest e m =
+    let same : m.before ++ ((front ++ (piece ++ rest)) ++ m.after)
+    ≡ (m.before ++ front) ++ (piece ++ (rest ++ m.after)) = simp append_assoc in record {
+      before = m.before ++ front;
+      after = rest ++ m.after;
+      parts = m.parts ∙ (ap (λ c. m.before ++ (c ++ m.after)) e ∙ same);
+      begins =
+          ap (λ n. start + n) (joined m.before front)
+          ∙ (sym (add_assoc start (bytes_of m.before) (bytes_of front)) ∙ ap (λ n. n + bytes_of front) m.begins);
+      ends = refl;
+    }
+
+-- what runs first as an interrupt is taken, in its parts, where a function is called
+call_parts_of : (at : Outside) (target : Target) (places : List ℕ) (behind : ℕ) (row : IrqRow)
+    → calls_first target.calls row.number row.handler ≡ true
+    → entrance at target places behind row
+    ≡ keep_return ++ ((instruction.Call (2 ^ 32 - 4) ∷ [])
+    ++ (take_return ++ stub at target.inputs places behind row.number row.handler))
+unfolding entrance call_function
+call_parts_of at target places behind row called =
+    let code = stub at target.inputs places behind row.number row.handler in
+    ap (λ b. (if b then call_function else []) ++ code) called
+    ∙ append_assoc keep_return (instruction.Call (2 ^ 32 - 4) ∷ take_return) code
+
+pub calls_have_their_places : CallsHaveTheirPlaces
+calls_have_their_places img target k row here called =
+    let begins = stub_places img target in
+    let at = outside img target in
+    let behind = slice_index begins (k + 1) in
+    part_lies (instructions img target) (fault_at img target) (slice_index begins k)
+    (entrance at target (places img target) behind row) behind keep_return (instruction.Call (2 ^ 32 - 4) ∷ [])
+    (take_return ++ stub at target.inputs (places img target) behind row.number row.handler)
+    (call_parts_of at target (places img target) behind row called) (stubs_have_their_places img target k row here)

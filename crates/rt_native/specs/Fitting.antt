@@ -2,11 +2,10 @@
 -- memory and the reach of branches are the core's; the order in which causes are told is this project's own.
 use Rattle.std.specs.Prelude.{◌≡◌, ◌+◌, ◌%◌, ◌<◌, ◌≤◌, ◌^◌, All, ⊤}
 use Rattle.rt_code.specs.Image.{Image}
-use Rattle.rt_elf.specs.Offsets.{file_size}
 use Rattle.rt_thumb.specs.Instruction.{IsEncodable}
+use Rattle.rt_native.specs.File.{FitsFile}
 use Rattle.rt_native.specs.Layout.{LINES, line_count, stack_room, values_size, flash_end}
 use Rattle.rt_native.specs.Program.{instructions}
-use Rattle.rt_native.specs.Symbols.{executable}
 use Rattle.rt_native.specs.Target.{Target}
 use Rattle.rt_native.specs.declared.target.Region.{Region}
 use Rattle.rt_native.specs.declared.target.Unfit.{Unfit}
@@ -34,13 +33,9 @@ module _ (img : Image) (target : Target) where
   abbrev pub Reaches : Type 0
   Reaches = All IsEncodable (instructions img target)
 
-  -- the offsets of the file are words
-  abbrev pub FitsFile : Type 0
-  FitsFile = file_size (executable img target) < 2 ^ 32
-
   -- the image has a program
   abbrev pub Fits : Type 0
-  Fits = HasLines × FitsRam × FitsFlash × Reaches × FitsFile
+  Fits = HasLines × FitsRam × FitsFlash × Reaches × FitsFile img target
 
   -- why it has none; want of memory has no cause in it
   abbrev pub IsUnfit : Unfit → Type 0
@@ -48,5 +43,5 @@ module _ (img : Image) (target : Target) where
   IsUnfit unfit.Ram = HasLines × ¬ FitsRam
   IsUnfit unfit.Flash = HasLines × FitsRam × ¬ FitsFlash
   IsUnfit unfit.Reach = HasLines × FitsRam × FitsFlash × ¬ Reaches
-  IsUnfit unfit.File = HasLines × FitsRam × FitsFlash × Reaches × ¬ FitsFile
+  IsUnfit unfit.File = HasLines × FitsRam × FitsFlash × Reaches × ¬ FitsFile img target
   IsUnfit unfit.NoMemory = ⊤

@@ -1,15 +1,16 @@
 -- Laws of where a program lies. They are of this project's own layout, which Layout.antt has.
-use Rattle.std.specs.Prelude.{◌≡◌, ℕ, ◌+◌, List, ◌++◌, Option, Some, slice_get, slice_index}
+use Rattle.std.specs.Prelude.{◌≡◌, ℕ, ◌+◌, ◌-◌, ◌^◌, true, List, [], ◌∷◌, ◌++◌, Option, Some, slice_get, slice_index}
 use Rattle.rt_code.specs.Image.{Image}
 use Rattle.rt_code.specs.declared.image.IrqRow.{IrqRow}
 use Rattle.rt_code.specs.declared.instr.Instr.{Instr}
 use Rattle.rt_code.specs.declared.instr.Note.{Note}
 use Rattle.rt_thumb.specs.declared.instruction.Instruction.{Instruction}
+use Rattle.rt_thumb.specs.declared.instruction.Instruction.TheVariants as instruction
 use Rattle.rt_native.specs.Layout.{outside, places, stub_places, fault_at}
 use Rattle.rt_native.specs.Pieces.{bytes_of}
 use Rattle.rt_native.specs.Program.{instructions}
 use Rattle.rt_native.specs.Sequences.{sequence}
-use Rattle.rt_native.specs.Service.{stub}
+use Rattle.rt_native.specs.Service.{call_offset, calls_first, entrance}
 use Rattle.rt_native.specs.Target.{Target}
 
 -- Some code begins at one address and ends before another, among instructions that begin at a start: so many bytes of
@@ -38,6 +39,13 @@ abbrev pub StubsHaveTheirPlaces : Type 0
 StubsHaveTheirPlaces =
     (img : Image) (target : Target) (k : ℕ) (row : IrqRow) → slice_get img.irqs k ≡ Some row
     → Lies img target (slice_index (stub_places img target) k)
-    (stub (outside img target) target.inputs (places img target) (slice_index (stub_places img target) (k + 1))
-    row.number row.handler)
+    (entrance (outside img target) target (places img target) (slice_index (stub_places img target) (k + 1)) row)
     (slice_index (stub_places img target) (k + 1))
+
+-- where a function is called first as the interrupt of a row is taken, its BL lies where an object tells it
+abbrev pub CallsHaveTheirPlaces : Type 0
+CallsHaveTheirPlaces =
+    (img : Image) (target : Target) (k : ℕ) (row : IrqRow) → slice_get img.irqs k ≡ Some row
+    → calls_first target.calls row.number row.handler ≡ true
+    → Lies img target (slice_index (stub_places img target) k + call_offset) (instruction.Call (2 ^ 32 - 4) ∷ [])
+    (slice_index (stub_places img target) k + call_offset + 4)

@@ -9,7 +9,7 @@ use Rattle.rt_code.specs.declared.instr.Instr.{Instr}
 use Rattle.rt_code.specs.declared.instr.Note.{Note}
 use Rattle.rt_native.specs.Pieces.{bytes_of}
 use Rattle.rt_native.specs.Sequences.{sequence}
-use Rattle.rt_native.specs.Service.{fault, tick, timer_irq, stub_size, reset}
+use Rattle.rt_native.specs.Service.{fault, tick, timer_irq, entrance_size, reset}
 use Rattle.rt_native.specs.Target.{Target}
 use Rattle.rt_native.specs.declared.outside.Outside.{Outside}
 
@@ -81,7 +81,7 @@ module _ (img : Image) (target : Target) where
 
   -- where what runs first as the interrupt of each row is taken lies, and where that ends
   abbrev pub stub_places : List ℕ
-  stub_places = places_from stubs_at (map (stub_size outside target.inputs) img.irqs)
+  stub_places = places_from stubs_at (map (entrance_size outside target) img.irqs)
 
   abbrev pub reset_at : ℕ
   reset_at = slice_index stub_places (length img.irqs)

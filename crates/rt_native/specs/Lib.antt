@@ -7,6 +7,8 @@ pub mod Service
 pub mod Layout
 pub mod Program
 pub mod Symbols
+pub mod Object
+pub mod File
 pub mod Fitting
 pub mod Laws
 pub mod Inside

@@ -17,7 +17,7 @@ use Rattle.rt_thumb.specs.declared.instruction.Instruction.{Instruction}
 use Rattle.rt_native.specs.Layout.{line_count, stack_top, outside, places, fault_at, tick_at, reset_at, code_end}
 use Rattle.rt_native.specs.Layout.{stub_places, load_at}
 use Rattle.rt_native.specs.Sequences.{sequence}
-use Rattle.rt_native.specs.Service.{fault, tick, timer_irq, stubs_from, reset}
+use Rattle.rt_native.specs.Service.{fault, tick, timer_irq, entrances_from, reset}
 use Rattle.rt_native.specs.Target.{Target}
 
 -- an interrupt of this number is enabled
@@ -58,7 +58,7 @@ module _ (img : Image) (target : Target) where
   instructions =
       let at = outside img target in
       fault ++ tick at (timer_irq img.code)
-      ++ stubs_from at target.inputs (places img target) (stub_places img target) 0 img.irqs
+      ++ entrances_from at target (places img target) (stub_places img target) 0 img.irqs
       ++ reset at target.tick img (load_at img target) ++ sequences_from 0 img.code
 
   -- bytes of 0 up to where first values lie

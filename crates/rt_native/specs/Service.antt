@@ -2,7 +2,8 @@
 -- interrupt is taken. Register addresses are those of the ARMv7-M Architecture Reference Manual (sections B3.2 to
 -- B3.4).
 use Rattle.std.specs.Prelude.{ℕ, ◌+◌, ◌-◌, ◌*◌, ◌/◌, ◌%◌, ◌^◌, ◌==◌, List, [], ◌∷◌, ◌++◌, filter, flat_map, Option}
-use Rattle.std.specs.Prelude.{Some, None, slice_index}
+use Rattle.std.specs.Prelude.{Some, None, slice_index, Bool, false, if◌then◌else◌}
+use Rattle.std.specs.List.{list_any}
 use Rattle.rt_ids.specs.Operation.{wrapped_number as word}
 use Rattle.rt_code.specs.Image.{Image}
 use Rattle.rt_code.specs.declared.image.Handler.{Handler}
@@ -16,6 +17,7 @@ use Rattle.rt_thumb.specs.declared.instruction.Instruction.TheVariants as instru
 use Rattle.rt_thumb.specs.declared.instruction.Operation.TheVariants as operation
 use Rattle.rt_native.specs.Pieces.{bytes_of, address, number, open_frame}
 use Rattle.rt_native.specs.Sequences.{STIR, branch, cell}
+use Rattle.rt_native.specs.Target.{Target}
 use Rattle.rt_native.specs.declared.outside.Outside.{Outside}
 use Rattle.rt_native.specs.declared.target.Input.{Input}
 
@@ -88,22 +90,58 @@ abbrev pub handler_size : Outside → List Input → ℕ → Option Handler → 
 handler_size at inputs irq None = 0
 handler_size at inputs irq (Some h) = bytes_of (opening at inputs irq h) + 4
 
-abbrev pub stub_size : Outside → List Input → IrqRow → ℕ
-stub_size at inputs row = handler_size at inputs row.number row.handler
-
 -- that, and the branch to the handler's code, before an address; the image's instructions have their code at places
 unfoldable pub stub : Outside → List Input → List ℕ → ℕ → ℕ → Option Handler → List Instruction
 stub at inputs places behind irq None = []
 stub at inputs places behind irq (Some h) =
     opening at inputs irq h ++ branch behind (slice_index places h.entry)
 
+-- LR is kept in eight bytes of the stack, so that SP stays a multiple of 8, as it is to be where functions of others
+-- are called (Procedure Call Standard for the Arm Architecture, section 6.2.1.2); and it comes back
+unfoldable pub keep_return : List Instruction
+keep_return = instruction.SubtractStack 8 ∷ instruction.StoreWide 14 13 0 ∷ []
+
+unfoldable pub take_return : List Instruction
+take_return = instruction.LoadWide 14 13 0 ∷ instruction.AddStack 8 ∷ []
+
+-- A function of C is called. The processor has saved r0 to r3 and r12, the function keeps the others, and LR, which is
+-- EXC_RETURN, is kept here. A linker writes the displacement of BL: before it does, that is -4, to which the address of
+-- the function less that of the BL is added (ELF for the Arm architecture, section 5.6.1).
+unfoldable pub call_function : List Instruction
+call_function = keep_return ++ (instruction.Call (2 ^ 32 - 4) ∷ take_return)
+
+-- what stands before the BL
+abbrev pub call_offset : ℕ
+call_offset = bytes_of keep_return
+
+-- a function is called first as this interrupt is taken
+abbrev pub is_called : List ℕ → ℕ → Bool
+is_called calls irq = list_any (λ c. c == irq) calls
+
+-- and it is enabled
+abbrev pub calls_first : List ℕ → ℕ → Option Handler → Bool
+calls_first calls irq None = false
+calls_first calls irq (Some h) = is_called calls irq
+
+abbrev pub first_call : List ℕ → ℕ → Option Handler → List Instruction
+first_call calls irq handler = if calls_first calls irq handler then call_function else []
+
+-- what runs first as the interrupt of a row is taken, before an address: a function is called, and then what is above
+unfoldable pub entrance : Outside → Target → List ℕ → ℕ → IrqRow → List Instruction
+entrance at target places behind row =
+    first_call target.calls row.number row.handler ++ stub at target.inputs places behind row.number row.handler
+
+abbrev pub entrance_size : Outside → Target → IrqRow → ℕ
+entrance_size at target row =
+    bytes_of (first_call target.calls row.number row.handler) + handler_size at target.inputs row.number row.handler
+
 -- those of rows, the first of which has this index; places are those of what is made here, for each row of the image,
 -- and where they end
-abbrev pub stubs_from : Outside → List Input → List ℕ → List ℕ → ℕ → List IrqRow → List Instruction
-stubs_from at inputs places stub_places k [] = []
-stubs_from at inputs places stub_places k (row ∷ rows) =
-    stub at inputs places (slice_index stub_places (k + 1)) row.number row.handler
-    ++ stubs_from at inputs places stub_places (k + 1) rows
+abbrev pub entrances_from : Outside → Target → List ℕ → List ℕ → ℕ → List IrqRow → List Instruction
+entrances_from at target places stub_places k [] = []
+entrances_from at target places stub_places k (row ∷ rows) =
+    entrance at target places (slice_index stub_places (k + 1)) row
+    ++ entrances_from at target places stub_places (k + 1) rows
 
 -- the priority value of an enabled interrupt is written, and it is enabled
 unfoldable pub enable : ℕ → Option Handler → List Instruction

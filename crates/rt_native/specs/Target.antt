@@ -15,3 +15,5 @@ pub record Target : Type 0 where
   pub tick : Option ℕ
   -- the cells that are read from a device as an interrupt is taken
   pub inputs : List Input
+  -- the interrupts as which a function of C is called first
+  pub calls : List ℕ

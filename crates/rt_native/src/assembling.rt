@@ -1,33 +1,75 @@
-// The one public call: the executable of an image.
+// The one public call: the file of an image.
 
-ghost use Rattle.std.specs.Prelude.{◌≡◌, ◌≢◌, IfOk, IfErr, OnOk};
-ghost use Rattle.rt_elf.specs.File.{elf_of};
+ghost use Rattle.std.specs.Prelude.{◌≡◌, ◌≢◌, length, IfOk, IfErr, OnOk};
+ghost use Rattle.rt_native.specs.File.{file, FitsFile};
 ghost use Rattle.rt_native.specs.Fitting.{IsRegion, Fits, IsUnfit, Reaches};
-ghost use Rattle.rt_native.specs.Inside.Laid.{laid_out};
+ghost use Rattle.rt_native.specs.Inside.Laid.{laid_out, IsUnwritten};
 ghost use Rattle.rt_native.specs.Symbols.{executable as executable_of};
 
 use crate::layout::{Layout, lay_out};
+use crate::object::object;
 use crate::program::{text, values};
 use crate::symbols::{marks, symbols};
 use crate::target::{Target, Unfit};
 use rt_code::Image;
-use rt_elf::{Executable, elf_bytes, is_short};
+use rt_elf::{Executable, elf_bytes, is_linkable, is_short, object_bytes};
 use std::alloc::Global;
 
-/// The executable of an image for a target: the bytes of a file. There is none where the image does not fit.
+/// The file of an image for a target: an executable, or an object for a linker where functions of C are called. There
+/// is none where the image does not fit.
 pub fn native(alloc: Global, image: &Image, target: &Target) -> Result<Vec<u8>, Unfit>
     requires flash { IsRegion target.now.flash }
     requires ram { IsRegion target.now.ram }
-    ensures bytes { IfOk result (λ bytes. bytes.items ≡ elf_of (executable_of image.now target.now)) }
+    ensures bytes { IfOk result (λ bytes. bytes.items ≡ file image.now target.now) }
     ensures fits { OnOk result (Fits image.now target.now) }
     ensures unfit { IfErr result (IsUnfit image.now target.now) }
 {
     let layout = lay_out(alloc, image, target)?;
-    let executable = assemble(alloc, image, target, &layout)?;
+    if target.calls.is_empty() {
+        write_executable(alloc, image, target, &layout)
+    } else {
+        write_object(alloc, image, target, &layout)
+    }
+}
+
+/// The executable of an image that lies so, as a file.
+fn write_executable(
+    alloc: Global,
+    image: &Image,
+    target: &Target,
+    layout: &Layout,
+) -> Result<Vec<u8>, Unfit>
+    requires laid { layout.now ≡ laid_out image.now target.now }
+    requires alone { length target.now.calls ≡ 0 }
+    ensures bytes { IfOk result (λ bytes. bytes.items ≡ file image.now target.now) }
+    ensures fits { OnOk result (Reaches image.now target.now × FitsFile image.now target.now) }
+    ensures unfit { IfErr result (IsUnwritten image.now target.now) }
+{
+    let executable = assemble(alloc, image, target, layout)?;
     if !is_short(&executable) {
         return Err(Unfit::File);
     }
     Ok(elf_bytes(alloc, &executable)?)
+}
+
+/// The object of an image that lies so, as a file.
+fn write_object(
+    alloc: Global,
+    image: &Image,
+    target: &Target,
+    layout: &Layout,
+) -> Result<Vec<u8>, Unfit>
+    requires laid { layout.now ≡ laid_out image.now target.now }
+    requires calling { length target.now.calls ≢ 0 }
+    ensures bytes { IfOk result (λ bytes. bytes.items ≡ file image.now target.now) }
+    ensures fits { OnOk result (Reaches image.now target.now × FitsFile image.now target.now) }
+    ensures unfit { IfErr result (IsUnwritten image.now target.now) }
+{
+    let object = object(alloc, image, target, layout)?;
+    if !is_linkable(&object) {
+        return Err(Unfit::File);
+    }
+    Ok(object_bytes(alloc, &object)?)
 }
 
 /// The executable of an image that lies so.

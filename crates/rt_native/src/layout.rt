@@ -6,9 +6,9 @@ ghost use Rattle.rt_native.specs.Fitting.{IsRegion, IsUnfit, HasLines, FitsRam, 
 ghost use Rattle.rt_native.specs.Inside.Laid.{IsTooLong, laid_out};
 ghost use Rattle.rt_native.specs.Layout as spec;
 ghost use Rattle.rt_native.specs.Pieces.{bytes_of};
-ghost use Rattle.rt_native.specs.Service.{stub_size, reset as reset_of};
+ghost use Rattle.rt_native.specs.Service.{entrance_size, reset as reset_of};
 
-use crate::opening::push_opening;
+use crate::opening::{push_first_call, push_opening};
 use crate::outside::Outside;
 use crate::sequence::{place_of, push_sequence};
 use crate::service::{push_reset, push_tick, timer_irq};
@@ -168,10 +168,10 @@ fn stub_places(
 ) -> Result<Vec<u32>, Unfit>
     requires { first ≤ end }
     ensures ok { IfOk result (λ places. places.items
-        ≡ spec.places_from first (map (stub_size at target.now.inputs) image.now.irqs)) }
-    ensures within { IfOk result (λ places. first + sum_by (stub_size at target.now.inputs) image.now.irqs ≤ end) }
+        ≡ spec.places_from first (map (entrance_size at target.now) image.now.irqs)) }
+    ensures within { IfOk result (λ places. first + sum_by (entrance_size at target.now) image.now.irqs ≤ end) }
     ensures flash { IfErr result (λ why. why ≢ Unfit.NoMemory →
-        (why ≡ Unfit.Flash) × (end < first + sum_by (stub_size at target.now.inputs) image.now.irqs)) }
+        (why ≡ Unfit.Flash) × (end < first + sum_by (entrance_size at target.now) image.now.irqs)) }
 {
     let mut places = Vec::new(alloc);
     let mut place = first;
@@ -194,14 +194,15 @@ fn behind_stub(
 ) -> Result<u32, Unfit>
     requires { place ≤ end }
     ensures ok { IfOk result (λ behind.
-        (behind ≡ place + stub_size at target.now.inputs row.now) × (behind ≤ end)) }
+        (behind ≡ place + entrance_size at target.now row.now) × (behind ≤ end)) }
     ensures flash { IfErr result (λ why. why ≢ Unfit.NoMemory →
-        (why ≡ Unfit.Flash) × (end < place + stub_size at target.now.inputs row.now)) }
+        (why ≡ Unfit.Flash) × (end < place + entrance_size at target.now row.now)) }
 {
     let Some(handler) = row.handler else {
         return Ok(place);
     };
     let mut scratch = Vec::new(alloc);
+    push_first_call(&mut scratch, &target.calls, row.number, row.handler)?;
     push_opening(&mut scratch, at, &target.inputs, row.number, handler)?;
     let branch = behind(place, &scratch, end)?;
     within(branch, 4, end)

@@ -1,4 +1,4 @@
-// From an image to a program of ARMv7-M instructions, and its executable.
+// From an image to a program of ARMv7-M instructions, and its executable, or an object for a linker.
 // Promises: the bytes are those of the definitions, sequence by sequence, or a refusal that is exact.
 // Stands on: rt_lemmas, rt_ids, rt_code, rt_thumb, rt_elf.
 // Read next: specs/Sequences.antt and specs/Layout.antt, then src/assembling.rt.
@@ -9,6 +9,7 @@ mod calculation;
 mod frames;
 mod laws;
 mod layout;
+mod object;
 pub mod opening;
 pub mod outside;
 mod pieces;

@@ -6,7 +6,7 @@ ghost use Rattle.rt_native.specs.Service as spec;
 use crate::outside::{Outside, cell};
 use crate::pieces::{push_address, push_all, push_open_frame};
 use crate::sequence::{place_of, push_branch};
-use crate::target::Input;
+use crate::target::{Input, Target};
 use rt_code::{Handler, IrqRow};
 use rt_ids::{Irq, NoMemory};
 use rt_thumb::Instruction;
@@ -75,4 +75,92 @@ pub fn push_stub(
         }
         None => Ok(()),
     }
+}
+
+/// The displacement of a BL before a linker writes it.
+const UNLINKED: u32 = 0xFFFF_FFFC;
+
+/// Appends what keeps LR on the stack.
+#[tactic(auto, unfolding(crate::specs::Service::keep_return))]
+fn push_keep_return(out: &mut Vec<Instruction>) -> Result<(), NoMemory>
+    ensures { OnOk result (out.new.items ≡ out.old.items ++ spec.keep_return) }
+{
+    push_all(
+        out,
+        &[
+            Instruction::SubtractStack(8),
+            Instruction::StoreWide(14, 13, 0),
+        ],
+    )
+}
+
+/// Appends what takes LR from the stack again.
+#[tactic(auto, unfolding(crate::specs::Service::take_return))]
+fn push_take_return(out: &mut Vec<Instruction>) -> Result<(), NoMemory>
+    ensures { OnOk result (out.new.items ≡ out.old.items ++ spec.take_return) }
+{
+    push_all(
+        out,
+        &[Instruction::LoadWide(14, 13, 0), Instruction::AddStack(8)],
+    )
+}
+
+/// Appends what calls a function of C.
+#[tactic(auto, unfolding(crate::specs::Service::call_function))]
+fn push_call_function(out: &mut Vec<Instruction>) -> Result<(), NoMemory>
+    ensures { OnOk result (out.new.items ≡ out.old.items ++ spec.call_function) }
+{
+    push_keep_return(out)?;
+    push_all(out, &[Instruction::Call(UNLINKED)])?;
+    push_take_return(out)
+}
+
+/// Whether a function of C is called first as an interrupt is taken.
+fn is_called(calls: &[Irq], irq: Irq) -> bool
+    ensures { result ≡ spec.is_called calls.now irq }
+{
+    calls.iter().any(|call| *call == irq)
+}
+
+/// Whether a function of C is called first as an interrupt is taken, which is enabled.
+pub(crate) fn calls_first(calls: &[Irq], irq: Irq, handler: Option<Handler>) -> bool
+    ensures { result ≡ spec.calls_first calls.now irq handler }
+{
+    match handler {
+        Some(_) => is_called(calls, irq),
+        None => false,
+    }
+}
+
+/// Appends what calls a function of C, where one is called first as an interrupt is taken.
+pub(crate) fn push_first_call(
+    out: &mut Vec<Instruction>,
+    calls: &[Irq],
+    irq: Irq,
+    handler: Option<Handler>,
+) -> Result<(), NoMemory>
+    ensures { OnOk result (out.new.items ≡ out.old.items ++ spec.first_call calls.now irq handler) }
+{
+    if calls_first(calls, irq, handler) {
+        push_call_function(out)
+    } else {
+        Ok(())
+    }
+}
+
+/// Appends what runs first as the interrupt of a row is taken. It ends before an address.
+#[tactic(auto, unfolding(crate::specs::Service::entrance))]
+pub(crate) fn push_entrance(
+    out: &mut Vec<Instruction>,
+    at: Outside,
+    target: &Target,
+    places: &[u32],
+    behind: u32,
+    row: &IrqRow,
+) -> Result<(), NoMemory>
+    ensures { OnOk result (out.new.items
+        ≡ out.old.items ++ spec.entrance at target.now places.now behind row.now) }
+{
+    push_first_call(out, &target.calls, row.number, row.handler)?;
+    push_stub(out, at, &target.inputs, places, behind, row)
 }

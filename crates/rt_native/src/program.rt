@@ -7,10 +7,10 @@ ghost use Rattle.rt_thumb.specs.Instruction.{IsEncodable};
 ghost use Rattle.rt_native.specs.Fitting.{Reaches};
 ghost use Rattle.rt_native.specs.Inside.Laid.{laid_out};
 ghost use Rattle.rt_native.specs.Program as spec;
-ghost use Rattle.rt_native.specs.Service.{stubs_from};
+ghost use Rattle.rt_native.specs.Service.{entrances_from};
 
 use crate::layout::Layout;
-use crate::opening::push_stub;
+use crate::opening::push_entrance;
 use crate::outside::Outside;
 use crate::sequence::{place_of, push_sequence};
 use crate::service::{push_fault, push_reset, push_tick, timer_irq};
@@ -105,11 +105,11 @@ fn push_stubs(
     places: &[u32],
 ) -> Result<(), NoMemory>
     ensures { OnOk result (out.new.items
-        ≡ out.old.items ++ stubs_from at target.now.inputs places.now stubs.now 0 image.now.irqs) }
+        ≡ out.old.items ++ entrances_from at target.now places.now stubs.now 0 image.now.irqs) }
 {
     for (index, row) in image.irqs.iter().enumerate() {
         let behind = place_of(stubs, index + 1);
-        push_stub(out, at, &target.inputs, places, behind, row)?;
+        push_entrance(out, at, target, places, behind, row)?;
     }
     Ok(())
 }

@@ -20,15 +20,23 @@ fn symbol_byte(byte: u8) -> u8
     if byte == b'.' { b'_' } else { byte }
 }
 
+/// Appends the bytes of a name, as a symbol has them.
+pub(crate) fn push_name(out: &mut Vec<u8>, name: &[u8]) -> Result<(), NoMemory>
+    ensures { OnOk result (out.new.items ≡ out.old.items ++ map spec.symbol_byte name.now) }
+{
+    for byte in name {
+        push_bytes(out, &[symbol_byte(*byte)])?;
+    }
+    Ok(())
+}
+
 /// The name of a symbol.
 fn symbol_name(alloc: Global, front: &[u8], name: &[u8]) -> Result<Name, NoMemory>
     ensures { IfOk result (λ made. made ≡ front.now ++ map spec.symbol_byte name.now) }
 {
     let mut bytes = Vec::new(alloc);
     push_bytes(&mut bytes, front)?;
-    for byte in name {
-        push_bytes(&mut bytes, &[symbol_byte(*byte)])?;
-    }
+    push_name(&mut bytes, name)?;
     Name::of(alloc, &bytes)
 }
 

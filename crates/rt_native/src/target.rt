@@ -25,7 +25,7 @@ pub struct Input {
     pub address: u32,
 }
 
-/// What a program is made for. Contracts see a record with a list.
+/// What a program is made for. Contracts see a record with lists.
 pub struct Target {
     /// Where code and first values lie.
     pub flash: Region,
@@ -37,6 +37,9 @@ pub struct Target {
     pub tick: Option<u32>,
     /// The cells that are read from a device as an interrupt is taken.
     pub inputs: Vec<Input>,
+    /// The interrupts as which a function of C is called first: `IRQ_in` of the interrupt's name, which takes and gives
+    /// nothing.
+    pub calls: Vec<Irq>,
 }
 
 impl Model for Target {
@@ -50,6 +53,7 @@ impl Model for Target {
       port = target.port;
       tick = target.tick;
       inputs = target.inputs.items;
+      calls = target.calls.items;
     } };
 }
 
@@ -61,6 +65,7 @@ impl Drop for Target {
             port: _,
             tick: _,
             inputs: _,
+            calls: _,
         } = self;
     }
 }
@@ -76,7 +81,7 @@ pub enum Unfit {
     Flash,
     /// A branch does not reach its target.
     Reach,
-    /// The executable would have 4 GiB or more.
+    /// The file would have 4 GiB or more, or be an object with too many symbols.
     File,
     /// Memory was wanted and not there.
     NoMemory,

@@ -1,7 +1,8 @@
 -- Where a program lies, in one record, and why it may have no place there.
-use Rattle.std.specs.Prelude.{◌≡◌, ◌≢◌, ℕ, List}
+use Rattle.std.specs.Prelude.{◌≡◌, ◌≢◌, ℕ, List, ⊤}
 use Rattle.rt_code.specs.Image.{Image}
-use Rattle.rt_native.specs.Fitting.{FitsFlash}
+use Rattle.rt_native.specs.File.{FitsFile}
+use Rattle.rt_native.specs.Fitting.{FitsFlash, Reaches}
 use Rattle.rt_native.specs.Layout as layout
 use Rattle.rt_native.specs.Layout.{line_count}
 use Rattle.rt_native.specs.Target.{Target}
@@ -38,3 +39,10 @@ laid_out img target = record {
 -- a refusal behind those of lines and of RAM, before that of branches: of the size in flash, or for want of memory
 abbrev pub IsTooLong : Image → Target → Unfit → Type 0
 IsTooLong img target why = why ≢ unfit.NoMemory → (why ≡ unfit.Flash) × ¬ FitsFlash img target
+
+-- a refusal behind that of flash: of a branch, of the file, or for want of memory
+abbrev pub IsUnwritten : Image → Target → Unfit → Type 0
+IsUnwritten img target unfit.NoMemory = ⊤
+IsUnwritten img target unfit.Reach = ¬ Reaches img target
+IsUnwritten img target unfit.File = Reaches img target × ¬ FitsFile img target
+IsUnwritten img target why = ⊥

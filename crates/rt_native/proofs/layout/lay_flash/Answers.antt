@@ -4,7 +4,7 @@ use Rattle.rt_code.specs.Image.{Image}
 use Rattle.rt_native.specs.Fitting.{HasLines}
 use Rattle.rt_native.specs.Layout.{sizes_from}
 use Rattle.rt_native.specs.Pieces.{bytes_of}
-use Rattle.rt_native.specs.Service.{stub_size, reset}
+use Rattle.rt_native.specs.Service.{entrance_size, reset}
 use Rattle.rt_native.specs.Target.{Target}
 use Rattle.rt_native.proofs.Ends.{ends, reset_at_is, code_end_is, rows_end, sizes_end, is_too_long, is_unfit}
 use Rattle.rt_native.proofs.layout.lay_flash.Goals as goal
@@ -27,7 +27,7 @@ returns-in_err-stubs-clause-unfit c =
     let e = ends img target in
     let lines : HasLines img target = omega arith in
     let reset = reset_at_is img target in
-    let whole = ap (λ o. sum_by (stub_size o target.inputs) img.irqs) c.requires.outside in
+    let whole = ap (λ o. sum_by (entrance_size o target) img.irqs) c.requires.outside in
     let first = c.in_ok-fault.ensures.stubs in
     rw (p.1, p.2)
     (is_unfit img target _ lines c.requires.ram
@@ -37,7 +37,7 @@ pub behind_reset-requires : goal.behind_reset-requires
 behind_reset-requires c =
     let img = c.args.image.now in
     let target = c.args.target.now in
-    let size = stub_size c.args.outside target.inputs in
+    let size = entrance_size c.args.outside target in
     let count : c.len.result ≡ length img.irqs =
     c.len.ensures ∙ (c.image.inside.irqs.ok.0 ∙ ap (λ (i : Image). length i.irqs) c.image.view_is) in
     let last = rows_end c.in_ok-fault.first_stub c.len.result size img.irqs count in
@@ -56,14 +56,14 @@ returns-in_err-first-clause-unfit c =
     let size : c.target.inside.flash.size ≡ target.flash.size = ap (λ (t : Target). t.flash.size) c.target.view_is in
     let e = ends img target in
     let lines : HasLines img target = omega arith in
-    let stubs = stub_size c.args.outside target.inputs in
+    let stubs = entrance_size c.args.outside target in
     let count : c.len.result ≡ length img.irqs =
     c.len.ensures ∙ (c.image.inside.irqs.ok.0 ∙ ap (λ (i : Image). length i.irqs) c.image.view_is) in
     let last = rows_end c.in_ok-fault.first_stub c.len.result stubs img.irqs count in
     let place : c.place_of-reset.result ≡ c.in_ok-fault.first_stub + sum_by stubs img.irqs =
     cc (c.place_of-reset.ensures, c.deref.ensures.value, c.in_ok-stubs.ensures.ok, last) in
     let reset_is = reset_at_is img target in
-    let same = ap (λ o. sum_by (stub_size o target.inputs) img.irqs) c.requires.outside in
+    let same = ap (λ o. sum_by (entrance_size o target) img.irqs) c.requires.outside in
     let begun = ap (λ o. bytes_of (reset o target.tick img 0)) c.requires.outside in
     let first = c.in_ok-fault.ensures.stubs in
     rw (p.1, p.2)
@@ -80,7 +80,7 @@ returns-in_err-places-clause-unfit c =
     let size : c.target.inside.flash.size ≡ target.flash.size = ap (λ (t : Target). t.flash.size) c.target.view_is in
     let e = ends img target in
     let lines : HasLines img target = omega arith in
-    let stubs = stub_size c.args.outside target.inputs in
+    let stubs = entrance_size c.args.outside target in
     let count : c.len.result ≡ length img.irqs =
     c.len.ensures ∙ (c.image.inside.irqs.ok.0 ∙ ap (λ (i : Image). length i.irqs) c.image.view_is) in
     let last = rows_end c.in_ok-fault.first_stub c.len.result stubs img.irqs count in
@@ -88,7 +88,7 @@ returns-in_err-places-clause-unfit c =
     cc (c.place_of-reset.ensures, c.deref.ensures.value, c.in_ok-stubs.ensures.ok, last) in
     let reset_is = reset_at_is img target in
     let code_is = code_end_is img target in
-    let same = ap (λ o. sum_by (stub_size o target.inputs) img.irqs) c.requires.outside in
+    let same = ap (λ o. sum_by (entrance_size o target) img.irqs) c.requires.outside in
     let begun = ap (λ o. bytes_of (reset o target.tick img 0)) c.requires.outside in
     let first = c.in_ok-fault.ensures.stubs in
     let second = c.in_ok-first.ensures.ok in
