@@ -51,14 +51,22 @@ class Chip:
                 raise Wrong(11)
         if form == "bits" and row["bits"] < self.app.bits:
             raise Wrong(12)
+        if form == "call" and key[1] not in self.bound():
+            raise Wrong(13)
         self.said[key] = row
 
+    def bound(self):
+        """The numbers of the interrupts that tasks bind."""
+        return {self.app.irqs[task.binds].number for task in self.app.tasks if task.binds is not None}
+
     def text(self, size):
-        """Lines that say the same, but for the bytes of flash; what is said of inputs and interrupts has no lines."""
+        """Lines that say the same, but for the bytes of flash."""
+        names = {row.number: row.name.decode() for row in self.app.irqs}
         rows = {**self.said, "flash": {**self.said["flash"], "size": size}}
         words = {form: [form, *map(str, row.values())] for form, row in rows.items() if isinstance(form, str)}
         words.update({key: ["word", self.app.locals[key[1]].name.decode(), str(row["address"])]
                       for key, row in rows.items() if key[0] == "word"})
+        words.update({key: ["call", names[key[1]]] for key in rows if key[0] == "call"})
         return "".join(" ".join(row) + "\n" for row in words.values()).encode()
 
     def named(self, form, name, inputs):

@@ -1,4 +1,5 @@
-"""Executables of `native`: whether an image fits, and whether a file is one that lies in the memories of its chip."""
+"""Files of `native`: whether an image fits, and whether a file is an executable that lies in the memories of its chip,
+or an object with the same bytes of flash where C functions are called."""
 import struct
 
 # external interrupts that a core may have, and the bytes that a tick takes on the stack
@@ -8,8 +9,6 @@ SEGMENT = struct.Struct("<8I")
 
 def judge(image, chip, refused_at):
     """Raises the refusal of an image that does not fit, but for the bytes of its code."""
-    if any(key[0] == "call" for key in chip.said):
-        raise refused_at(17)
     if any(number >= LINES for _, number, enabled in image.irqs if enabled is not None):
         raise refused_at(18)
     if ram_bytes(image) > chip.said["ram"]["size"]:
@@ -34,8 +33,23 @@ def segments(data):
     return [row[1:7] for row in rows if row[0] == 1]
 
 
+def sections(data):
+    """The sections of a file: type, flags, offset and bytes."""
+    start, = struct.unpack_from("<I", data, 32)
+    size, count = struct.unpack_from("<2H", data, 46)
+    rows = [struct.unpack_from("<10I", data, start + size * at) for at in range(count)]
+    return [(row[1], row[2], row[4], row[5]) for row in rows]
+
+
+def loaded(data):
+    """The bytes of an object's section that is loaded."""
+    return next(data[offset:offset + size] for kind, flags, offset, size in sections(data) if (kind, flags) == (1, 6))
+
+
 def flash_bytes(data):
     """From the first byte that is loaded to the last."""
+    if data[16] == 1:
+        return len(loaded(data))
     rows = [row for row in segments(data) if row[3]]
     return max(row[2] + row[3] for row in rows) - min(row[2] for row in rows)
 
@@ -43,6 +57,8 @@ def flash_bytes(data):
 def faults_of(data, image, chip):
     """What is wrong with a file: it is no executable for ARM, or lies otherwise than the chip's memories do."""
     faults = []
+    if any(key[0] == "call" for key in chip.said):
+        return faults_of_object(data, image, chip)
     if data[:7] != b"\x7fELF\x01\x01\x01" or struct.unpack_from("<2H", data, 16) != (2, 40):
         return ["no executable for ARM"]
     flash, ram = chip.said["flash"], chip.said["ram"]
@@ -62,4 +78,22 @@ def faults_of(data, image, chip):
         first = struct.unpack_from(f"<{len(image.cells)}I", data, cells[0][0])
         if list(first) != [value for _, value in image.cells]:
             faults.append("the cells have other first values")
+    return faults
+
+
+def faults_of_object(data, image, chip):
+    """What is wrong with an object: it is none for ARM, its section begins or ends otherwise, or a call is missing."""
+    if data[:7] != b"\x7fELF\x01\x01\x01" or struct.unpack_from("<2H", data, 16) != (1, 40):
+        return ["no object for ARM"]
+    faults, code, calls = [], loaded(data), [key for key in chip.said if key[0] == "call"]
+    top, reset = struct.unpack_from("<2I", code)
+    if top != chip.said["ram"]["address"] + stack_bytes(image):
+        faults.append(f"the stack begins at {top:#x}")
+    if not reset & 1 or not 0 <= reset - chip.said["flash"]["address"] < len(code):
+        faults.append(f"the vector of reset is {reset:#x}")
+    count = len(image.cells) + 2
+    if list(struct.unpack_from(f"<{count}I", code, len(code) - 4 * count))[:-2] != [value for _, value in image.cells]:
+        faults.append("the cells have other first values")
+    if [size for kind, _, _, size in sections(data) if kind == 9] != [8 * len(calls)]:
+        faults.append("there is no relocation for each call")
     return faults

@@ -17,7 +17,7 @@ NUMBER = re.compile(rb"0|[1-9][0-9]{0,9}")
 WORDS = {
     "board": ("", "too long", "bad line", "unknown task", "software task", "unknown local", "local of another",
               "named twice", "unknown interrupt", "unknown input", "out of range", "overlap", "too few bits",
-              "no flash", "no ram", "no port", "no bits", "no object", "too few lines", "ram too small",
+              "unbound interrupt", "no flash", "no ram", "no port", "no bits", "too few lines", "ram too small",
               "flash too small", "branch too far", "file too long"),
     "script": ("", "too long", "bad line", "unknown interrupt", "too many events", "too many devices",
                "unknown input", "no input", "many inputs"),
@@ -93,7 +93,7 @@ def read_chip(data, app):
 def read_target(data, app):
     """The same of a text for a program, which says all that a program takes."""
     board, chip = read_chip(data, app)
-    for number, form in zip((13, 14, 15, 16), ("flash", "ram", "port", "bits")):
+    for number, form in zip((14, 15, 16, 17), ("flash", "ram", "port", "bits")):
         if form not in chip.said:
             raise Refused("board", len(re.findall(rb"[^\n]*\n|[^\n]+\Z", data)) + 1, number)
     return board, chip
@@ -101,7 +101,7 @@ def read_target(data, app):
 
 def refused_at(data, number):
     """The refusal of a text for a program that does not fit, at the line that is too small for it."""
-    form = {17: b"call", 18: b"bits", 19: b"ram"}.get(number, b"flash")
+    form = {18: b"bits", 19: b"ram"}.get(number, b"flash")
     return Refused("board", next(at for at, words in said("board", data) if words[0] == form), number)
 
 

@@ -176,7 +176,7 @@ module _ (app : App) where
       → with_line (names_of app) app s line ≡ Ok (with_fact s e)
   chip_known s line e tells can =
       let known = fact_known s.board tells.0 e tells.2 in
-      let follows : if_can_follow app s.facts e ≡ Ok e = rw (can.new, can.range, can.apart, can.bits) refl in
+      let follows : if_can_follow app s.facts e ≡ Ok e = rw (can.new, can.range, can.apart, can.bits, can.bound) refl in
       said_by_words s line tells.0 tells.1
       ∙ ap (words_say (names_of app) app s line) known.words_are
       ∙ ap (line_of_form (names_of app) app s line known.rest) known.named

@@ -20,7 +20,7 @@ use Rattle.rt_board.specs.Wording as board_wording
 use Rattle.rt_board.specs.declared.refusal.Cause as board
 use Rattle.rt_board.proofs.Telling.{line_follows}
 use Rattle.rt_given.specs.Wording.{input_named}
-use Rattle.rt_target.specs.Chip.{says_same, is_in_range, overlap, has_too_few_bits, CanFollow}
+use Rattle.rt_target.specs.Chip.{says_same, is_in_range, overlap, has_too_few_bits, calls_for_none, CanFollow}
 use Rattle.rt_target.specs.Setup.{Setup, with_board, with_fact}
 use Rattle.rt_target.specs.Told.{Spells, NamesIrq, NamesLocal, SaysFact, ComesBehind}
 use Rattle.rt_target.specs.Wording.{name_of, forms, form_of, number_spelled, number_told, one_number, two_numbers}
@@ -135,13 +135,17 @@ module _ (app : App) where
       (if is_in_range e then if_apart app facts e else Err cause.OutOfRange) (λ r. IfOk r Can) (λ _. tt)
       (λ new. cond_both (is_in_range e) (if_apart app facts e) (Err cause.OutOfRange) (λ r. IfOk r Can)
       (λ range. cond_both (list_any (overlap e) facts) (Err cause.Overlap)
-      (if has_too_few_bits app.bits e then Err cause.TooFewBits else Ok e) (λ r. IfOk r Can) (λ _. tt)
-      (λ apart. cond_both (has_too_few_bits app.bits e) (Err cause.TooFewBits) (Ok e) (λ r. IfOk r Can) (λ _. tt)
-      (λ bits. (record { new = new; range = range; apart = apart; bits = bits }, is))))
+      (if has_too_few_bits app.bits e then Err cause.TooFewBits else bound) (λ r. IfOk r Can) (λ _. tt)
+      (λ apart. cond_both (has_too_few_bits app.bits e) (Err cause.TooFewBits) bound (λ r. IfOk r Can) (λ _. tt)
+      (λ bits. cond_both (calls_for_none app e) (Err cause.UnboundInterrupt) (Ok e) (λ r. IfOk r Can) (λ _. tt)
+      (λ bound. (record { new = new; range = range; apart = apart; bits = bits; bound = bound }, is)))))
       (λ _. tt))
     where
       Can : Fact → Type 0
       Can f = CanFollow app facts f × P f
+
+      bound : Result Fact Cause
+      bound = if calls_for_none app e then Err cause.UnboundInterrupt else Ok e
 
   module _ (setup : Setup) (line : List ℕ) where
     abbrev Behind : Setup → Type 0

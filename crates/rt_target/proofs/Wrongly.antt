@@ -24,7 +24,7 @@ use Rattle.rt_board.specs.declared.refusal.Cause.TheVariants as board_cause
 use Rattle.rt_board.proofs.Refused.{if_err_or, if_err_then, if_err_make}
 use Rattle.rt_board.proofs.Wrongly.{refused_lines_are_wrong as board_wrong}
 use Rattle.rt_given.specs.Wording.{input_named}
-use Rattle.rt_target.specs.Chip.{says_same, is_in_range, overlap, has_too_few_bits}
+use Rattle.rt_target.specs.Chip.{says_same, is_in_range, overlap, has_too_few_bits, calls_for_none}
 use Rattle.rt_target.specs.Reading.{wanting, setup_reader, target_reader}
 use Rattle.rt_target.specs.Setup.{Setup, no_setup, with_fact}
 use Rattle.rt_target.specs.Told.{HasWords, Spells, SaysFact, TellsFact, TellLines}
@@ -253,15 +253,18 @@ module _ (app : App) (setup : Setup) (line : List ℕ) where
       follow_wrong e says =
           let told : TellsFact app setup.board line e = (name_of f ∷ words, has, says) in
           let es = setup.facts in
+          let bound : Result Fact Cause = if calls_for_none app e then Err cause.UnboundInterrupt else Ok e in
           cond_both (list_any (says_same e) es) (Err cause.NamedTwice)
           (if is_in_range e then if_apart app es e else Err cause.OutOfRange) (λ r. IfErr r Wrong)
           (λ twice. inr (e, told, twice))
           (λ new. cond_both (is_in_range e) (if_apart app es e) (Err cause.OutOfRange) (λ r. IfErr r Wrong)
           (λ range. cond_both (list_any (overlap e) es) (Err cause.Overlap)
-          (if has_too_few_bits app.bits e then Err cause.TooFewBits else Ok e) (λ r. IfErr r Wrong)
+          (if has_too_few_bits app.bits e then Err cause.TooFewBits else bound) (λ r. IfErr r Wrong)
           (λ over. (e, told, new, range, over))
-          (λ apart. cond_both (has_too_few_bits app.bits e) (Err cause.TooFewBits) (Ok e) (λ r. IfErr r Wrong)
-          (λ few. (e, told, new, range, apart, few)) (λ _. tt)))
+          (λ apart. cond_both (has_too_few_bits app.bits e) (Err cause.TooFewBits) bound (λ r. IfErr r Wrong)
+          (λ few. (e, told, new, range, apart, few))
+          (λ many. cond_both (calls_for_none app e) (Err cause.UnboundInterrupt) (Ok e) (λ r. IfErr r Wrong)
+          (λ unbound. (e, told, new, range, apart, many, unbound)) (λ _. tt))))
           (λ out. (e, told, new, out)))
 
       chip_wrong : IfErr (chip_line (names_of app) app setup f words) Wrong

@@ -5,7 +5,9 @@
 use Rattle.std.specs.Prelude.{◌≡◌, ℕ, ◌+◌, ◌%◌, ◌^◌, Bool, true, false, not, ◌&&◌, ◌||◌, ◌==◌, nat_le, nat_lt}
 use Rattle.std.specs.Prelude.{List, [], ◌∷◌, ◌++◌}
 use Rattle.std.specs.List.{list_any}
+use Rattle.rt_ids.specs.Lists.{is_some_and}
 use Rattle.rt_app.specs.Tree.{App}
+use Rattle.rt_app.specs.Handlers.{bound_number}
 use Rattle.rt_target.specs.declared.fact.Fact.{Fact}
 use Rattle.rt_target.specs.declared.fact.Fact.TheVariants.{Flash, Ram, Port, Tick, Bits, Word, Call}
 
@@ -85,12 +87,23 @@ abbrev pub has_too_few_bits : ℕ → Fact → Bool
 has_too_few_bits bits (Bits n) = nat_lt n bits
 has_too_few_bits bits fact = false
 
+-- a task binds the interrupt of this number
+abbrev pub is_bound : App → ℕ → Bool
+is_bound app irq = list_any (λ t. is_some_and (λ n. n == irq) (bound_number app t)) app.tasks
+
+-- A function is to be called as an interrupt is taken that no task binds: behind those of dispatchers and of the timer
+-- there is no device.
+abbrev pub calls_for_none : App → Fact → Bool
+calls_for_none app (Call irq) = not (is_bound app irq)
+calls_for_none app fact = false
+
 -- a fact can come behind others
 pub record CanFollow (app : App) (facts : List Fact) (fact : Fact) : Type 0 where
   pub new : list_any (says_same fact) facts ≡ false
   pub range : is_in_range fact ≡ true
   pub apart : list_any (overlap fact) facts ≡ false
   pub bits : has_too_few_bits app.bits fact ≡ false
+  pub bound : calls_for_none app fact ≡ false
 
 -- facts can come behind others, each behind those before it
 abbrev pub CanGoOn : App → List Fact → List Fact → Type 0

@@ -1,8 +1,8 @@
 -- What a line of a board's text says. It is blank, or begins with `#` as a comment, both as in a script, or is one of
 --     input T R    flash A S    ram A S    port A    tick N    bits N    word R A    call I
 -- `input` as rt_board reads it; with addresses A, a size S, a number N, the name R of an input that a line before
--- names, and a declared interrupt I. Numbers are those of application texts, of 32 bits. One or more spaces separate
--- its words, and none stand before the first or behind the last. The form is this project's own.
+-- names, and an interrupt I that a task binds. Numbers are those of application texts, of 32 bits. One or more spaces
+-- separate its words, and none stand before the first or behind the last. The form is this project's own.
 use Rattle.std.specs.Prelude.{ℕ, ◌||◌, if◌then◌else◌, bytes_eq, codes, List, [], ◌∷◌, find}
 use Rattle.std.specs.Prelude.{Option, Some, None, Result, Ok, Err}
 use Rattle.std.specs.List.{list_any}
@@ -20,7 +20,7 @@ use Rattle.rt_board.specs.Wording as boards
 use Rattle.rt_board.specs.declared.refusal.Cause as board
 use Rattle.rt_board.specs.declared.refusal.Cause.TheVariants as board_cause
 use Rattle.rt_given.specs.Wording.{input_named}
-use Rattle.rt_target.specs.Chip.{says_same, is_in_range, overlap, has_too_few_bits}
+use Rattle.rt_target.specs.Chip.{says_same, is_in_range, overlap, has_too_few_bits, calls_for_none}
 use Rattle.rt_target.specs.Setup.{Setup, with_board, with_fact}
 use Rattle.rt_target.specs.declared.fact.Fact.{Fact}
 use Rattle.rt_target.specs.declared.fact.Fact.TheVariants.{Flash, Ram, Port, Tick, Bits, Word, Call}
@@ -103,11 +103,12 @@ fact_of names app board form.Bits words = and_make (one_number words) Bits
 fact_of names app board form.Word words = input_word app board words
 fact_of names app board form.Call words = and_make (one_irq names words) Call
 
--- a fact, where it and others have no byte in common, and the core has enough bits
+-- a fact, where it and others have no byte in common, the core has enough bits, and a task binds what is called for
 abbrev pub if_apart : App → List Fact → Fact → Result Fact Cause
 if_apart app facts fact =
     if list_any (overlap fact) facts then Err cause.Overlap
-    else if has_too_few_bits app.bits fact then Err cause.TooFewBits else Ok fact
+    else if has_too_few_bits app.bits fact then Err cause.TooFewBits
+    else if calls_for_none app fact then Err cause.UnboundInterrupt else Ok fact
 
 -- a fact, where it can come behind others
 abbrev pub if_can_follow : App → List Fact → Fact → Result Fact Cause

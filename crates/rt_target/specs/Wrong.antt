@@ -12,7 +12,7 @@ use Rattle.rt_board.specs.Board.{no_board, AreInputs}
 use Rattle.rt_board.specs.Wrong as inputs
 use Rattle.rt_board.specs.declared.refusal.Cause.TheVariants as board_cause
 use Rattle.rt_given.specs.Wording.{input_named}
-use Rattle.rt_target.specs.Chip.{says_same, is_in_range, overlap, has_too_few_bits, AreFacts}
+use Rattle.rt_target.specs.Chip.{says_same, is_in_range, overlap, has_too_few_bits, calls_for_none, AreFacts}
 use Rattle.rt_target.specs.Reading.{wanting, setup_reader, target_reader}
 use Rattle.rt_target.specs.Setup.{Setup}
 use Rattle.rt_target.specs.Told.{HasWords, Spells, TellsFact, TellLines}
@@ -76,6 +76,11 @@ module _ (app : App) where
       (fact : Fact) × TellsFact app setup.board line fact
       × (list_any (says_same fact) setup.facts ≡ false) × (is_in_range fact ≡ true)
       × (list_any (overlap fact) setup.facts ≡ false) × (has_too_few_bits app.bits fact ≡ true)
+  IsFaulty setup line cause.UnboundInterrupt =
+      (fact : Fact) × TellsFact app setup.board line fact
+      × (list_any (says_same fact) setup.facts ≡ false) × (is_in_range fact ≡ true)
+      × (list_any (overlap fact) setup.facts ≡ false) × (has_too_few_bits app.bits fact ≡ false)
+      × (calls_for_none app fact ≡ true)
   IsFaulty setup line c = ⊥
 
   -- what is told behind lines

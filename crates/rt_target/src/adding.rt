@@ -8,6 +8,7 @@ ghost use Rattle.rt_app.specs.View.{app_of};
 ghost use Rattle.rt_target.specs.Chip as chip;
 ghost use Rattle.rt_target.specs.Wording as spec;
 
+use crate::bound::calls_for_none;
 use crate::fact::{Fact, has_too_few_bits, is_in_range, overlap, says_same};
 use crate::line::{Form, form_of, read_fact};
 use crate::refusal::Cause;
@@ -136,7 +137,7 @@ fn if_can_follow(app: &App, facts: &[Fact], fact: Fact) -> Result<Fact, Cause>
     }
 }
 
-/// A fact, where it and others have no byte in common, and the core has enough bits.
+/// A fact, where it and others have no byte in common, the core has enough bits, and a task binds what is called for.
 fn if_apart(app: &App, facts: &[Fact], fact: Fact) -> Result<Fact, Cause>
     ensures { result ≡ spec.if_apart (app_of app.now) facts.now fact }
 {
@@ -144,6 +145,8 @@ fn if_apart(app: &App, facts: &[Fact], fact: Fact) -> Result<Fact, Cause>
         Err(Cause::Overlap)
     } else if has_too_few_bits(app.bits, &fact) {
         Err(Cause::TooFewBits)
+    } else if calls_for_none(app, &fact) {
+        Err(Cause::UnboundInterrupt)
     } else {
         Ok(fact)
     }

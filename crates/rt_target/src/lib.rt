@@ -5,6 +5,7 @@
 #![tactic(auto)]
 
 mod adding;
+mod bound;
 pub mod fact;
 pub mod laws;
 mod line;

@@ -36,6 +36,8 @@ pub enum Cause {
     Overlap,
     /// The core has fewer priority bits than the application.
     TooFewBits,
+    /// A function is to be called as an interrupt is taken that no task binds.
+    UnboundInterrupt,
     /// Where a program is made: no line says where flash lies.
     NoFlash,
     /// No line says where RAM lies.
@@ -44,8 +46,6 @@ pub enum Cause {
     NoPort,
     /// No line tells the priority bits.
     NoBits,
-    /// A C function is to be called, for which an object would have to be made.
-    NoObject,
     /// An interrupt of the application is past the lines of the core.
     TooFewLines,
     /// The stack and the cells do not fit into RAM.
@@ -101,11 +101,11 @@ fn words(cause: Cause) -> &'static [u8]
         Cause::OutOfRange => b"10 out of range",
         Cause::Overlap => b"11 overlap",
         Cause::TooFewBits => b"12 too few bits",
-        Cause::NoFlash => b"13 no flash",
-        Cause::NoRam => b"14 no ram",
-        Cause::NoPort => b"15 no port",
-        Cause::NoBits => b"16 no bits",
-        Cause::NoObject => b"17 no object",
+        Cause::UnboundInterrupt => b"13 unbound interrupt",
+        Cause::NoFlash => b"14 no flash",
+        Cause::NoRam => b"15 no ram",
+        Cause::NoPort => b"16 no port",
+        Cause::NoBits => b"17 no bits",
         Cause::TooFewLines => b"18 too few lines",
         Cause::SmallRam => b"19 ram too small",
         Cause::SmallFlash => b"20 flash too small",
