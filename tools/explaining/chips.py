@@ -73,19 +73,20 @@ def chip_line(app, said, number, words, lines, table):
     """What is wrong with a line that is of a form, or with the end of the text, for causes from 7 on."""
     before, key = list(rows(lines[:-1] if is_of_chip(words) else lines)), f"board {number}"
     declared = [row[0].text for row in app.interrupts]
+    bound = [task.binds.text for task in app.tasks if task.binds]
     inputs = [line.split()[2] for line in lines[:-1] if line.split()[:1] == ["input"] and len(line.split()) == 3]
     if number == 7:
         first = next((at for at, other in before if key_of(other) == key_of(words)), 0)
         return said.at(words[0], f"line {first} says this already")
-    values = {"N": words[1]} if number in (8, 9) else {}
+    values = {"N": words[1]} if number in (8, 9, 13) else {}
     if number == 11:
         other = next((at for at, row in before if meet(extent(row), extent(words))), 0)
         values["A"] = Phrase(str(other))
     if number == 12:
         values["A"] = Phrase(str(app.bits))
-    told = {"I": Phrase(", ".join(f"`{name}`" for name in declared) or "none"),
+    told = {"I": Phrase(", ".join(f"`{name}`" for name in (bound if number == 13 else declared)) or "none"),
             "R": Phrase(", ".join(f"`{name}`" for name in inputs) or "none")}
-    word = words[1] if number in (8, 9) else words[0] if words else ""
+    word = words[1] if number in (8, 9, 13) else words[0] if words else ""
     said.at(word, table.cause(key, **values))
     said.helps = [table.mending(key, **values, **told)]
     if number == 10:

@@ -133,7 +133,3 @@ is_tick fact = false
 abbrev pub is_bits : Fact → Bool
 is_bits (Bits n) = true
 is_bits fact = false
-
-abbrev pub is_call : Fact → Bool
-is_call (Call irq) = true
-is_call fact = false

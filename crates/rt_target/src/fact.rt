@@ -150,10 +150,3 @@ pub fn is_bits(fact: &Fact) -> bool
 {
     matches!(fact, Fact::Bits(_))
 }
-
-/// Whether it says that a C function is called.
-pub fn is_call(fact: &Fact) -> bool
-    ensures { result ≡ spec.is_call fact.now }
-{
-    matches!(fact, Fact::Call(_))
-}

@@ -1,7 +1,5 @@
 -- A text is refused or is read, not both, and each command has one output or one status: so `rticx` is lawful.
 use Rattle.std.proofs.Common.{◌≡◌, ℕ, List, inl, inr, refl, sym, ap, subst, ◌∙◌, arith}
-use Rattle.std.specs.List.{list_any}
-use Rattle.rt_lemmas.proofs.Bools.{true_and_false}
 use Rattle.rt_ids.specs.declared.status.Status.{Status}
 use Rattle.rt_ids.specs.declared.status.Status.TheVariants as status
 use Rattle.rt_app.specs.Names.{names_of}
@@ -33,7 +31,6 @@ use Rattle.rt_target.specs.Setup.{Setup}
 use Rattle.rt_target.specs.declared.refusal.Cause as in_board
 use Rattle.rt_target.specs.declared.refusal.Cause.{Cause}
 use Rattle.rt_target.specs.declared.refusal.Cause.TheVariants as cause
-use Rattle.rt_target.specs.Chip.{is_call}
 use Rattle.rt_trace.specs.Reading.{total_of}
 use Rattle.rt_top.specs.Program.{Inputs, each_of}
 use Rattle.rt_top.proofs.Due.{AreDue, due_as, SaysWhether, whether_once, AreOfKinds, IsLawful}
@@ -44,7 +41,7 @@ use Rattle.rt_topx.specs.Kinds.{TextKind, kinds_of, IsOfKind, IsRefusedBy}
 use Rattle.rt_topx.specs.Kinds as kind
 use Rattle.rt_topx.specs.Refusal.{RefusesBoard, RefusesTarget, RefusesBeside, SaysBoard, SaysScript, SaysTrace}
 use Rattle.rt_topx.specs.Outputs.{IsAudited, Says, IsMadeNative}
-use Rattle.rt_topx.specs.Executable.{CallsNothing, Misfits, IsMade}
+use Rattle.rt_topx.specs.Executable.{Misfits, IsMade}
 use Rattle.rt_topx.specs.Explained.{Explains}
 use Rattle.rt_topx.specs.Explained as explained
 use Rattle.rt_topx.specs.Target.{target_of}
@@ -174,13 +171,12 @@ audited_so text beside more a b x y one other =
 
 -- an image that does not fit does not fit
 misfit : (app : App) (image : Image) (setup : Setup) (why : Cause) → Misfits app image setup why
-    → ¬ (CallsNothing setup × Fits image (target_of app setup))
-misfit app image setup cause.NoObject is (none, fits) = true_and_false (list_any is_call setup.facts) is none
-misfit app image setup cause.TooFewLines is (none, fits) = is.1 fits.0
-misfit app image setup cause.SmallRam (calls, is) (none, fits) = is.1 fits.1
-misfit app image setup cause.SmallFlash (calls, is) (none, fits) = is.2 fits.2
-misfit app image setup cause.FarBranch (calls, is) (none, fits) = is.3 fits.3
-misfit app image setup cause.LongFile (calls, is) (none, fits) = is.4 fits.4
+    → ¬ Fits image (target_of app setup)
+misfit app image setup cause.TooFewLines is fits = is fits.0
+misfit app image setup cause.SmallRam is fits = is.1 fits.1
+misfit app image setup cause.SmallFlash is fits = is.2 fits.2
+misfit app image setup cause.FarBranch is fits = is.3 fits.3
+misfit app image setup cause.LongFile is fits = is.4 fits.4
 misfit app image setup cause.TooLong is fits = absurd is
 misfit app image setup cause.BadLine is fits = absurd is
 misfit app image setup cause.UnknownTask is fits = absurd is
@@ -193,6 +189,7 @@ misfit app image setup cause.UnknownInput is fits = absurd is
 misfit app image setup cause.OutOfRange is fits = absurd is
 misfit app image setup cause.Overlap is fits = absurd is
 misfit app image setup cause.TooFewBits is fits = absurd is
+misfit app image setup cause.UnboundInterrupt is fits = absurd is
 misfit app image setup cause.NoFlash is fits = absurd is
 misfit app image setup cause.NoRam is fits = absurd is
 misfit app image setup cause.NoPort is fits = absurd is
@@ -202,9 +199,9 @@ made_once : (app : App) (image : Image) (text : List ℕ) (setup : Setup) (a b :
     → IsMade app image text setup a x → IsMade app image text setup b y → AreDue a b
 made_once app image text setup a b x y (inl w) (inl v) = due_as status.Done a b tt w.0 v.0
 made_once app image text setup a b x y (inl w) (inr v) =
-    let is = w.1 in absurd (misfit app image setup v.1 v.2 (is.0, is.1))
+    let is = w.1 in absurd (misfit app image setup v.1 v.2 is.0)
 made_once app image text setup a b x y (inr w) (inl v) =
-    let is = v.1 in absurd (misfit app image setup w.1 w.2 (is.0, is.1))
+    let is = v.1 in absurd (misfit app image setup w.1 w.2 is.0)
 made_once app image text setup a b x y (inr w) (inr v) = due_as status.Text a b tt w.0 v.0
 
 made_so : (text beside : List ℕ) (a b : Status) (x y : List ℕ) → IsMadeNative text beside a x

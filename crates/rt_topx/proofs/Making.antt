@@ -13,7 +13,7 @@ use Rattle.rt_sim.proofs.Good.{images_are_good}
 use Rattle.rt_target.specs.Setup.{Setup}
 use Rattle.rt_target.specs.declared.refusal.Cause.{Cause}
 use Rattle.rt_top.specs.Outputs.{IsGoodOf}
-use Rattle.rt_topx.specs.Executable.{CallsNothing, Misfits}
+use Rattle.rt_topx.specs.Executable.{Misfits}
 use Rattle.rt_topx.specs.Inside.Making.{Tells}
 use Rattle.rt_topx.specs.Target.{target_of}
 
@@ -30,11 +30,11 @@ good_of app image accepted is built runnable lines = record {
 }
 
 -- why an image does not fit, as it is told
-pub misfits_as : (app : App) (image : Image) (setup : Setup) → CallsNothing setup → (u : Unfit)
+pub misfits_as : (app : App) (image : Image) (setup : Setup) (u : Unfit)
     → IsUnfit image (target_of app setup) u → (why : Cause) → Tells u why → Misfits app image setup why
-misfits_as app image setup none unfit.Line is why told = rw told (none, is)
-misfits_as app image setup none unfit.Ram is why told = rw told (none, is)
-misfits_as app image setup none unfit.Flash is why told = rw told (none, is)
-misfits_as app image setup none unfit.Reach is why told = rw told (none, is)
-misfits_as app image setup none unfit.File is why told = rw told (none, is)
-misfits_as app image setup none unfit.NoMemory is why told = absurd told
+misfits_as app image setup unfit.Line is why told = rw told is
+misfits_as app image setup unfit.Ram is why told = rw told is
+misfits_as app image setup unfit.Flash is why told = rw told is
+misfits_as app image setup unfit.Reach is why told = rw told is
+misfits_as app image setup unfit.File is why told = rw told is
+misfits_as app image setup unfit.NoMemory is why told = absurd told

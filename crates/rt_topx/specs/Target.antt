@@ -14,7 +14,7 @@ use Rattle.rt_native.specs.declared.target.Region.{Region}
 use Rattle.rt_target.specs.Chip.{is_flash, is_ram, is_port, is_tick}
 use Rattle.rt_target.specs.Setup.{Setup}
 use Rattle.rt_target.specs.declared.fact.Fact.{Fact}
-use Rattle.rt_target.specs.declared.fact.Fact.TheVariants.{Flash, Ram, Port, Tick, Word}
+use Rattle.rt_target.specs.declared.fact.Fact.TheVariants.{Flash, Ram, Port, Tick, Word, Call}
 
 -- the memory of a fact; none where it has none
 abbrev pub region_of : Option Fact → Region
@@ -49,6 +49,11 @@ input_read app board fact = None
 abbrev pub inputs_of : App → Board → List Fact → List Input
 inputs_of app board facts = filter_map (input_read app board) facts
 
+-- the interrupt as which a function of C is called first, where a fact says so
+abbrev pub irq_called : Fact → Option ℕ
+irq_called (Call irq) = Some irq
+irq_called fact = None
+
 -- what a program is made for
 abbrev pub target_of : App → Setup → Target
 target_of app setup = record {
@@ -57,4 +62,5 @@ target_of app setup = record {
   port = address_of (find is_port setup.facts);
   tick = reload_of (find is_tick setup.facts);
   inputs = inputs_of app setup.board setup.facts;
+  calls = filter_map irq_called setup.facts;
 }

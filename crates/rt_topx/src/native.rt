@@ -1,12 +1,10 @@
 // The command `native`.
 
 ghost use Rattle.std.specs.Prelude.{◌≡◌, ◌≤◌, ℕ, List, length, IfOk, IfErr};
-ghost use Rattle.std.specs.List.{list_any};
 ghost use Rattle.rt_ids.specs.declared.limits.TheConstants.{SCRIPT_BYTES};
 ghost use Rattle.rt_app.specs.Accepted.{IsAccepted};
 ghost use Rattle.rt_app.specs.View.{app_of};
 ghost use Rattle.rt_build.specs.Accepted.{IsApplication};
-ghost use Rattle.rt_target.specs.Chip as chip;
 ghost use Rattle.rt_target.specs.Chip.{AreFacts};
 ghost use Rattle.rt_top.specs.Program.{inputs};
 ghost use Rattle.rt_top.specs.Inside.Decides.{AnswersOne};
@@ -27,14 +25,12 @@ use rt_ids::limits::SCRIPT_BYTES;
 use rt_ids::{NoMemory, Status};
 use rt_native::Unfit;
 use rt_outside::Source;
-use rt_target::fact::is_call;
-use rt_target::{Cause, Fact, Setup, line_number, read_target, refusal_text};
+use rt_target::{Cause, Setup, line_number, read_target, refusal_text};
 use rt_top::reading::read_within;
 use rt_top::reply::{Reply, reply_of_text};
 use std::alloc::Global;
 
-/// `native APP BOARD`: the executable of the application's image for the chip of the board, or why the image does not
-/// fit.
+/// `native APP BOARD`: the file of the application's image for the chip of the board, or why the image does not fit.
 #[inline(never)]
 pub(crate) fn native<S: Source>(alloc: Global, app: &App, source: &mut S) -> Reply
     requires { IsAccepted (app_of app.now) }
@@ -57,7 +53,7 @@ pub(crate) fn native<S: Source>(alloc: Global, app: &App, source: &mut S) -> Rep
     }
 }
 
-/// The executable of an application's image for the chip of a text, or the line of the text that the image does not
+/// The file of an application's image for the chip of a text, or the line of the text that the image does not
 /// fit.
 fn make(alloc: Global, app: &App, text: &[u8], setup: &Setup) -> Reply
     requires accepted { IsAccepted (app_of app.now) }
@@ -78,7 +74,7 @@ fn make(alloc: Global, app: &App, text: &[u8], setup: &Setup) -> Reply
     }
 }
 
-/// The executable of an application's image for the chip of a board, or why the image does not fit.
+/// The file of an application's image for the chip of a board, or why the image does not fit.
 fn program(alloc: Global, app: &App, setup: &Setup) -> Result<Result<Vec<u8>, Cause>, NoMemory>
     requires accepted { IsAccepted (app_of app.now) }
     requires facts { AreFacts (app_of app.now) setup.now.facts }
@@ -87,21 +83,11 @@ fn program(alloc: Global, app: &App, setup: &Setup) -> Result<Result<Vec<u8>, Ca
     ensures unfit { IfOk result (λ made. IfErr made (making.IsMisfit (app_of app.now) setup.now)) }
 {
     let image = build(alloc, app)?;
-    if calls(setup.facts()) {
-        return Ok(Err(Cause::NoObject));
-    }
     let target = target_of(alloc, app, setup)?;
     match rt_native::native(alloc, &image, &target) {
         Ok(bytes) => Ok(Ok(bytes)),
         Err(unfit) => Ok(Err(cause_of(unfit)?)),
     }
-}
-
-/// Whether a C function is to be called.
-fn calls(facts: &[Fact]) -> bool
-    ensures { result ≡ list_any chip.is_call facts.now }
-{
-    facts.iter().any(|fact| is_call(fact))
 }
 
 /// Why an image does not fit, as it is told of a board.
@@ -123,7 +109,6 @@ fn first_word(cause: Cause) -> &'static [u8]
     ensures { result.now ≡ spec.first_word cause }
 {
     match cause {
-        Cause::NoObject => b"call",
         Cause::TooFewLines => b"bits",
         Cause::SmallRam => b"ram",
         _ => b"flash",

@@ -1,6 +1,6 @@
 // What a program is made for, from what the text of a board tells.
 
-ghost use Rattle.std.specs.Prelude.{◌≡◌, ◌++◌, [], find, IfOk, OnOk};
+ghost use Rattle.std.specs.Prelude.{◌≡◌, ◌++◌, [], filter_map, find, IfOk, OnOk};
 ghost use Rattle.std.specs.List.{cons_option};
 ghost use Rattle.rt_app.specs.Accepted.{IsAccepted};
 ghost use Rattle.rt_app.specs.View.{app_of};
@@ -28,7 +28,39 @@ pub(crate) fn target_of(alloc: Global, app: &App, setup: &Setup) -> Result<Targe
         port: address_of(port_of(facts)),
         tick: reload_of(tick_of(facts)),
         inputs: inputs_of(alloc, app, setup.board(), facts)?,
+        calls: calls_of(alloc, facts)?,
     })
+}
+
+/// The interrupt as which a function of C is called first, where a fact says so.
+fn irq_called(fact: &Fact) -> Option<Irq>
+    ensures { result ≡ spec.irq_called fact.now }
+{
+    match fact {
+        Fact::Call(irq) => Some(*irq),
+        _ => None,
+    }
+}
+
+/// Appends an interrupt, where there is one.
+fn push_irq(irqs: &mut Vec<Irq>, irq: Option<Irq>) -> Result<(), NoMemory>
+    ensures { OnOk result (irqs.new.items ≡ irqs.old.items ++ cons_option irq []) }
+{
+    if let Some(irq) = irq {
+        irqs.push(irq)?;
+    }
+    Ok(())
+}
+
+/// The interrupts as which functions of C are called first.
+fn calls_of(alloc: Global, facts: &[Fact]) -> Result<Vec<Irq>, NoMemory>
+    ensures { IfOk result (λ calls. calls.items ≡ filter_map spec.irq_called facts.now) }
+{
+    let mut calls = Vec::new(alloc);
+    for fact in facts {
+        push_irq(&mut calls, irq_called(fact))?;
+    }
+    Ok(calls)
 }
 
 /// Where flash lies.

@@ -11,9 +11,9 @@ use Rattle.rt_target.specs.declared.refusal.Cause.TheVariants as cause
 use Rattle.rt_top.specs.Outputs.{IsGoodOf}
 use Rattle.rt_topx.specs.Executable as program
 
--- the bytes are the executable of a good image
+-- the bytes are the file of a good image
 abbrev pub IsProgram : App → Setup → List ℕ → Type 0
-IsProgram app setup bytes = (image : Image) × IsGoodOf app image × program.IsExecutable app image setup bytes
+IsProgram app setup bytes = (image : Image) × IsGoodOf app image × program.IsFile app image setup bytes
 
 -- a good image does not fit for this cause
 abbrev pub IsMisfit : App → Setup → Cause → Type 0

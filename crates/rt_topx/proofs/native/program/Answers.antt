@@ -1,12 +1,10 @@
 -- What is built is good, and its memories are regions.
-use Rattle.std.proofs.Common.{◌≡◌, false, true, sym, subst}
-use Rattle.std.specs.List.{list_any}
+use Rattle.std.proofs.Common.{◌≡◌, sym, subst}
 use Rattle.rt_app.specs.View.{app_of}
-use Rattle.rt_elf.specs.File.{elf_of}
+use Rattle.rt_native.specs.File.{file}
 use Rattle.rt_native.specs.Fitting.{IsRegion, Fits, IsUnfit}
-use Rattle.rt_native.specs.Symbols.{executable}
 use Rattle.rt_native.specs.Target.{Target}
-use Rattle.rt_target.specs.Chip.{is_flash, is_ram, is_call}
+use Rattle.rt_target.specs.Chip.{is_flash, is_ram}
 use Rattle.rt_topx.proofs.Making.{good_of, misfits_as}
 use Rattle.rt_topx.proofs.Regions.{is_region}
 use Rattle.rt_topx.proofs.native.program.Goals as goal
@@ -21,27 +19,16 @@ native-requires-clause-ram c =
     subst (λ (t : Target). IsRegion t.ram) (sym c.in_ok-target.ensures)
     (is_region (app_of c.args.app.now) c.args.setup.now.facts c.requires.facts is_ram)
 
-pub returns-then-calls-clause-unfit : goal.returns-then-calls-clause-unfit
-returns-then-calls-clause-unfit c =
-    let image = c.in_ok-image.image in
-    let is = c.in_ok-image.ensures in
-    let calls : list_any is_call c.args.setup.now.facts ≡ true =
-    cc (c.calls.ensures, c.facts.ensures, c.if-calls.true) in
-    (image, good_of (app_of c.args.app.now) image c.requires.accepted is.image is.built is.runnable is.lines, calls)
-
 pub returns-in-Ok-clause-bytes : goal.returns-in-Ok-clause-bytes
 returns-in-Ok-clause-bytes c =
     let image = c.in_ok-image.image in
     let is = c.in_ok-image.ensures in
-    let none : list_any is_call c.args.setup.now.facts ≡ false =
-    cc (c.calls.ensures, c.facts.ensures, c.if-calls.false) in
     let of = c.in_ok-target.ensures in (
       image,
       good_of (app_of c.args.app.now) image c.requires.accepted is.image is.built is.runnable is.lines,
       (
-        none,
         subst (Fits image) of c.in-Ok.ensures.fits,
-        subst (λ (t : Target). c.in-Ok.bytes.items ≡ elf_of (executable image t)) of c.in-Ok.ensures.bytes,
+        subst (λ (t : Target). c.in-Ok.bytes.items ≡ file image t) of c.in-Ok.ensures.bytes,
       ),
     )
 
@@ -50,12 +37,10 @@ returns-clause-unfit c =
     let app = app_of c.args.app.now in
     let image = c.in_ok-image.image in
     let is = c.in_ok-image.ensures in
-    let none : list_any is_call c.args.setup.now.facts ≡ false =
-    cc (c.calls.ensures, c.facts.ensures, c.if-calls.false) in
     let unfit =
     subst (λ (t : Target). IsUnfit image t c.in-Err.unfit) c.in_ok-target.ensures c.in-Err.ensures.unfit in (
       image,
       good_of app image c.requires.accepted is.image is.built is.runnable is.lines,
-      misfits_as app image c.args.setup.now none c.in-Err.unfit unfit c.in_ok-cause_of-in-Err.field-0
+      misfits_as app image c.args.setup.now c.in-Err.unfit unfit c.in_ok-cause_of-in-Err.field-0
           c.in_ok-cause_of-in-Err.ensures,
     )
