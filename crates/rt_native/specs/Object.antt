@@ -4,13 +4,14 @@
 use Rattle.std.specs.Prelude.{ℕ, ◌+◌, if◌then◌else◌, List, [], ◌∷◌, ◌++◌, codes, flat_map, map, slice_index}
 use Rattle.rt_code.specs.Image.{Image}
 use Rattle.rt_code.specs.declared.image.IrqRow.{IrqRow}
+use Rattle.rt_ids.specs.Operation.{wrapped_number as word}
 use Rattle.rt_elf.specs.Object.{Object}
 use Rattle.rt_elf.specs.declared.executable.Kind.TheVariants as kind
 use Rattle.rt_elf.specs.declared.executable.Part.{Part}
 use Rattle.rt_elf.specs.declared.executable.Part.TheVariants as part
 use Rattle.rt_elf.specs.declared.executable.Symbol.{Symbol}
 use Rattle.rt_native.specs.Layout.{stub_places}
-use Rattle.rt_native.specs.Pieces.{leap, word}
+use Rattle.rt_native.specs.Pieces.{leap}
 use Rattle.rt_native.specs.Program.{text, values}
 use Rattle.rt_native.specs.Service.{call_offset, calls_first}
 use Rattle.rt_native.specs.Symbols as executable

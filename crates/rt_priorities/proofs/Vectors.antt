@@ -19,7 +19,7 @@ use Rattle.rt_native.specs.Layout.{outside, places, stub_places, stack_top, faul
 use Rattle.rt_native.specs.Layout.{code_at, code_end, load_at, flash_end, line_count, line_of, places_from}
 use Rattle.rt_native.specs.Pieces.{bytes_of}
 use Rattle.rt_native.specs.Program.{vectors, line_vectors, served_at, is_line, sequences_from}
-use Rattle.rt_native.specs.Service.{fault, tick, stub, stub_size, stubs_from, reset, timer_irq}
+use Rattle.rt_native.specs.Service.{fault, tick, entrance, entrance_size, entrances_from, reset, timer_irq}
 use Rattle.rt_native.specs.Target.{Target}
 use Rattle.rt_native.proofs.Ends.{ends, reset_at_is}
 use Rattle.rt_native.proofs.Places.{stubs_have_their_places}
@@ -197,22 +197,20 @@ module _ (img : Image) (target : Target) where
     entries_lead : (k : ℕ) (row : IrqRow) (h : Handler) → HaveNumbersApart img.irqs → slice_get img.irqs k ≡ Some row
         → row.handler ≡ Some h
         → EntersAt p m (external row.number) (slice_index (stub_places img target) k)
-        (stub (outside img target) target.inputs (places img target) (slice_index (stub_places img target) (k + 1))
-        row.number row.handler)
+        (entrance (outside img target) target (places img target) (slice_index (stub_places img target) (k + 1)) row)
     entries_lead k row h apart here enabled =
         let lies = stubs_have_their_places img target k row here in
         let place = slice_index (stub_places img target) k in
         let piece =
-        stub (outside img target) target.inputs (places img target) (slice_index (stub_places img target) (k + 1))
-        row.number row.handler in
+        entrance (outside img target) target (places img target) (slice_index (stub_places img target) (k + 1)) row in
         let line = line_within img.irqs 0 k row h here enabled in
         let within = place_within (stubs_at img target)
-        (map (stub_size (outside img target) target.inputs) img.irqs) k in
+        (map (entrance_size (outside img target) target) img.irqs) k in
         let small : place + 1 < 2 ^ 32 =
-        no_more place (stubs_at img target) (sum (map (stub_size (outside img target) target.inputs) img.irqs))
+        no_more place (stubs_at img target) (sum (map (entrance_size (outside img target) target) img.irqs))
         (reset_at img target) within
         (reset_at_is img target
-        ∙ ap (λ n. stubs_at img target + n) (sym (sum-map (stub_size (outside img target) target.inputs) img.irqs)))
+        ∙ ap (λ n. stubs_at img target + n) (sym (sum-map (entrance_size (outside img target) target) img.irqs)))
         ends_within in
         let whole : place % 2 ≡ 0 =
         subst (λ n. n % 2 ≡ 0) lies.begins (both (fault_at img target) (bytes_of lies.before) fault_even
@@ -239,7 +237,7 @@ module _ (img : Image) (target : Target) where
     ticks_lead =
         let at = outside img target in
         let ticking = tick at (timer_irq img.code) in
-        let stubs = stubs_from at target.inputs (places img target) (stub_places img target) 0 img.irqs in
+        let stubs = entrances_from at target (places img target) (stub_places img target) 0 img.irqs in
         let begun = reset at target.tick img (load_at img target) in
         let stays = (ends img target).stubs in
         let small = ends_within in

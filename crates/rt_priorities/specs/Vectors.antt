@@ -9,7 +9,7 @@ use Rattle.rt_code.specs.declared.image.IrqRow.{IrqRow}
 use Rattle.rt_native.specs.Fitting.{IsRegion, FitsFlash}
 use Rattle.rt_native.specs.Layout.{outside, places, stub_places, fault_at}
 use Rattle.rt_native.specs.Program.{vectors, instructions}
-use Rattle.rt_native.specs.Service.{stub, timer_irq}
+use Rattle.rt_native.specs.Service.{entrance, timer_irq}
 use Rattle.rt_native.specs.Target.{Target}
 use Rattle.rt_thumb.specs.Exceptions.{external, entered}
 use Rattle.rt_thumb.specs.Machine.{Machine, word_at}
@@ -40,8 +40,7 @@ EntriesLead = (img : Image) (target : Target) (p : Program) (m : Machine) → Is
     → HaveNumbersApart img.irqs → (k : ℕ) (row : IrqRow) (h : Handler) → slice_get img.irqs k ≡ Some row
     → row.handler ≡ Some h
     → EntersAt p m (external row.number) (slice_index (stub_places img target) k)
-    (stub (outside img target) target.inputs (places img target) (slice_index (stub_places img target) (k + 1))
-    row.number row.handler)
+    (entrance (outside img target) target (places img target) (slice_index (stub_places img target) (k + 1)) row)
 
 -- that of SysTick leads to the code of a tick
 abbrev pub TicksLead : Type 0
