@@ -302,7 +302,8 @@ def no_name(syntax, found):
 
 def chained(syntax, found):
     if syntax.token.text in ("==", "!=", "<", "<=", ">", ">=") and "+" in found:
-        return "comparisons do not chain: `(a < b) & (b < c)` joins two"
+        return ("comparisons do not chain, and other operators bind before them: `(a < b) & (b < c)` joins two, and "
+                "`(a == b) != c` compares what the first one gives, 0 or 1")
     return None
 
 

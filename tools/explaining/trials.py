@@ -92,6 +92,11 @@ def is_last(syntax, groups, count):
     return not syntax.text[syntax.at + 1 :].split("\n", 1)[0].split("//")[0].strip("; \r")
 
 
+def is_joined(syntax, groups, count):
+    """The proof of a sentence on a sign before a number: no blank is between them."""
+    return not syntax.text[syntax.at + 1 : syntax.at + 2].isspace()
+
+
 def last_words(syntax):
     """The tokens of the statement before the place, as far as the sign that ends the one before."""
     texts = [token.text for token in syntax.front]
