@@ -3,6 +3,7 @@
 use Rattle.std.specs.Prelude.{ℕ, List, ◌++◌}
 use Rattle.rt_elf.specs.declared.executable.Symbol.{Symbol}
 
+-- the parts of an executable, and where each of them lies
 pub record Executable : Type 0 where
   -- the address at which it begins, with bit 0 set where the code is of Thumb instructions
   pub entry : ℕ

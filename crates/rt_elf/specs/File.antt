@@ -5,6 +5,7 @@ use Rattle.rt_elf.specs.Headers.{file_header, segment_headers, section_headers, 
 use Rattle.rt_elf.specs.Offsets.{offsets_of}
 use Rattle.rt_elf.specs.Symbols.{symbol_table, strings}
 
+-- the bytes of the file, part behind part in the order of Offsets.antt
 abbrev pub elf_of : Executable → List ℕ
 elf_of e =
     file_header e (offsets_of e) ++ segment_headers e (offsets_of e) ++ e.text ++ e.values

@@ -5,13 +5,15 @@ use Rattle.rt_elf.specs.Executable.{Executable}
 use Rattle.rt_elf.specs.declared.offsets.Offsets.{Offsets}
 use Rattle.rt_elf.specs.Word.{halves, words}
 
--- sizes of headers: e_ehsize, e_phentsize, e_shentsize
+-- e_ehsize: how many bytes the header of the file has
 abbrev pub HEADER_BYTES : ℕ
 HEADER_BYTES = 52
 
+-- e_phentsize: how many bytes the header of a segment has
 abbrev pub SEGMENT_BYTES : ℕ
 SEGMENT_BYTES = 32
 
+-- e_shentsize: how many bytes the header of a section has
 abbrev pub SECTION_BYTES : ℕ
 SECTION_BYTES = 40
 

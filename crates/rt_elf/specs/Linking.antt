@@ -28,24 +28,31 @@ relocations_from symbol [] = []
 relocations_from symbol (offset ∷ more) = relocation symbol offset ++ relocations_from (symbol + 1) more
 
 module _ (o : Object) where
+  -- relocations, behind the bytes of the section
   abbrev pub relocations_offset : ℕ
   relocations_offset = HEADER_BYTES + length o.bytes
 
+  -- the symbol table, behind the relocations, 8 bytes each
   abbrev pub symbols_offset : ℕ
   symbols_offset = relocations_offset + 8 * length o.calls
 
+  -- the headers of the six sections, the empty one with them
   abbrev pub sections_offset : ℕ
   sections_offset = symbols_offset + symbol_table_size (object_symbols o)
 
+  -- the names of sections
   abbrev pub names_offset : ℕ
   names_offset = sections_offset + 6 * SECTION_BYTES
 
+  -- the strings of symbols, which come last
   abbrev pub strings_offset : ℕ
   strings_offset = names_offset + length object_section_names
 
+  -- how many bytes the file has
   abbrev pub object_size : ℕ
   object_size = strings_offset + strings_size (object_symbols o)
 
+  -- all of these, with the size of each part
   abbrev pub object_offsets_of : ObjectOffsets
   object_offsets_of = record {
     bytes_size = length o.bytes;

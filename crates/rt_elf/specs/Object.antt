@@ -3,6 +3,7 @@
 use Rattle.std.specs.Prelude.{ℕ, ◌+◌, List, ◌++◌, length}
 use Rattle.rt_elf.specs.declared.executable.Symbol.{Symbol}
 
+-- the one section of an object, its symbols, and its calls of others' functions
 pub record Object : Type 0 where
   -- the bytes of the section
   pub bytes : List ℕ

@@ -8,28 +8,36 @@ use Rattle.rt_elf.specs.Headers.{HEADER_BYTES, SEGMENT_BYTES, SECTION_BYTES, sec
 use Rattle.rt_elf.specs.Symbols.{symbol_table_size, strings_size}
 use Rattle.rt_elf.specs.declared.offsets.Offsets.{Offsets}
 
+-- `.text`, behind the headers of the file and of two segments
 abbrev pub text_offset : ℕ
 text_offset = HEADER_BYTES + 2 * SEGMENT_BYTES
 
 module _ (e : Executable) where
+  -- `.data`, behind `.text`
   abbrev pub data_offset : ℕ
   data_offset = text_offset + length e.text
 
+  -- the symbol table, behind `.data`
   abbrev pub symbols_offset : ℕ
   symbols_offset = data_offset + length e.values
 
+  -- the headers of the seven sections, the empty one with them
   abbrev pub sections_offset : ℕ
   sections_offset = symbols_offset + symbol_table_size (all_symbols e)
 
+  -- the names of sections
   abbrev pub names_offset : ℕ
   names_offset = sections_offset + 7 * SECTION_BYTES
 
+  -- the strings of symbols, which come last
   abbrev pub strings_offset : ℕ
   strings_offset = names_offset + length section_names
 
+  -- how many bytes the file has
   abbrev pub file_size : ℕ
   file_size = strings_offset + strings_size (all_symbols e)
 
+  -- all of these, with the size of each part
   abbrev pub offsets_of : Offsets
   offsets_of = record {
     text = text_offset;

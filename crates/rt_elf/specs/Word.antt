@@ -11,9 +11,10 @@ half n = to_le_bytes w16 n
 abbrev pub word : ℕ → List ℕ
 word n = to_le_bytes w32 n
 
--- some of each
+-- halves, one behind the other
 unfoldable pub halves : List ℕ → List ℕ
 halves numbers = flat_map half numbers
 
+-- words, one behind the other
 unfoldable pub words : List ℕ → List ℕ
 words numbers = flat_map word numbers

@@ -52,6 +52,7 @@ abbrev pub is_cancel : ℕ → What → Bool
 is_cancel t (what.Cancel u handle) = u == t
 is_cancel t w = false
 
+-- a step of the monotonic clock
 abbrev pub is_tick : What → Bool
 is_tick what.Tick = true
 is_tick w = false
@@ -83,11 +84,12 @@ module _ (app : App) (p : ℕ) where
   abbrev pub of_level : ℕ → List ℕ
   of_level t = if task_priority app t == p then t ∷ [] else []
 
-  -- the task of a `ready` item of the level, and of a `start` item
+  -- the task of a `ready` item of the level
   abbrev pub readied : What → List ℕ
   readied (what.Ready t) = of_level t
   readied w = []
 
+  -- the task of a `start` item of the level
   abbrev pub started : What → List ℕ
   started (what.Start t args) = of_level t
   started w = []

@@ -1,6 +1,7 @@
 -- The object of an image, for a linker that joins it with functions of C: one section, whose bytes are those of flash,
 -- and its symbols. All addresses in it are the target's, so it is to be linked at the address of flash; of the code
--- only the calls of functions are the linker's to write. Such a function has the name of its interrupt, with `_in` behind.
+-- only the calls of functions are the linker's to write. Such a function has the name of its interrupt, with `_in`
+-- behind.
 use Rattle.std.specs.Prelude.{ℕ, ◌+◌, if◌then◌else◌, List, [], ◌∷◌, ◌++◌, codes, flat_map, map, slice_index}
 use Rattle.rt_code.specs.Image.{Image}
 use Rattle.rt_code.specs.declared.image.IrqRow.{IrqRow}

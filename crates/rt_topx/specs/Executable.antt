@@ -1,5 +1,5 @@
--- The file of an image for the chip of a board, an executable or an object, and why there is none. Of several causes the first is told, at
--- the line of the board that the image does not fit.
+-- The file of an image for the chip of a board, an executable or an object, and why there is none. Of several causes
+-- the first is told, at the line of the board that the image does not fit.
 use Rattle.std.specs.Prelude.{◌≡◌, ◌⊎◌, ℕ, List, codes}
 use Rattle.std.specs.Str.Lines.{lines}
 use Rattle.rt_ids.specs.declared.status.Status.{Status}
