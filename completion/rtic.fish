@@ -13,6 +13,8 @@ function __rtic_wants --argument-names ending
             set endings rtic board
         case 'rticx why'
             set endings listing
+        case 'rticx cycles'
+            set endings rtic
         case 'rticx *'
         case '* check' '* fmt' '* build' '* soak' '* deepest'
             set endings rtic
@@ -72,7 +74,8 @@ for row in \
         'audit:judge whether such a trace is a run of Baker\'s machine beside devices' \
         'live:run such a script with its devices in threads of their own' \
         'native:write an executable of an image for the ARMv7-M core of a board' \
-        'why:judge as rtic verify does, and say where an image breaks a rule'
+        'why:judge as rtic verify does, and say where an image breaks a rule' \
+        'cycles:write what an image costs on a Cortex-M4, in cycles'
     set -l parts (string split -m 1 : $row)
     complete -c rticx -n __fish_is_first_token -a $parts[1] -d $parts[2]
 end

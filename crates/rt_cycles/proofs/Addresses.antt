@@ -1,6 +1,6 @@
 -- No address changes a sum of cycles.
-use Rattle.std.proofs.Common.{◌≡◌, ℕ, zero, suc, ◌+◌, ◌≤◌, max, List, [], ◌∷◌, ◌++◌, Option, Some, None, slice_get, arith}
-use Rattle.std.proofs.Common.{slice_index, refl, subst}
+use Rattle.std.proofs.Common.{◌≡◌, ℕ, zero, suc, ◌+◌, ◌≤◌, max, List, [], ◌∷◌, ◌++◌, Option, Some, None, slice_get}
+use Rattle.std.proofs.Common.{arith, slice_index, refl, subst}
 use Rattle.std.proofs.lemmas.List.Sums.{sum_by-append}
 use Rattle.std.proofs.lemmas.Option.{same_Some, none-some}
 use Rattle.rt_ids.specs.Lists.{greatest}
@@ -19,14 +19,20 @@ use Rattle.rt_native.specs.Sequences.{sequence, load_word, store_word, load_word
 use Rattle.rt_native.specs.Sequences.{due, branch, branch_if_zero, wait, call, read_arguments, write_arguments}
 use Rattle.rt_native.specs.Sequences.{RETURN_SLOT}
 use Rattle.rt_native.specs.declared.outside.Outside.{Outside}
-use Rattle.rt_cycles.specs.Table.{cycles, row_of}
+use Rattle.rt_cycles.specs.Table.{cycles, table_row}
 use Rattle.rt_cycles.specs.Sums.{cycles_of, instr_cycles, code_cycles}
 
 -- parts that cost the same, behind parts that cost the same
 same_both : (ws xs ys zs : List Instruction) → cycles_of ws ≡ cycles_of xs → cycles_of ys ≡ cycles_of zs
     → cycles_of (ws ++ ys) ≡ cycles_of (xs ++ zs)
 same_both ws xs ys zs front back =
-    omega (arith, front, back, sum_by-append (λ i. cycles (row_of i)) ws ys, sum_by-append (λ i. cycles (row_of i)) xs zs)
+    omega (
+      arith,
+      front,
+      back,
+      sum_by-append (λ i. cycles (table_row i)) ws ys,
+      sum_by-append (λ i. cycles (table_row i)) xs zs,
+    )
 
 -- the same behind one part, before one, and between two
 same_tail : (xs ys zs : List Instruction) → cycles_of ys ≡ cycles_of zs → cycles_of (xs ++ ys) ≡ cycles_of (xs ++ zs)

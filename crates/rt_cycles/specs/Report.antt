@@ -1,5 +1,5 @@
--- What `cycles` prints, in cycles of a Cortex-M4: each kind of instruction that an image has, at most; a `take`; a tick;
--- a step; and what `check` counts in steps, each step at most. The form is this project's own.
+-- What `cycles` prints, in cycles of a Cortex-M4: each kind of instruction that an image has, at most; a `take`; a
+-- tick; a step; and what `check` counts in steps, each step at most. The form is this project's own.
 use Rattle.std.specs.Prelude.{ℕ, ◌+◌, ◌*◌, if◌then◌else◌, List, [], ◌∷◌, ◌++◌, codes, decimal, flat_map, map}
 use Rattle.std.specs.Prelude.{Option, Some, None, bytes_eq}
 use Rattle.rt_ids.specs.Lists.{greatest}

@@ -12,11 +12,11 @@ use Rattle.rt_thumb.specs.declared.instruction.Instruction.{Instruction}
 use Rattle.rt_native.specs.Sequences.{sequence}
 use Rattle.rt_native.specs.Service.{stub, tick, timer_irq}
 use Rattle.rt_native.specs.declared.outside.Outside.{Outside}
-use Rattle.rt_cycles.specs.Table.{cycles, row_of, ENTRY, RETURN}
+use Rattle.rt_cycles.specs.Table.{cycles, table_row, ENTRY, RETURN}
 
 -- the cycles of instructions, one after the other; a branch counts as taken
 abbrev pub cycles_of : List Instruction → ℕ
-cycles_of code = sum_by (λ i. cycles (row_of i)) code
+cycles_of code = sum_by (λ i. cycles (table_row i)) code
 
 -- all addresses are 0
 abbrev pub nowhere : Outside

@@ -7,8 +7,8 @@ use Rattle.rt_thumb.specs.declared.instruction.Instruction.{Instruction}
 use Rattle.rt_thumb.specs.declared.instruction.Instruction.TheVariants as instruction
 use Rattle.rt_thumb.specs.declared.instruction.Operation.{Operation}
 use Rattle.rt_thumb.specs.declared.instruction.Operation.TheVariants as operation
-use Rattle.rt_cycles.specs.declared.table.Row.{Row}
-use Rattle.rt_cycles.specs.declared.table.Row.TheVariants as row
+use Rattle.rt_cycles.specs.declared.table.TableRow.{TableRow}
+use Rattle.rt_cycles.specs.declared.table.TableRow.TheVariants as row
 
 -- P of the table: a refill of the pipeline takes 1 to 3 cycles
 abbrev pub REFILL : ℕ
@@ -27,7 +27,7 @@ abbrev pub RETURN : ℕ
 RETURN = 12
 
 -- the cycles of a row of the table, at most
-abbrev pub cycles : Row → ℕ
+abbrev pub cycles : TableRow → ℕ
 cycles row.Move = 1
 cycles row.Add = 1
 cycles row.Subtract = 1
@@ -46,55 +46,55 @@ cycles row.NoOperation = 1
 cycles row.Barrier = 1 + BARRIER
 
 -- the row of an operation on two registers
-abbrev pub row_of_operation : Operation → Row
-row_of_operation operation.And = row.Logical
-row_of_operation operation.ExclusiveOr = row.Logical
-row_of_operation operation.ShiftLeft = row.Shift
-row_of_operation operation.ShiftRight = row.Shift
-row_of_operation operation.AddWithCarry = row.Add
-row_of_operation operation.SubtractWithCarry = row.Subtract
-row_of_operation operation.Negate = row.Subtract
-row_of_operation operation.Compare = row.Compare
-row_of_operation operation.Or = row.Logical
-row_of_operation operation.Multiply = row.Multiply
+abbrev pub operation_row : Operation → TableRow
+operation_row operation.And = row.Logical
+operation_row operation.ExclusiveOr = row.Logical
+operation_row operation.ShiftLeft = row.Shift
+operation_row operation.ShiftRight = row.Shift
+operation_row operation.AddWithCarry = row.Add
+operation_row operation.SubtractWithCarry = row.Subtract
+operation_row operation.Negate = row.Subtract
+operation_row operation.Compare = row.Compare
+operation_row operation.Or = row.Logical
+operation_row operation.Multiply = row.Multiply
 
 -- the row of an instruction
-abbrev pub row_of : Instruction → Row
-row_of (instruction.Move d n) = row.Move
-row_of (instruction.CompareNumber a n) = row.Compare
-row_of (instruction.AddNumber d n) = row.Add
-row_of (instruction.SubtractNumber d a n) = row.Subtract
-row_of (instruction.Add d a b) = row.Add
-row_of (instruction.Subtract d a b) = row.Subtract
-row_of (instruction.Operate op d b) = row_of_operation op
-row_of (instruction.AddStackPointer d) = row.Add
-row_of (instruction.BranchExchange m) = row.Branch
-row_of (instruction.Load t a n) = row.Load
-row_of (instruction.Store t a n) = row.Store
-row_of (instruction.StoreByte t a n) = row.Store
-row_of (instruction.LoadStack t n) = row.Load
-row_of (instruction.StoreStack t n) = row.Store
-row_of (instruction.AddStack n) = row.Add
-row_of (instruction.SubtractStack n) = row.Subtract
-row_of instruction.EnableInterrupts = row.StateChange
-row_of instruction.DisableInterrupts = row.StateChange
-row_of instruction.WaitForInterrupt = row.Wait
-row_of instruction.NoOperation = row.NoOperation
-row_of (instruction.MoveWide d n) = row.Move
-row_of (instruction.MoveTop d n) = row.Move
-row_of (instruction.MoveNot d n) = row.Logical
-row_of (instruction.AddStackWide n) = row.Add
-row_of (instruction.SubtractStackWide n) = row.Subtract
-row_of (instruction.LoadWide t a n) = row.Load
-row_of (instruction.StoreWide t a n) = row.Store
-row_of (instruction.LoadIndexed t a m) = row.Load
-row_of (instruction.StoreIndexed t a m) = row.Store
-row_of (instruction.Divide d a b) = row.Divide
-row_of (instruction.MultiplySubtract d a b c) = row.MultiplySubtract
-row_of (instruction.ReadSpecial d special) = row.StateChange
-row_of (instruction.WriteSpecial special a) = row.StateChange
-row_of instruction.SynchronizeData = row.Barrier
-row_of instruction.SynchronizeInstructions = row.Barrier
-row_of (instruction.Branch displacement) = row.Branch
-row_of (instruction.BranchIf condition displacement) = row.Branch
-row_of (instruction.Call displacement) = row.Branch
+abbrev pub table_row : Instruction → TableRow
+table_row (instruction.Move d n) = row.Move
+table_row (instruction.CompareNumber a n) = row.Compare
+table_row (instruction.AddNumber d n) = row.Add
+table_row (instruction.SubtractNumber d a n) = row.Subtract
+table_row (instruction.Add d a b) = row.Add
+table_row (instruction.Subtract d a b) = row.Subtract
+table_row (instruction.Operate op d b) = operation_row op
+table_row (instruction.AddStackPointer d) = row.Add
+table_row (instruction.BranchExchange m) = row.Branch
+table_row (instruction.Load t a n) = row.Load
+table_row (instruction.Store t a n) = row.Store
+table_row (instruction.StoreByte t a n) = row.Store
+table_row (instruction.LoadStack t n) = row.Load
+table_row (instruction.StoreStack t n) = row.Store
+table_row (instruction.AddStack n) = row.Add
+table_row (instruction.SubtractStack n) = row.Subtract
+table_row instruction.EnableInterrupts = row.StateChange
+table_row instruction.DisableInterrupts = row.StateChange
+table_row instruction.WaitForInterrupt = row.Wait
+table_row instruction.NoOperation = row.NoOperation
+table_row (instruction.MoveWide d n) = row.Move
+table_row (instruction.MoveTop d n) = row.Move
+table_row (instruction.MoveNot d n) = row.Logical
+table_row (instruction.AddStackWide n) = row.Add
+table_row (instruction.SubtractStackWide n) = row.Subtract
+table_row (instruction.LoadWide t a n) = row.Load
+table_row (instruction.StoreWide t a n) = row.Store
+table_row (instruction.LoadIndexed t a m) = row.Load
+table_row (instruction.StoreIndexed t a m) = row.Store
+table_row (instruction.Divide d a b) = row.Divide
+table_row (instruction.MultiplySubtract d a b c) = row.MultiplySubtract
+table_row (instruction.ReadSpecial d special) = row.StateChange
+table_row (instruction.WriteSpecial special a) = row.StateChange
+table_row instruction.SynchronizeData = row.Barrier
+table_row instruction.SynchronizeInstructions = row.Barrier
+table_row (instruction.Branch displacement) = row.Branch
+table_row (instruction.BranchIf condition displacement) = row.Branch
+table_row (instruction.Call displacement) = row.Branch

@@ -1,9 +1,9 @@
 // Sums of cycles over the code of an image.
 
-ghost use Rattle.std.specs.Prelude.{◌≡◌, ◌+◌, ◌<◌, ◌≤◌, ◌^◌, ◌*◌, length, IfOk};
+ghost use Rattle.std.specs.Prelude.{◌≡◌, ◌+◌, ◌<◌, ◌^◌, IfOk};
 ghost use Rattle.rt_cycles.specs.Sums as spec;
 
-use crate::table::{ENTRY, RETURN, cycles, row_of};
+use crate::table::{ENTRY, RETURN, cycles, table_row};
 use rt_code::{Image, Instr, IrqRow};
 use rt_ids::NoMemory;
 use rt_native::{Outside, push_sequence, push_stub, push_tick, timer_irq};
@@ -28,7 +28,7 @@ fn cycles_of(code: &[Instruction]) -> u128
 {
     let mut sum = 0;
     for instruction in code {
-        sum += cycles(row_of(*instruction));
+        sum += cycles(table_row(*instruction));
     }
     sum
 }

@@ -7,7 +7,7 @@ use rt_thumb::{Instruction, Operation};
 
 /// A row of the table of instructions in the Cortex-M4 Technical Reference Manual, section 3.3.1.
 #[derive(Clone, Copy)]
-pub enum Row {
+pub enum TableRow {
     /// MOV, MOVW, MOVT: 1.
     Move,
     /// ADD, ADC: 1.
@@ -55,63 +55,65 @@ pub(crate) const ENTRY: u128 = 12;
 pub(crate) const RETURN: u128 = 12;
 
 /// The cycles of a row, at most.
-pub(crate) fn cycles(row: Row) -> u128
+pub(crate) fn cycles(row: TableRow) -> u128
     ensures { result ≡ spec.cycles row }
 {
     match row {
-        Row::Move | Row::Add | Row::Subtract | Row::Multiply => 1,
-        Row::Compare | Row::Logical | Row::Shift => 1,
-        Row::Wait | Row::NoOperation => 1,
-        Row::MultiplySubtract | Row::Load | Row::Store | Row::StateChange => 2,
-        Row::Divide => 12,
-        Row::Branch => 1 + REFILL,
-        Row::Barrier => 1 + BARRIER,
+        TableRow::Move | TableRow::Add | TableRow::Subtract | TableRow::Multiply => 1,
+        TableRow::Compare | TableRow::Logical | TableRow::Shift => 1,
+        TableRow::Wait | TableRow::NoOperation => 1,
+        TableRow::MultiplySubtract | TableRow::Load | TableRow::Store | TableRow::StateChange => 2,
+        TableRow::Divide => 12,
+        TableRow::Branch => 1 + REFILL,
+        TableRow::Barrier => 1 + BARRIER,
     }
 }
 
 /// The row of an operation.
-fn row_of_operation(operation: Operation) -> Row
-    ensures { result ≡ spec.row_of_operation operation }
+fn operation_row(operation: Operation) -> TableRow
+    ensures { result ≡ spec.operation_row operation }
 {
     match operation {
-        Operation::And | Operation::ExclusiveOr | Operation::Or => Row::Logical,
-        Operation::ShiftLeft | Operation::ShiftRight => Row::Shift,
-        Operation::AddWithCarry => Row::Add,
-        Operation::SubtractWithCarry | Operation::Negate => Row::Subtract,
-        Operation::Compare => Row::Compare,
-        Operation::Multiply => Row::Multiply,
+        Operation::And | Operation::ExclusiveOr | Operation::Or => TableRow::Logical,
+        Operation::ShiftLeft | Operation::ShiftRight => TableRow::Shift,
+        Operation::AddWithCarry => TableRow::Add,
+        Operation::SubtractWithCarry | Operation::Negate => TableRow::Subtract,
+        Operation::Compare => TableRow::Compare,
+        Operation::Multiply => TableRow::Multiply,
     }
 }
 
 /// The row of an instruction.
-pub(crate) fn row_of(instruction: Instruction) -> Row
-    ensures { result ≡ spec.row_of instruction }
+pub(crate) fn table_row(instruction: Instruction) -> TableRow
+    ensures { result ≡ spec.table_row instruction }
 {
     match instruction {
-        Instruction::Operate(operation, _, _) => row_of_operation(operation),
-        Instruction::Move(..) | Instruction::MoveWide(..) | Instruction::MoveTop(..) => Row::Move,
+        Instruction::Operate(operation, _, _) => operation_row(operation),
+        Instruction::Move(..) | Instruction::MoveWide(..) | Instruction::MoveTop(..) =>
+            TableRow::Move,
         Instruction::AddNumber(..) | Instruction::Add(..) | Instruction::AddStackPointer(_) => {
-            Row::Add
+            TableRow::Add
         }
-        Instruction::AddStack(_) | Instruction::AddStackWide(_) => Row::Add,
-        Instruction::SubtractNumber(..) | Instruction::Subtract(..) => Row::Subtract,
-        Instruction::SubtractStack(_) | Instruction::SubtractStackWide(_) => Row::Subtract,
-        Instruction::CompareNumber(..) => Row::Compare,
-        Instruction::MoveNot(..) => Row::Logical,
-        Instruction::Load(..) | Instruction::LoadStack(..) => Row::Load,
-        Instruction::LoadWide(..) | Instruction::LoadIndexed(..) => Row::Load,
+        Instruction::AddStack(_) | Instruction::AddStackWide(_) => TableRow::Add,
+        Instruction::SubtractNumber(..) | Instruction::Subtract(..) => TableRow::Subtract,
+        Instruction::SubtractStack(_) | Instruction::SubtractStackWide(_) => TableRow::Subtract,
+        Instruction::CompareNumber(..) => TableRow::Compare,
+        Instruction::MoveNot(..) => TableRow::Logical,
+        Instruction::Load(..) | Instruction::LoadStack(..) => TableRow::Load,
+        Instruction::LoadWide(..) | Instruction::LoadIndexed(..) => TableRow::Load,
         Instruction::Store(..) | Instruction::StoreByte(..) | Instruction::StoreStack(..) => {
-            Row::Store
+            TableRow::Store
         }
-        Instruction::StoreWide(..) | Instruction::StoreIndexed(..) => Row::Store,
-        Instruction::Divide(..) => Row::Divide,
-        Instruction::MultiplySubtract(..) => Row::MultiplySubtract,
-        Instruction::Branch(_) | Instruction::BranchIf(..) | Instruction::Call(_) => Row::Branch,
-        Instruction::BranchExchange(_) => Row::Branch,
-        Instruction::EnableInterrupts | Instruction::DisableInterrupts => Row::StateChange,
-        Instruction::ReadSpecial(..) | Instruction::WriteSpecial(..) => Row::StateChange,
-        Instruction::WaitForInterrupt => Row::Wait,
-        Instruction::NoOperation => Row::NoOperation,
-        Instruction::SynchronizeData | Instruction::SynchronizeInstructions => Row::Barrier,
+        Instruction::StoreWide(..) | Instruction::StoreIndexed(..) => TableRow::Store,
+        Instruction::Divide(..) => TableRow::Divide,
+        Instruction::MultiplySubtract(..) => TableRow::MultiplySubtract,
+        Instruction::Branch(_) | Instruction::BranchIf(..) | Instruction::Call(_) =>
+            TableRow::Branch,
+        Instruction::BranchExchange(_) => TableRow::Branch,
+        Instruction::EnableInterrupts | Instruction::DisableInterrupts => TableRow::StateChange,
+        Instruction::ReadSpecial(..) | Instruction::WriteSpecial(..) => TableRow::StateChange,
+        Instruction::WaitForInterrupt => TableRow::Wait,
+        Instruction::NoOperation => TableRow::NoOperation,
+        Instruction::SynchronizeData | Instruction::SynchronizeInstructions => TableRow::Barrier,
     }
 }

@@ -55,6 +55,7 @@ begins command.Audit other = refl
 begins command.Live other = refl
 begins command.Native other = refl
 begins command.Why other = absurd (other refl)
+begins command.Cycles other = refl
 
 pub goes_on : (b : Beside) → drop 1 (kinds_of (command_of b)) ≡ kind.Board ∷ drop 2 (kinds_of (command_of b))
 goes_on beside.Run = refl

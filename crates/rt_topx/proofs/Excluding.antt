@@ -254,6 +254,7 @@ all_read command.Native t ended bytes w = (
   ((w.app, w.of_text, w.setup, w.of_board), tt),
 )
 all_read command.Why t ended bytes (image, is, explains) = ((image, is), tt)
+all_read command.Cycles t ended bytes (is, w) = ((w.app, w.of_text), tt)
 
 one_output : (c : Command) (t : Inputs) (a b : Status) (x y : List ℕ) → IsOutputOf c t a x → IsOutputOf c t b y
     → AreDue a b
@@ -265,6 +266,7 @@ one_output command.Why t a b x y (image, is, one) (other, is', told) =
     whether_once (IsChecked image) a b (explained_so image a x one)
     (subst (λ i. SaysWhether (IsChecked i) b) (listings.read_one_way.one_image t.first other image is' is)
     (explained_so other b y told))
+one_output command.Cycles t a b x y w v = due_as status.Done a b tt w.0 v.0
 
 pub lawful : IsLawful rticx_program
 lawful = record {

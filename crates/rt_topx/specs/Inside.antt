@@ -2,3 +2,4 @@
 pub mod Started
 pub mod Beside
 pub mod Making
+pub mod Counting

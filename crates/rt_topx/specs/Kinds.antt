@@ -43,6 +43,7 @@ kinds_of command.Audit = Application ∷ Board ∷ Trace ∷ []
 kinds_of command.Live = Application ∷ Board ∷ Script ∷ []
 kinds_of command.Native = Application ∷ Target ∷ []
 kinds_of command.Why = Listing ∷ []
+kinds_of command.Cycles = Application ∷ []
 
 -- the most bytes of a text of the kind
 abbrev pub most_bytes : TextKind → ℕ

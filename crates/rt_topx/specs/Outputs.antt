@@ -2,12 +2,14 @@
 use Rattle.std.specs.Prelude.{◌≡◌, ℕ, List, ◌++◌, codes, decimal, length}
 use Rattle.rt_ids.specs.declared.status.Status.{Status}
 use Rattle.rt_ids.specs.declared.status.Status.TheVariants as status
+use Rattle.rt_app.specs.Bounds.{bounds}
 use Rattle.rt_app.specs.Names.{names_of}
 use Rattle.rt_app.specs.Tree.{App}
 use Rattle.rt_baker.specs.declared.verdict.Verdict.{Verdict}
 use Rattle.rt_baker.specs.declared.verdict.Verdict.TheVariants as judged
 use Rattle.rt_build.specs.Accepted.{IsApplication}
 use Rattle.rt_code.specs.Image.{Image}
+use Rattle.rt_cycles.specs.Report.{report}
 use Rattle.rt_listing.specs.Listing.{listing}
 use Rattle.rt_sim.specs.Beside.{CountsFitBeside, RunsWellBeside}
 use Rattle.rt_sim.specs.Good.{AreDeclared}
@@ -102,3 +104,11 @@ pub record IsMadeNative (text beside : List ℕ) (ended : Status) (bytes : List 
   pub inputs : AreInputs app setup.board.inputs
   pub good : IsGoodBeside app image setup.board
   pub made : IsMade app image beside setup ended bytes
+
+-- `cycles`: what a good image costs on a Cortex-M4, in cycles, and what `check` counts in steps, each step at most
+pub record IsCycles (text bytes : List ℕ) : Type 0 where
+  pub app : App
+  pub of_text : IsApplication text app
+  pub image : Image
+  pub is : IsGoodOf app image
+  pub written : bytes ≡ report image app (bounds app)

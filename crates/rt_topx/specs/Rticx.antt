@@ -9,7 +9,7 @@ use Rattle.rt_topx.specs.declared.command.Command.TheVariants as command
 use Rattle.rt_topx.specs.Words.{NamesCommand}
 use Rattle.rt_topx.specs.Kinds.{TextKind, kinds_of, most_bytes, IsOfKind, IsRefusedBy}
 use Rattle.rt_topx.specs.Explained.{IsExplained}
-use Rattle.rt_topx.specs.Outputs.{IsRun, IsAudited, IsLiveBeside, IsMadeNative}
+use Rattle.rt_topx.specs.Outputs.{IsRun, IsAudited, IsLiveBeside, IsMadeNative, IsCycles}
 
 -- with this status these bytes are the output for texts of their kinds
 abbrev pub IsOutputOf : Command → Inputs → Status → List ℕ → Type 0
@@ -18,6 +18,7 @@ IsOutputOf command.Audit t ended bytes = IsAudited t.first t.second t.third ende
 IsOutputOf command.Live t ended bytes = (ended ≡ status.Done) × IsLiveBeside t.first t.second t.third bytes
 IsOutputOf command.Native t ended bytes = IsMadeNative t.first t.second ended bytes
 IsOutputOf command.Why t ended bytes = IsExplained t.first ended bytes
+IsOutputOf command.Cycles t ended bytes = (ended ≡ status.Done) × IsCycles t.first bytes
 
 -- the program: what a text is depends on all texts that its command reads
 abbrev pub rticx_program : Program

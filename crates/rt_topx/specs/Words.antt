@@ -10,9 +10,10 @@ NamesCommand words command.Audit = (app board trace : List ℕ) × (words ≡ co
 NamesCommand words command.Live = (app board script : List ℕ) × (words ≡ codes "live" ∷ app ∷ board ∷ script ∷ [])
 NamesCommand words command.Native = (app board : List ℕ) × (words ≡ codes "native" ∷ app ∷ board ∷ [])
 NamesCommand words command.Why = (image : List ℕ) × (words ≡ codes "why" ∷ image ∷ [])
+NamesCommand words command.Cycles = (app : List ℕ) × (words ≡ codes "cycles" ∷ app ∷ [])
 
 -- the line for all other words
 abbrev pub usage_line : List ℕ
 usage_line =
     codes "usage: rticx run APP BOARD SCRIPT | audit APP BOARD TRACE | live APP BOARD SCRIPT | native APP BOARD"
-    ++ codes " | why IMAGE\n"
+    ++ codes " | why IMAGE | cycles APP\n"

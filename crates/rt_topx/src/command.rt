@@ -19,6 +19,8 @@ pub enum Command {
     Native,
     /// `why IMAGE`
     Why,
+    /// `cycles APP`
+    Cycles,
 }
 
 /// The command that the words name, None where they name none.
@@ -32,6 +34,7 @@ pub(crate) fn command_of(words: &[&str]) -> Option<Command>
         ["live", _, _, _] => Some(Command::Live),
         ["native", _, _] => Some(Command::Native),
         ["why", _] => Some(Command::Why),
+        ["cycles", _] => Some(Command::Cycles),
         _ => None,
     }
 }

@@ -1,6 +1,6 @@
 // From a command to what is done, text by text.
 
-ghost use Rattle.std.specs.Prelude.{◌≡◌, ◌≢◌, ℕ, List, drop, MatchOption};
+ghost use Rattle.std.specs.Prelude.{◌≢◌, ℕ, List, drop};
 ghost use Rattle.rt_app.specs.Accepted.{IsAccepted};
 ghost use Rattle.rt_app.specs.View.{app_of};
 ghost use Rattle.rt_build.specs.Accepted.{IsApplication};
@@ -17,6 +17,7 @@ ghost use Rattle.rt_topx.specs.Rticx.{rticx_program};
 use crate::audit::audit;
 use crate::boards::read_board_of;
 use crate::command::Command;
+use crate::cycles::cycles;
 use crate::live::live;
 use crate::native::native;
 use crate::run::run;
@@ -75,22 +76,7 @@ enum Beside {
     Live,
 }
 
-/// The command, of those that begin with an application, where it reads a third text.
-fn beside_of(command: Command) -> Option<Beside>
-    requires { command ≢ Command.Why }
-    ensures { MatchOption result (command ≡ Command.Native) (λ beside. command ≡ command_of beside) }
-{
-    match command {
-        Command::Run => Some(Beside::Run),
-        Command::Audit => Some(Beside::Audit),
-        Command::Live => Some(Beside::Live),
-        Command::Native => None,
-        Command::Why => unreachable!(),
-    }
-}
-
-/// Does what a command is of its application, which is the first of its texts. Each such command goes on with the text
-/// of a board.
+/// Does what a command is of its application, which is the first of its texts.
 fn decide_of<R: Threads + Sync, B: Source, C: Source, K: Sink + Send, G: Gate + Sync>(
     rt: &R,
     alloc: Global,
@@ -111,9 +97,13 @@ fn decide_of<R: Threads + Sync, B: Source, C: Source, K: Sink + Send, G: Gate + 
         (Then c (HasUse C.past C.left C.faults third.old third.new) No))
         (K.taken out.old) (K.taken out.new) (K.faults out.old) (K.faults out.new) result }
 {
-    match beside_of(command) {
-        Some(beside) => decide_on_board(rt, alloc, beside, app, second, third, out, gate),
-        None => finish(out, &native(alloc, app, second)),
+    match command {
+        Command::Run => decide_on_board(rt, alloc, Beside::Run, app, second, third, out, gate),
+        Command::Audit => decide_on_board(rt, alloc, Beside::Audit, app, second, third, out, gate),
+        Command::Live => decide_on_board(rt, alloc, Beside::Live, app, second, third, out, gate),
+        Command::Native => finish(out, &native(alloc, app, second)),
+        Command::Cycles => finish(out, &cycles(alloc, app)),
+        Command::Why => unreachable!(),
     }
 }
 

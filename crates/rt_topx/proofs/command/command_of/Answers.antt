@@ -17,3 +17,7 @@ returns-in-native-clause-some c =
 
 pub returns-in-why-clause-some : goal.returns-in-why-clause-some
 returns-in-why-clause-some c = (_, with_verb 1 _ c.in-why.is-why c.in-why.len_at_least c.in-why.len_below)
+
+pub returns-in-cycles-clause-some : goal.returns-in-cycles-clause-some
+returns-in-cycles-clause-some c =
+    (_, with_verb 1 _ c.in-cycles.is-cycles c.in-cycles.len_at_least c.in-cycles.len_below)
