@@ -1,0 +1,19 @@
+-- The lemmas of this crate, a file each. The folders beside them have the proofs of functions, by file and name.
+pub mod Loops
+pub mod Ends
+pub mod Marks
+pub mod Trails
+pub mod MostOpen
+pub mod OnTheWay
+pub mod Grounds
+pub mod Mapped
+pub mod Looking
+pub mod Surveying
+pub mod Steps
+pub mod NextRows
+pub mod SoFar
+pub mod Orders
+pub mod Rows
+pub mod Taking
+pub mod Closing
+pub mod Covering

@@ -1,0 +1,5 @@
+-- What private contracts say.
+pub mod Ground
+pub mod Surveys
+pub mod Gathered
+pub mod Whole

@@ -1,0 +1,6 @@
+-- The definitions of this crate, a file each. Those in Inside are for private contracts alone.
+pub mod Ways
+pub mod Bounds
+pub mod Text
+pub mod Laws
+pub mod Inside

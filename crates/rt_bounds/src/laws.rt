@@ -1,0 +1,16 @@
+// The laws of bounds.
+
+ghost use Rattle.rt_bounds.specs.Laws.{BoundsReachEnds, LoopsHaveNoBound};
+
+/// Where a way comes to a loop there are ways of any number of steps, so no way is the longest.
+#[tactic(auto, using(crate::proofs::Loops::loops_have_no_bound))]
+pub fn loops_have_no_bound()
+    ensures { LoopsHaveNoBound }
+{}
+
+/// In a checked image a bound that is a number is that of a whole run: the longest way of `init` goes to where it
+/// serves interrupts, that of a handler to its return, and that of a section to its leaving.
+#[tactic(auto, using(crate::proofs::Ends::bounds_reach_ends))]
+pub fn bounds_reach_ends()
+    ensures { BoundsReachEnds }
+{}
