@@ -26,7 +26,7 @@ _rtic() {
     COMPREPLY=()
     if [[ $COMP_CWORD -eq 1 ]]; then
         local words='run check fmt build audit live soak demo deepest verify times pair'
-        [[ $program != rticx ]] || words='run audit live native why cycles'
+        [[ $program != rticx ]] || words='run audit live native why cycles bounds'
         [[ $word != -* ]] || words='-h --help --version'
         mapfile -t COMPREPLY < <(compgen -W "$words" -- "$word")
         return
@@ -35,7 +35,7 @@ _rtic() {
     rticx:run | rticx:live) endings=(rtic board script) ;;
     rticx:audit) endings=(rtic board trace) ;;
     rticx:native) endings=(rtic board) ;;
-    rticx:why) endings=(listing) ;;
+    rticx:why | rticx:bounds) endings=(listing) ;;
     rticx:cycles) endings=(rtic) ;;
     rticx:*) ;;
     *:check | *:fmt | *:build | *:soak | *:deepest) endings=(rtic) ;;

@@ -11,7 +11,7 @@ function __rtic_wants --argument-names ending
             set endings rtic board trace
         case 'rticx native'
             set endings rtic board
-        case 'rticx why'
+        case 'rticx why' 'rticx bounds'
             set endings listing
         case 'rticx cycles'
             set endings rtic
@@ -75,7 +75,8 @@ for row in \
         'live:run such a script with its devices in threads of their own' \
         'native:write an executable of an image for the ARMv7-M core of a board' \
         'why:judge as rtic verify does, and say where an image breaks a rule' \
-        'cycles:write what an image costs on a Cortex-M4, in cycles'
+        'cycles:write what an image costs on a Cortex-M4, in cycles' \
+        'bounds:write how many steps handlers and sections of an image can take, and its stack'
     set -l parts (string split -m 1 : $row)
     complete -c rticx -n __fish_is_first_token -a $parts[1] -d $parts[2]
 end

@@ -23,7 +23,7 @@ FRONT = 4_096
 APPLICATION, SECOND = MOST_BYTES, 268_435_456
 DONE, REFUSED, USAGE, BAD_LINE, NO, UNREAD = range(6)
 # the commands that judge the image of a listing
-JUDGING = ("verify", "rticx why")
+JUDGING = ("verify", "rticx why", "rticx bounds")
 
 
 class Explained:

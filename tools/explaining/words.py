@@ -14,6 +14,7 @@ COMMANDS_BESIDE = {
     "rticx run": ("APP", "BOARD", "SCRIPT"), "rticx audit": ("APP", "BOARD", "TRACE"),
     "rticx live": ("APP", "BOARD", "SCRIPT"), "rticx native": ("APP", "BOARD"), "rticx why": ("IMAGE",),
     "rticx cycles": ("APP",),
+    "rticx bounds": ("IMAGE",),
 }
 TAKEN = {**COMMANDS, **COMMANDS_BESIDE}
 RANGES = {"NUMBER": (0, (1 << 64) - 1), "COUNT": (1, 10_000), "WORKERS": (1, 64), "N": (1, 48)}

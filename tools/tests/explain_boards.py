@@ -134,7 +134,8 @@ LISTINGS = (
 )
 WORDS = (
     (["rticx"], "the commands are `rticx run APP BOARD SCRIPT`, `rticx audit APP BOARD TRACE`, "
-                "`rticx live APP BOARD SCRIPT`, `rticx native APP BOARD`, `rticx why IMAGE` and `rticx cycles APP`"),
+                "`rticx live APP BOARD SCRIPT`, `rticx native APP BOARD`, `rticx why IMAGE`, `rticx cycles APP` and "
+                "`rticx bounds IMAGE`"),
     (["rticx", "run", "app", "board"], "`rticx run` takes 3 files, APP, BOARD and SCRIPT, and 2 are here"),
     (["rticx", "rum", "app"], "a command of a similar name is `rticx run`"),
     (["run", "app", "board", "script"], "with a board it is the second program's: `rticx run app board script`"),

@@ -48,14 +48,15 @@ refused_beside app is board of_board r refused says = record {
   says = says;
 }
 
--- all commands but one begin with an application, and those with a third text go on with a board
-pub begins : (c : Command) → c ≢ command.Why → kinds_of c ≡ kind.Application ∷ drop 1 (kinds_of c)
-begins command.Run other = refl
-begins command.Audit other = refl
-begins command.Live other = refl
-begins command.Native other = refl
-begins command.Why other = absurd (other refl)
-begins command.Cycles other = refl
+-- all commands but two begin with an application, and those with a third text go on with a board
+pub begins : (c : Command) → c ≢ command.Why → c ≢ command.Bounds → kinds_of c ≡ kind.Application ∷ drop 1 (kinds_of c)
+begins command.Run why bounds = refl
+begins command.Audit why bounds = refl
+begins command.Live why bounds = refl
+begins command.Native why bounds = refl
+begins command.Why why bounds = absurd (why refl)
+begins command.Cycles why bounds = refl
+begins command.Bounds why bounds = absurd (bounds refl)
 
 pub goes_on : (b : Beside) → drop 1 (kinds_of (command_of b)) ≡ kind.Board ∷ drop 2 (kinds_of (command_of b))
 goes_on beside.Run = refl

@@ -42,6 +42,8 @@ use Rattle.rt_topx.specs.Kinds as kind
 use Rattle.rt_topx.specs.Refusal.{RefusesBoard, RefusesTarget, RefusesBeside, SaysBoard, SaysScript, SaysTrace}
 use Rattle.rt_topx.specs.Outputs.{IsAudited, Says, IsMadeNative}
 use Rattle.rt_topx.specs.Executable.{Misfits, IsMade}
+use Rattle.rt_topx.specs.Bounded as bounded
+use Rattle.rt_topx.specs.Bounded.{TellsBounds}
 use Rattle.rt_topx.specs.Explained.{Explains}
 use Rattle.rt_topx.specs.Explained as explained
 use Rattle.rt_topx.specs.Target.{target_of}
@@ -218,6 +220,12 @@ made_so text beside a b x y one other =
     (subst (λ p. IsMade p other.image beside other.setup b y) app other.made)))
 
 -- an answer says whether the image is checked
+bounded_so : (image : Image) (ended : Status) (bytes : List ℕ) → TellsBounds image ended bytes
+    → SaysWhether (IsChecked image) ended
+bounded_so image ended bytes (bounded.has_bounds b checked are) = inl (refl, checked)
+bounded_so image ended bytes (bounded.breaks rule least) =
+    inr (refl, λ (checked : IsChecked image). least.broken (checked least.rule))
+
 explained_so : (image : Image) (ended : Status) (bytes : List ℕ) → Explains image ended bytes
     → SaysWhether (IsChecked image) ended
 explained_so image ended bytes (explained.is_safe checked safe) = inl (refl, checked)
@@ -255,6 +263,7 @@ all_read command.Native t ended bytes w = (
 )
 all_read command.Why t ended bytes (image, is, explains) = ((image, is), tt)
 all_read command.Cycles t ended bytes (is, w) = ((w.app, w.of_text), tt)
+all_read command.Bounds t ended bytes (image, is, tells) = ((image, is), tt)
 
 one_output : (c : Command) (t : Inputs) (a b : Status) (x y : List ℕ) → IsOutputOf c t a x → IsOutputOf c t b y
     → AreDue a b
@@ -267,6 +276,10 @@ one_output command.Why t a b x y (image, is, one) (other, is', told) =
     (subst (λ i. SaysWhether (IsChecked i) b) (listings.read_one_way.one_image t.first other image is' is)
     (explained_so other b y told))
 one_output command.Cycles t a b x y w v = due_as status.Done a b tt w.0 v.0
+one_output command.Bounds t a b x y (image, is, one) (other, is', told) =
+    whether_once (IsChecked image) a b (bounded_so image a x one)
+    (subst (λ i. SaysWhether (IsChecked i) b) (listings.read_one_way.one_image t.first other image is' is)
+    (bounded_so other b y told))
 
 pub lawful : IsLawful rticx_program
 lawful = record {

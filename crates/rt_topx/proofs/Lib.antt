@@ -8,3 +8,4 @@ mod Regions
 mod Making
 mod Reading
 mod Explaining
+mod Bounding

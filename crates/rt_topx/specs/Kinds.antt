@@ -44,6 +44,7 @@ kinds_of command.Live = Application ∷ Board ∷ Script ∷ []
 kinds_of command.Native = Application ∷ Target ∷ []
 kinds_of command.Why = Listing ∷ []
 kinds_of command.Cycles = Application ∷ []
+kinds_of command.Bounds = Listing ∷ []
 
 -- the most bytes of a text of the kind
 abbrev pub most_bytes : TextKind → ℕ

@@ -4,6 +4,7 @@ pub mod Kinds
 pub mod Target
 pub mod Executable
 pub mod Explained
+pub mod Bounded
 pub mod Outputs
 pub mod Rticx
 pub mod Inside

@@ -11,9 +11,10 @@ NamesCommand words command.Live = (app board script : List ℕ) × (words ≡ co
 NamesCommand words command.Native = (app board : List ℕ) × (words ≡ codes "native" ∷ app ∷ board ∷ [])
 NamesCommand words command.Why = (image : List ℕ) × (words ≡ codes "why" ∷ image ∷ [])
 NamesCommand words command.Cycles = (app : List ℕ) × (words ≡ codes "cycles" ∷ app ∷ [])
+NamesCommand words command.Bounds = (image : List ℕ) × (words ≡ codes "bounds" ∷ image ∷ [])
 
 -- the line for all other words
 abbrev pub usage_line : List ℕ
 usage_line =
     codes "usage: rticx run APP BOARD SCRIPT | audit APP BOARD TRACE | live APP BOARD SCRIPT | native APP BOARD"
-    ++ codes " | why IMAGE | cycles APP\n"
+    ++ codes " | why IMAGE | cycles APP | bounds IMAGE\n"

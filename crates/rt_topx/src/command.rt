@@ -21,6 +21,8 @@ pub enum Command {
     Why,
     /// `cycles APP`
     Cycles,
+    /// `bounds IMAGE`
+    Bounds,
 }
 
 /// The command that the words name, None where they name none.
@@ -35,6 +37,7 @@ pub(crate) fn command_of(words: &[&str]) -> Option<Command>
         ["native", _, _] => Some(Command::Native),
         ["why", _] => Some(Command::Why),
         ["cycles", _] => Some(Command::Cycles),
+        ["bounds", _] => Some(Command::Bounds),
         _ => None,
     }
 }

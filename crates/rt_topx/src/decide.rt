@@ -16,6 +16,7 @@ ghost use Rattle.rt_topx.specs.Rticx.{rticx_program};
 
 use crate::audit::audit;
 use crate::boards::read_board_of;
+use crate::bounds::bounds;
 use crate::command::Command;
 use crate::cycles::cycles;
 use crate::live::live;
@@ -61,6 +62,7 @@ pub(crate) fn decide<
 {
     match command {
         Command::Why => finish(out, &why(alloc, first)),
+        Command::Bounds => finish(out, &bounds(alloc, first)),
         other => match read_accepted(alloc, first) {
             Ok(app) => decide_of(rt, alloc, other, &app, second, third, out, gate),
             Err(reply) => finish(out, &reply),
@@ -88,7 +90,8 @@ fn decide_of<R: Threads + Sync, B: Source, C: Source, K: Sink + Send, G: Gate + 
     gate: &G,
 ) -> Status
     requires accepted { IsAccepted (app_of app.now) }
-    requires of_application { command ≢ Command.Why }
+    requires why { command ≢ Command.Why }
+    requires bounds { command ≢ Command.Bounds }
     ensures { (first : List ℕ) → IsApplication first (app_of app.now) →
         let b = given_by B.past second.old second.new in
         let c = given_by C.past third.old third.new in
@@ -103,7 +106,7 @@ fn decide_of<R: Threads + Sync, B: Source, C: Source, K: Sink + Send, G: Gate + 
         Command::Live => decide_on_board(rt, alloc, Beside::Live, app, second, third, out, gate),
         Command::Native => finish(out, &native(alloc, app, second)),
         Command::Cycles => finish(out, &cycles(alloc, app)),
-        Command::Why => unreachable!(),
+        Command::Why | Command::Bounds => unreachable!(),
     }
 }
 

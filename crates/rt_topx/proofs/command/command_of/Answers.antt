@@ -21,3 +21,7 @@ returns-in-why-clause-some c = (_, with_verb 1 _ c.in-why.is-why c.in-why.len_at
 pub returns-in-cycles-clause-some : goal.returns-in-cycles-clause-some
 returns-in-cycles-clause-some c =
     (_, with_verb 1 _ c.in-cycles.is-cycles c.in-cycles.len_at_least c.in-cycles.len_below)
+
+pub returns-in-bounds-clause-some : goal.returns-in-bounds-clause-some
+returns-in-bounds-clause-some c =
+    (_, with_verb 1 _ c.in-bounds.is-bounds c.in-bounds.len_at_least c.in-bounds.len_below)

@@ -12,17 +12,24 @@ returns-in-Why g c =
     rw c.in-Why.is (finished (one_answers (kept, (kept, tt)) (c.why.ensures second third)) c.finish.ensures.finished
     c.finish.ensures.heard)
 
+pub returns-in-Bounds : goal.returns-in-Bounds
+returns-in-Bounds g c =
+    let second = given_by g.B.Source.past c.args.second.now c.args.second.now in
+    let third = given_by g.C.Source.past c.args.third.now c.args.third.now in
+    rw c.in-Bounds.is (finished (one_answers (kept, (kept, tt)) (c.bounds.ensures second third))
+    c.finish-in-Bounds.ensures.finished c.finish-in-Bounds.ensures.heard)
+
 pub returns-in-Ok : goal.returns-in-Ok
 returns-in-Ok g c =
     let read = c.in-Ok.ensures.reads in
-    let kinds = begins c.args.command c.in_default.not-Why in
+    let kinds = begins c.args.command c.in_default.not-Why c.in_default.not-Bounds in
     rw kinds (conducts_behind read.0 (app_of c.in-Ok.app, read.1) (c.decide_of.ensures _ read.1))
 
 pub returns-in-Err : goal.returns-in-Err
 returns-in-Err g c =
     let second = given_by g.B.Source.past c.args.second.now c.args.second.now in
     let third = given_by g.C.Source.past c.args.third.now c.args.third.now in
-    let kinds = begins c.args.command c.in_default.not-Why in
+    let kinds = begins c.args.command c.in_default.not-Why c.in_default.not-Bounds in
     rw kinds (finished (refused_answers (kept, (kept, tt))
     (not_application (inputs _ second third) _ _ _ c.in-Err.ensures.reads)) c.finish-in-Err.ensures.finished
     c.finish-in-Err.ensures.heard)
