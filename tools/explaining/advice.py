@@ -133,4 +133,4 @@ def signed(syntax, size, put, fact):
 
 def advised_line(takes, line):
     """What is said of a line in the place of one that is of no form, where the program takes it; else None."""
-    return f"with `{line}` in its place the line is read" if takes(line) else None
+    return f"with `{line}` as the whole line it is read" if takes(line) else None

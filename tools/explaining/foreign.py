@@ -3,7 +3,7 @@ from .habits import BLOCKS, BY_NAME, CALL, CONTEXT, ENDED, HEXADECIMAL, LATER, L
 from .habits import LETTERS, NO_DELAY, NO_MACROS, NO_PINS, NO_TEXTS, NO_TYPES, NO_WFI, ONE_FILE, ONE_NUMBER, OPERAND
 from .habits import NUMERAL, OPPOSITE, OTHER_NAME, QUOTABLE, TYPE, UNITS, UNQUOTED
 from .marks import BEGINS, COMMENT
-from .trials import is_joined, is_last, is_new, is_prefix, is_requested, is_strange, is_task
+from .trials import is_joined, is_last, is_limits, is_new, is_prefix, is_requested, is_script, is_strange, is_task
 
 NO_NOT = "there is no `!`: `(a == 0)` is 1 where a is 0, and `(a ^ 0xffffffff)` has all bits of a changed"
 # of a condition alone is it known that no bits are meant
@@ -25,6 +25,10 @@ FOREIGN = [
     (r"", r"# define\b", "there are no constants: a number is written where it is used"),
     (rf"{OPERAND}$", r"[#$] (?P<x>(?=\d*[A-Fa-f])[0-9A-Fa-f]{1,8})\b", HEXADECIMAL, is_joined),
     (rf"{OPERAND}$", r"[#$] \d+\b", NUMERAL),
+    (r"^$", r"#", "an application begins with `app`; here are lines of a script, which comes behind its application",
+     is_script),
+    (r"^$", r"#", "an application begins with `app`; here are lines of limits, which come behind their application",
+     is_limits),
     (r"(?:^|[;{},])$", r"#", COMMENT),
     (r"\b16$", r"# (?P<x>\d*)(?: ?(?P<y>[A-Fa-f]\w*))?", HEXADECIMAL.replace("<x>", "<x><y>")),
     (r"", r"' h(?P<x>[0-9A-Fa-f]+)\b", HEXADECIMAL),

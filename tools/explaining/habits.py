@@ -25,6 +25,10 @@ CONTEXT = r"(?:cx|ctx|c|_cx|_c|self|context)"
 NO_TYPES = "there are no types, every value is a number of 32 bits => ~: <t>"
 NO_CONTEXT = "bodies get no context: resources are used by their names"
 NO_LOOP = "there is no `<w>`: a loop is `for i in 0..8 { .. }`, and the body of `idle` runs again and again"
+NO_WHILE = (
+    "there is no `<w>`: a loop is `for i in 0..8 { .. }`, between two numbers, with an `if` in it for a condition, and "
+    "the body of `idle` runs again and again"
+)
 # where a name comes, and no value
 QUOTABLE = (
     r"(?:\bbinds =|\b(?:shared|local|dispatchers) = \[(?: [^\]]*,)?|\b(?:pend|lock|spawn|app|task|with)"
@@ -132,6 +136,7 @@ OTHER_TEXTS = [
     (r"^$", r"\d+ \w", "an application begins with `app`; a line of a trace begins with a number"),
     (r"^$", r"(?P<w>step|tick|pend|device)\b",
      "an application begins with `app`; a line of a script begins with `<w>`"),
+    (r"^$", r"every\b", "an application begins with `app`; a line of limits begins with `every`"),
 ]
 
 SYNTAX = [
@@ -302,7 +307,8 @@ SYNTAX = [
     (r"@ (?P<v>\w+)$", r"- > \w+", NO_PINS, is_strange),
     (r"\bpend \w+$", r",", "a `pend` names one interrupt"),
     (r"\bemit (?:\( )?[^;{}(]*$", r", (?!\w+ =)", "an `emit` shows one number"),
-    (r"(?:^|@ )(?P<w>while|loop|do|until|repeat)$", r"[\w({]", NO_LOOP),
+    (r"(?:^|@ )(?P<w>while|until)$", r"[\w({]", NO_WHILE),
+    (r"(?:^|@ )(?P<w>loop|do|repeat)$", r"[\w({]", NO_LOOP),
     (r"\bfor$", r"\(", "a loop is `for i in 0..8 { .. }`"),
     (r"\bfor \w+$", r"=", "a loop is `for i in 0..8 { .. }`"),
     (r"\.\.$", r"=", "there is no `..=`: the second bound is one more than the last turn's number"),
@@ -453,6 +459,7 @@ SYNTAX = [
      "how many messages may be out is an option: `task t(capacity = 4) with x { .. }`"),
     (r"\b(?P<w>spawn_after|reschedule_after)$", r"\[", "the delay goes in parentheses: `<w>(100) ..`"),
     (r"[A-Za-z_]\w*$", r"\[ \d", "a resource or a variable is one number, and there are no arrays"),
+    (rf"@ {OTHER_NAME}$", r"\[", "a resource or a variable is one number, and there are no arrays"),
     (r"[;}] (?P<w>shared|local|interrupts)$", r"[\[(]", "rows go in braces: `<w> { .. }`"),
     (r"\b(?P<w>shared|local|dispatchers)$", r"\[", "a list comes after `=` => = ["),
     (r"\b(?P<w>shared|local|interrupts)$", r"= \{", "no `=` comes before the braces: `<w> { .. }`"),

@@ -45,9 +45,11 @@ def bad_line(said, words, lines, table):
         said.helps = ["it is a number of core steps, and has no unit"]
     elif int(words[2]) == 0:
         said.at(words[2], "requests lie at least 1 core step apart")
+        said.helps = ["an interrupt that is not requested has no line"]
     else:
         first = next(at for at, line in enumerate(lines, 1) if line.split()[:2] == words[:2])
         said.at(words[1], f"`{words[1]}` has a limit already, in line {first}")
+        said.helps = ["an interrupt has one line at most"]
     return said
 
 

@@ -161,6 +161,8 @@ def left_out(syntax, found):
     if syntax.token.text == "=" and "a name" in found and len(found) > 1 and "a number" not in found:
         return "before `=` comes a name"
     if {"a name", "a number", "("} <= found and "let" not in found:
+        if sent := re.search(r"\b(cancel|reschedule_after) (?:\( [^;{}]* \) )?(\w+) \($", syntax.before):
+            return f"in the parentheses of a `{sent[1]}` comes the handle of the message, which its `spawn_after` gave"
         return f"after `{before}` comes a value: a number, a name or `( .. )`" if syntax.token.text else None
     if found == {"a number"}:
         return f"after `{before}` comes a number"

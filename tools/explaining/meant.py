@@ -22,7 +22,10 @@ MOST_WORDS, NEARLY, FEW = 8, 0.7, 3
 EXACT, CLEANED, NEAR, OTHER_ORDER, LEFT_OUT, PUT_IN = 0, 1, 2, 2, 1, 3
 TOO_FAR = 6
 # a number with a sign, a moment, and a time, of which nobody knows how many steps it is
-SENSELESS = re.compile(r"-\d|\b(?:at|after|from|until) \d|\d ?(?:[num]?s|secs?|seconds?|milli\w*|micros?|minutes?)\b")
+SENSELESS = re.compile(
+    r"-\d|\b(?:at|after|from|until) \d|\d ?(?:[num]?s|secs?|seconds?|milli\w*|micros?|minutes?)\b"
+    r"|\bpend\b.*(?:[+@] ?|\b(?:in|within|by|on|since|for|per) )\d"
+)
 
 
 def plain(word):

@@ -14,6 +14,7 @@ FORMS = {
 SECTIONS = ": X is a shared resource, `free.T`, `ready.P` with P below 256, or `timer.0`"
 MEANING = {"take": ", with the bytes of stack in use after the entry", "enter": SECTIONS, "leave": SECTIONS}
 UNITS = "a number has no unit: `step` counts core steps, and `tick` ticks of the timer"
+IN_FRONT = "a line has no time in front: `step N` lets N core steps pass, and `pend I N` requests I N times"
 HASH = "a comment begins with `#`, and has a line of its own"
 EVENTS, SCRIPT_BYTES, LARGEST = 1_000_000, 1_048_576, 4_294_967_295
 MOST_DIGITS = 9
@@ -70,8 +71,8 @@ def script_line(app, number, source, lines, size, table, takes, is_beside=False)
     elif number == 2:
         forms = table.mending("script beside" if is_beside else "script 2")
         bad_line(app, said, words, forms)
-        # a number before a name may be a moment, and one after `every` a distance
-        is_moment = NUMERAL.fullmatch(words[0] if words else "") and not set(words) & set(WORDS)
+        # a number in front may be a moment, and one after `every` a distance
+        is_moment = NUMERAL.fullmatch(words[0] if words else "")
         if not is_moment and not {"every", "each", "per"} & set(words):
             of_lines = LINES if re.search("dev", source, re.IGNORECASE) else LINES[:OF_THE_CORE]
             write(said, of_lines, {"I": [row[0].text for row in app.interrupts]}, takes)
@@ -124,8 +125,10 @@ def bad_line(app, said, words, forms):
             said.helps = ["a blank comes between two words", forms]
         elif words[0] in ("repeat", "loop", "for", "while", "times", "end", "done"):
             said.helps = ["a script has no loops: `pend I N` requests N times, and `step N` takes N steps"]
+        elif words[0].lower() in ("wait", "sleep", "delay", "pause", "run", "advance"):
+            said.helps = ["a line `step N` lets N core steps pass, and `tick N` lets N ticks of the clock come", forms]
         elif (NUMERAL.fullmatch(words[0]) or words[0].lower() in TIMES) and any(word in WORDS for word in words[1:]):
-            said.helps = ["a line has no time in front; a line `step N` lets N core steps pass", forms]
+            said.helps = [IN_FRONT, forms]
         elif words[0].startswith(("spawn", "cancel", "reschedule", "emit")):
             said.helps = ["a script requests interrupts alone: `pend I`, and the task that binds I sends the message"]
         else:

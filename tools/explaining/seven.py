@@ -224,7 +224,7 @@ def masked(point, instr):
     if instr.word == "raise":
         value = int(instr.operands[1])
         if value == 0:
-            return "a `raise` to 0 masks nothing", [], []
+            return "a `raise` to 0 masks nothing", [f"a `raise` is to a value below {point.execution}, from 1 on"], []
         if value >= point.execution:
             return (f"this raises to {value}, and the execution priority is {point.execution} here already",
                     [f"a `raise` is to a value below {point.execution}", ON_MARK],

@@ -248,6 +248,7 @@ def missing(mending, syntax, found):
         line, between = place_of(syntax.text, last.at)[0], syntax.text[last.end : syntax.at]
         comment = between.split("\n", 1)[0].strip().startswith("//") and ";" in between
         hidden = "; what follows `//` is a comment" * comment
+        hidden += ", and a quotient is `a / b`" * bool(re.search(r"// *[\w( ][^\n;]*; *(?:\n|$)", between))
         if mending.takes(";", TAKEN):
             return f"a `;` is missing after `{last.text}` in line {line}{hidden}"
         return f"a statement or declaration ends with `;`, and none comes after `{last.text}` in line {line}{hidden}"

@@ -31,6 +31,19 @@ class Trials:
         return self.can and self.program.ask("check", self.program.file("tried", text))[0] == 0
 
 
+def begins_with(words):
+    """The proof of a sentence on a text of another kind: its first line but for blank ones and `#` begins so."""
+
+    def holds(syntax, groups, count):
+        lines = (line for line in syntax.text.splitlines() if line.strip() and not line.startswith("#"))
+        return next(lines, "").split(" ")[0] in words
+
+    return holds
+
+
+is_script, is_limits = begins_with(("step", "tick", "pend", "device")), begins_with(("every",))
+
+
 def is_prefix(syntax, groups, count):
     """The proof of a sentence on a sign before a name: no blank is between the two."""
     return len(syntax.rest) > 1 and syntax.rest[1].at == syntax.rest[0].end
