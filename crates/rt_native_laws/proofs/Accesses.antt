@@ -133,6 +133,7 @@ module _ (at : Outside) (bottom : ℕ) (img : Image) (places : List ℕ) (p : Pr
       × RunsInOne p code (m.register 13) (frames_end c m) (last.register 13)
       (frames_end (with_slot at bottom img places p i c m here d v) last) m last
       × Becomes at bottom img places p c m (with_slot at bottom img places p i c m here d v) None last
+      × (last.is_unsettled ≡ m.is_unsettled)
   loads_slot code front commit d v register flags from to parts l runs o commits span =
       let loaded : ℕ → ℕ = λ k. if k == 0 then v else register k in
       let e = slot_ends at bottom img places p i c m here d v l loaded flags to (same 0 v (register 0))
@@ -154,6 +155,7 @@ module _ (at : Outside) (bottom : ℕ) (img : Image) (places : List ℕ) (p : Pr
           completes = runs_within p (m.register 13) (frames_end c m) _ _ (write_slot 0 d) _ _ sp top e.1;
         },
         e.3,
+        e.4,
       )
 
   -- the core with a cell written, at the next instruction
@@ -262,7 +264,7 @@ load_is_done d k at bottom img places p c m here =
       does = loading_is (instruction.Load 0 1 0) 0 _ exact m1 to mem.aligned
           ∙ ap (λ (v : ℕ). Some (moved m (λ r. if r == 0 then v else g.register r) g.flags (ps.middle + 2))) value;
     }) ps.second.1 in
-    (found.0, found.1, found.2, λ e. absurd (cc)))
+    (found.0, found.1, found.2, λ e. absurd (cc), λ r e. found.3 ∙ e))
 
 pub clock_is_done : ClockIsDone
 unfolding load_word
@@ -291,6 +293,7 @@ clock_is_done d at bottom img places p c m here =
       found.1,
       unseen at bottom img places p i c m here _ (Some (what.Clock c.time)) found.0 refl found.2,
       λ e. absurd (cc),
+      λ r e. found.3 ∙ e,
     ))
 
 pub load_at_is_done : LoadAtIsDone
@@ -322,7 +325,7 @@ load_at_is_done d k s at bottom img places p c m here =
       does = loading_is (instruction.LoadIndexed 0 1 0) 0 _ exact m1 to mem.aligned
           ∙ ap (λ (v : ℕ). Some (moved m (λ x. if x == 0 then v else r.register x) r.flags (r.middle + 4))) value;
     }) ready.1.1 in
-    (found.0, found.1, found.2, λ e. absurd (cc)))
+    (found.0, found.1, found.2, λ e. absurd (cc), λ r e. found.3 ∙ e))
 
 -- a store: the commit is the last of its sequence
 pub store_is_done : StoreIsDone
@@ -363,6 +366,7 @@ store_is_done k s at bottom img places p c m here =
       },
       cell_stands at bottom img places p i c m here k v there r.register r.flags r.others,
       λ e. absurd (cc),
+      λ r e. e,
     ))
 
 pub store_at_is_done : StoreAtIsDone
@@ -432,6 +436,7 @@ store_at_is_done k s from at bottom img places p c m here =
           (λ k b. h.others k (λ x. omega arith) (λ x. omega arith) ∙ (g.others k (λ x. omega arith) (λ x. omega arith)
           ∙ f.others k (λ x. omega arith) (λ x. omega arith))),
       λ e. absurd (cc),
+      λ r e. e,
     ))
 
 -- what a store does that is not one to the port
@@ -524,4 +529,5 @@ emit_is_done s at bottom img places p c m here =
         seen = refl;
       },
       λ e. absurd (cc),
+      λ r e. e,
     ))

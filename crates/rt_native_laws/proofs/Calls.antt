@@ -477,7 +477,7 @@ by_tests img c true false after Holds h = tt
 by_tests img c false b after Holds h = tt
 
 -- no called body calls
-is_free : (o : Option (List ℕ)) → is_none o ≡ true → o ≡ None
+pub is_free : (o : Option (List ℕ)) → is_none o ≡ true → o ≡ None
 is_free None h = refl
 is_free (Some ws) h = absurd (cc)
 

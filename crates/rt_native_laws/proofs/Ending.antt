@@ -176,6 +176,7 @@ module _ (at : Outside) (bottom : ℕ) (img : Image) (places : List ℕ) (p : Pr
       × RunsPrivately p (m.register 13) (frames_end c m) (write_slot 0 d) (moved m register flags from) last
       × (last.register 13 ≡ m.register 13)
       × Becomes at bottom img places p c m (with_slot d v) None last
+      × (last.is_unsettled ≡ m.is_unsettled)
   slot_ends d v l register flags from r0 o code =
       let sp : register 13 ≡ m.register 13 = o 13 (omega arith) in
       let to = slice_index places (suc c.processor.address) in
@@ -190,6 +191,7 @@ module _ (at : Outside) (bottom : ℕ) (img : Image) (places : List ℕ) (p : Pr
             refl refl here.stands.base_priority here.stands.is_masked
             (λ k g. w.others k (λ e. omega arith) ∙ o k g)
             (λ k. puts_written d v (register 13) sp k (register 0) r0),
+        refl,
       )
 
   -- the core at another instruction

@@ -1,7 +1,8 @@
 -- `raise`, `restore`, `mask`, `unmask`, `serve`, `post` and `noalarm`.
 use Rattle.std.proofs.Common.{◌≡◌, ◌∙◌, ℕ, ◌+◌, ◌*◌, ◌%◌, ◌^◌, ◌≤◌, Bool, true, false}
 use Rattle.std.proofs.Common.{[], ◌∷◌, ◌++◌, Option, None, sym, refl, ap, arith}
-use Rattle.std.specs.Prelude.{if◌then◌else◌, slice_index, ◌==◌, nat_le}
+use Rattle.std.proofs.lemmas.Bool.Decides.{nat_tests}
+use Rattle.std.specs.Prelude.{if◌then◌else◌, slice_index, ◌==◌, ◌||◌, nat_le, nat_lt, min}
 use Rattle.rt_code.specs.Effect.{next, unmask}
 use Rattle.rt_code.specs.Image.{Image}
 use Rattle.rt_code.specs.Processor.{Traps, Leads}
@@ -13,6 +14,7 @@ use Rattle.rt_core.specs.Stepping.{go_on}
 use Rattle.rt_ids.specs.Operation.{number_of}
 use Rattle.rt_native.specs.Pieces.{number, read_slot, write_slot}
 use Rattle.rt_native.specs.Sequences.{raise, restore, mask, serve}
+use Rattle.rt_thumb.specs.Exceptions.{least_value}
 use Rattle.rt_thumb.specs.declared.instruction.Instruction.TheVariants as instruction
 use Rattle.rt_thumb.specs.declared.instruction.Special.TheVariants as special
 use Rattle.rt_trace.specs.declared.item.What.{What}
@@ -51,6 +53,7 @@ serve_is_done at bottom img places p c m here =
       masks_stand at bottom img places p instr.Serve c m here c.processor.basepri false n2 refl (sym here.code.1.1)
           here.stands.base_priority refl (λ k h. refl),
       λ e. refl,
+      λ r e. refl,
     ))
 
 pub restore_is_done : RestoreIsDone
@@ -88,6 +91,7 @@ restore_is_done s at bottom img places p c m here =
       masks_stand at bottom img places p i c m here v c.processor.primask n2 refl (sym ps.second.1.1) priority
           here.stands.is_masked (λ k h. g.others k (λ x. omega arith) (λ x. omega arith)),
       λ e. refl,
+      λ r e. refl,
     ))
 
 chosen : (img : Image) (c : Core) (b : Bool) (v : ℕ) (Holds : Core → Option What → Type 0)
@@ -148,7 +152,32 @@ unmask_is_done s at bottom img places p c m here =
           here.stands.base_priority (ap (λ (x : ℕ). x % 2 == 1) r0 ∙ is_one v low)
           (λ k h. g.others k (λ x. omega arith) (λ x. omega arith)),
       λ e. refl,
+      λ r e. refl,
     )))
+
+-- what BASEPRI and PRIMASK hold the execution priority to
+abbrev base_of : ℕ → ℕ
+base_of v = if v == 0 then 256 else v
+
+abbrev mask_of : Bool → ℕ
+mask_of b = if b then 0 else 256
+
+-- a priority that is no lower lets nothing be taken
+no_later : (a b c k : ℕ) → c ≤ b → nat_lt (min a (min b k)) (min a (min c k)) ≡ false
+no_later a b c k h = grind (arith, nat_tests)
+
+no_less : (a b k : ℕ) → nat_lt (min a (min b k)) (min a (min b 0)) ≡ false
+no_less a b k = grind (arith, nat_tests)
+
+stays : (a b k : ℕ) (unsettled : Bool) → unsettled ≡ false
+    → (unsettled || nat_lt (min a (min b k)) (min a (min b 0))) ≡ false
+stays a b k false e = no_less a b k
+stays a b k true e = absurd (cc)
+
+rises : (a k v w : ℕ) (unsettled : Bool) → base_of w ≤ base_of v → unsettled ≡ false
+    → (unsettled || nat_lt (min a (min (base_of v) k)) (min a (min (base_of w) k))) ≡ false
+rises a k v w false h e = no_later a (base_of v) (base_of w) k h
+rises a k v w true h e = absurd (cc)
 
 -- a slot gets the mask, then the mask is written
 pub mask_is_done : MaskIsDone
@@ -187,6 +216,7 @@ mask_is_done d at bottom img places p c m here =
           here.stands.base_priority refl (λ k g. w.others k (λ x. omega arith) ∙ other k 0 _ _ (λ x. omega arith))
           (λ k. ap (λ (x : Bool). written m.memory (slot_at m d) (number_of x) k) here.stands.is_masked),
       λ e. absurd (cc),
+      λ r e. stays (least_value m2 m2.active) (base_of m.base_priority) (mask_of m.is_masked) m.is_unsettled e,
     ))
 
 pub raise_is_done : RaiseIsDone
@@ -231,4 +261,6 @@ raise_is_done d v at bottom img places p c m here =
           ∙ (w.others k (λ x. omega arith) ∙ other k 0 _ _ (λ x. omega arith)))
           (λ k. ap (λ (x : ℕ). written m.memory (slot_at m d) x k) here.stands.base_priority),
       λ e. absurd (cc),
+      λ r e. rises (least_value m3 m3.active) (mask_of m.is_masked) m.base_priority (g.register 1 % 2 ^ 8)
+          m.is_unsettled (omega (arith, ap base_of priority, ap base_of here.stands.base_priority, r)) e,
     ))

@@ -27,7 +27,7 @@ module _ (at : Outside) (bottom : ℕ) (places : List ℕ) (c : Core) (m : Machi
     (now : ℕ) (alarm : Option Alarm) (requests : List Bool) (cells : List ℕ) (memory : ℕ → ℕ) (pending : ℕ → Bool)
     (unsettled : Bool) (seen : List Seen)
     (same : (k : ℕ) → m.register 13 ≤ 4 * k → 4 * k < frames_end c m → memory k ≡ m.memory k) where
-  abbrev other_core : Core
+  abbrev pub other_core : Core
   other_core = record c {
     time = now;
     alarm = alarm;
@@ -35,10 +35,10 @@ module _ (at : Outside) (bottom : ℕ) (places : List ℕ) (c : Core) (m : Machi
     processor = record c.processor { cells = cells };
   }
 
-  abbrev other : Machine
+  abbrev pub other : Machine
   other = record m { memory = memory; is_pending = pending; is_unsettled = unsettled; seen = seen }
 
-  stands_again : LieFrom other at.cells cells → word_at other at.time ≡ now
+  pub stands_again : LieFrom other at.cells cells → word_at other at.time ≡ now
       → word_at other (at.time + 4) ≡ alarm_word alarm
       → ((irq : ℕ) → irq < length requests → pending (external irq) ≡ slice_index_or requests irq false)
       → StandsFor at bottom places other_core other
@@ -67,25 +67,25 @@ side_by floor top k true true h l z = inl (at_most floor (4 * k) h, is_less (4 *
 side_by floor top k true false h l z = inr (inr (not_less (4 * k) top l))
 side_by floor top k false c h l z = inr (inl (omega (arith, not_at_most floor (4 * k) h, z)))
 
-either_side : (floor top k : ℕ) → floor % 4 ≡ 0
+pub either_side : (floor top k : ℕ) → floor % 4 ≡ 0
     → ((floor ≤ 4 * k) × (4 * k < top)) ⊎ ((4 * k + 4 ≤ floor) ⊎ (top ≤ 4 * k))
 either_side floor top k z = side_by floor top k (nat_le floor (4 * k)) (nat_lt (4 * k) top) refl refl z
 
 -- a word of one memory in a part of the stack, and of another outside
-abbrev mixed : ℕ → ℕ → (ℕ → ℕ) → (ℕ → ℕ) → ℕ → ℕ
+abbrev pub mixed : ℕ → ℕ → (ℕ → ℕ) → (ℕ → ℕ) → ℕ → ℕ
 mixed floor top own others k = if nat_le floor (4 * k) && nat_lt (4 * k) top then own k else others k
 
-mixed_inside : (floor top : ℕ) (own others : ℕ → ℕ) (k : ℕ) → floor ≤ 4 * k → 4 * k < top
+pub mixed_inside : (floor top : ℕ) (own others : ℕ → ℕ) (k : ℕ) → floor ≤ 4 * k → 4 * k < top
     → mixed floor top own others k ≡ own k
 mixed_inside floor top own others k h l = grind (arith, nat_tests)
 
-mixed_outside : (floor top : ℕ) (own others : ℕ → ℕ) (k : ℕ) → (4 * k + 4 ≤ floor) ⊎ (top ≤ 4 * k)
+pub mixed_outside : (floor top : ℕ) (own others : ℕ → ℕ) (k : ℕ) → (4 * k + 4 ≤ floor) ⊎ (top ≤ 4 * k)
     → mixed floor top own others k ≡ others k
 mixed_outside floor top own others k h =
     ⊎_elim (λ (x : 4 * k + 4 ≤ floor). grind (arith, nat_tests)) (λ (x : top ≤ 4 * k). grind (arith, nat_tests)) h
 
 -- the job's part of the stack lies apart from the port
-apart_of : (at : Outside) (bottom floor top count : ℕ) (p : Program) → IsLaidOut at bottom count → p.port ≡ at.port
+pub apart_of : (at : Outside) (bottom floor top count : ℕ) (p : Program) → IsLaidOut at bottom count → p.port ≡ at.port
     → bottom ≤ floor → top ≤ at.cells → IsApart p floor top
 apart_of at bottom floor top count p laid port low high = record {
   memory = omega (arith, laid.time, laid.in_memory, high);
@@ -157,6 +157,7 @@ module _ (at : Outside) (bottom : ℕ) (img : Image) (places : List ℕ) (p : Pr
       (λ irq l. ap (λ (y : Machine). y.is_pending (external irq)) own.rest ∙ o.pending irq l) in
       record {
         left = x.left;
+        steady = x.steady;
         last = again;
         stack = same_stack ∙ x.stack;
         completes = runs_within p floor top (x.last.register 13) top x.left n again (sym x.stack) refl
@@ -307,6 +308,7 @@ module _ (at : Outside) (bottom : ℕ) (img : Image) (places : List ℕ) (p : Pr
         ends = x.ends;
         settled = x.settled;
         passed = x.passed;
+        next = x.next;
         left = x.left;
         parts = x.parts;
         reached = run.0;

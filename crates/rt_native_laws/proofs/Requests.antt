@@ -147,6 +147,7 @@ post_is_done irq small at bottom img places p c m here =
         seen = refl;
       },
       λ e. refl,
+      λ r e. refl,
     ))
 
 -- the alarm's word is written
@@ -259,4 +260,5 @@ no_alarm_is_done at bottom img places p c m here =
           (written m.memory a (2 ^ 32 - 1)) m2.flags (slice_index places (suc c.processor.address)) refl
           (λ r h. other r 0 _ _ (λ x. omega arith) ∙ g.others r (λ x. omega arith) (λ x. omega arith)) (λ k. refl)),
       λ e. absurd (cc),
+      λ r e. e,
     ))

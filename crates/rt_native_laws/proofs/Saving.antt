@@ -111,7 +111,7 @@ module _ (e : ℕ) (m : Machine) (can : CanBeInterrupted m) where
   memory_is k =
       ap (λ (x : ℕ). (by_padding x).memory k) unpadded ∙ ap (λ (x : ℕ). (with_words x saved m).memory k) no_more
 
-  stack_is : (entered e m).register 13 ≡ frame
+  pub stack_is : (entered e m).register 13 ≡ frame
   stack_is = ap (λ (x : ℕ). r 13 - 32 - 4 * x) unpadded ∙ no_more
 
   whole : frame + 32 ≡ r 13

@@ -13,6 +13,7 @@ use Rattle.rt_code.specs.declared.instr.Instr.{Instr}
 use Rattle.rt_code.specs.declared.instr.Instr.TheVariants as instr
 use Rattle.rt_core.specs.Core.{Core}
 use Rattle.rt_core.specs.Outcome.{Outcome, Trapped, Done}
+use Rattle.rt_core.specs.Priority.{base_value}
 use Rattle.rt_core.specs.Stepping.{go_on}
 use Rattle.rt_native.specs.Frames.{handler_words, body_words}
 use Rattle.rt_native.specs.Pieces.{close_frame}
@@ -86,6 +87,12 @@ settles instr.Serve = true
 settles (instr.Post irq) = true
 settles i = false
 
+-- `raise` lets no interrupt be taken, which its code would not settle: it is to a priority that is no lower, thus to a
+-- value that is no greater, where 0 stands for none.
+abbrev pub RaisesOnly : Instr → Core → Type 0
+RaisesOnly (instr.Raise d v) c = base_value v ≤ base_value c.processor.basepri
+RaisesOnly i c = ⊤
+
 -- what lies outside, the lowest address of the stack, an image, the places of its code, and a program
 module _ (at : Outside) (bottom : ℕ) (img : Image) (places : List ℕ) (p : Program) where
   -- the machine code of an instruction where a core is
@@ -123,13 +130,14 @@ module _ (at : Outside) (bottom : ℕ) (img : Image) (places : List ℕ) (p : Pr
       (last : Machine) × RunsPrivately p (m.register 13) (frames_end c m) code m last × Becomes c m after said last
 
   -- From one state the code of an instruction leads to another that stands for the core after it, and others see of it
-  -- one machine instruction. BASEPRI has eight bits.
+  -- one machine instruction. BASEPRI has eight bits. Behind it it is settled whether an interrupt is taken.
   abbrev pub LeadsInOne : Instr → Core → Machine → Core → Option What → Type 0
   LeadsInOne i c m after said =
       after.processor.basepri < 2 ^ 8 → (last : Machine)
       × RunsInOne p (machine_code i c) (m.register 13) (frames_end c m) (last.register 13) (frames_end after last) m
       last
       × Becomes c m after said last × (settles i ≡ true → last.is_unsettled ≡ false)
+      × (RaisesOnly i c → m.is_unsettled ≡ false → last.is_unsettled ≡ false)
 
   -- The sequence of an instruction does what the instruction does, wherever it does not trap.
   abbrev pub DoesPrivately : Instr → Type 0

@@ -7,3 +7,8 @@ pub mod Saving
 pub mod Ticking
 pub mod Laws
 pub mod Phases
+pub mod Going
+pub mod Waiting
+pub mod Tail
+pub mod Inputs
+pub mod Loading

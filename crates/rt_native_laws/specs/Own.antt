@@ -5,6 +5,7 @@
 -- Masks a job may read for itself, since whoever interrupts it leaves them as they were; writing one is seen.
 use Rattle.std.specs.Prelude.{◌≡◌, ◌≢◌, ℕ, ◌+◌, ◌-◌, ◌*◌, ◌^◌, ◌<◌, ◌≤◌, ◌⊎◌, Bool, true, false, ◌&&◌, nat_lt, nat_le}
 use Rattle.std.specs.Prelude.{List, [], ◌∷◌, Some}
+use Rattle.std.specs.List.{AllByRecursion}
 use Rattle.rt_ids.specs.Operation.{wrapped_number as word}
 use Rattle.rt_thumb.specs.Effect.{effect}
 use Rattle.rt_thumb.specs.Encoding.{encode, size}
@@ -71,6 +72,20 @@ is_private floor top instruction.SynchronizeInstructions m = true
 is_private floor top (instruction.Branch x) m = true
 is_private floor top (instruction.BranchIf c x) m = true
 is_private floor top (instruction.Call x) m = false
+
+-- Whether an instruction leaves the stack pointer where it is and is no branch by a register, which may be an exception
+-- return. No other that can be encoded writes the stack pointer.
+abbrev pub is_steady : Instruction → Bool
+is_steady (instruction.BranchExchange r) = false
+is_steady (instruction.AddStack n) = false
+is_steady (instruction.SubtractStack n) = false
+is_steady (instruction.AddStackWide n) = false
+is_steady (instruction.SubtractStackWide n) = false
+is_steady i = true
+
+-- each of some does
+abbrev pub AreSteady : List Instruction → Type 0
+AreSteady code = AllByRecursion (λ i. is_steady i ≡ true) code
 
 -- The processor executes an instruction: the one at its address, and no exception is taken before it.
 pub record Executes (p : Program) (i : Instruction) (before after : Machine) : Type 0 where

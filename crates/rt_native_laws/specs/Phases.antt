@@ -4,15 +4,21 @@
 -- it will be once it runs on, with the registers that exception entry saved (ARMv7-M Architecture Reference Manual,
 -- sections B1.5.6 and B1.5.8), which Saving.antt says are what they were. Below its stack pointer a job has nothing:
 -- there others push. So while a frame comes or goes it is said from the code's first place.
-use Rattle.std.specs.Prelude.{◌≡◌, ℕ, ◌+◌, ◌*◌, ◌<◌, ◌≤◌, ◌⊎◌, false, List, ◌++◌, length, slice_get}
-use Rattle.std.specs.Prelude.{slice_index_or, Option, Some}
+use Rattle.std.specs.Prelude.{◌≡◌, ℕ, ◌+◌, ◌*◌, ◌%◌, ◌<◌, ◌≤◌, ◌⊎◌, false, List, ◌∷◌, ◌++◌, length}
+use Rattle.std.specs.Prelude.{slice_get, slice_index, slice_index_or, true, [], Option, Some}
 use Rattle.rt_code.specs.Image.{Image}
+use Rattle.rt_code.specs.declared.image.BodyRow.{BodyRow}
+use Rattle.rt_code.specs.declared.image.Handler.{Handler}
 use Rattle.rt_code.specs.declared.instr.Instr.{Instr}
+use Rattle.rt_code.specs.declared.instr.Instr.TheVariants as instr
 use Rattle.rt_code.specs.declared.instr.Note.{Note}
 use Rattle.rt_core.specs.Core.{Core}
+use Rattle.rt_core.specs.Transfer.{core_after_call, may_call, call_fits}
+use Rattle.rt_native.specs.Service.{stub}
 use Rattle.rt_native.specs.declared.outside.Outside.{Outside}
-use Rattle.rt_native_laws.specs.Doing.{IsAt, machine_code}
-use Rattle.rt_native_laws.specs.Own.{IsDisturbed, RunsPrivately}
+use Rattle.rt_native_laws.specs.Doing.{IsAt, CanCall, machine_code}
+use Rattle.rt_native_laws.specs.Opening.{IsAtOpening}
+use Rattle.rt_native_laws.specs.Own.{IsDisturbed, RunsPrivately, AreSteady}
 use Rattle.rt_priorities.specs.Ticking.{alarm_word}
 use Rattle.rt_native_laws.specs.Standing.{IsLaidOut, StandsFor, LieFrom, HoldsWords, frames_end}
 use Rattle.rt_thumb.specs.Exceptions.{external}
@@ -44,13 +50,30 @@ pub record OthersRan (at : Outside) (floor top : ℕ) (c d : Core) (m n : Machin
       → n.is_pending (external irq) ≡ slice_index_or d.pending irq false
   pub words : HoldsWords n
 
+-- From a state at the first place of some code the job has executed some of it, privately, and there is more. The stack
+-- pointer has only fallen.
+pub record HasBegun (p : Program) (top : ℕ) (code : List Instruction) (first m : Machine) : Type 0 where
+  pub passed : List Instruction
+  pub next : Instruction
+  pub left : List Instruction
+  pub parts : code ≡ passed ++ next ∷ left
+  pub fallen : m.register 13 ≤ first.register 13
+  pub aligned : m.register 13 % 4 ≡ 0
+  pub prepares : RunsPrivately p (m.register 13) top passed first m
+
+-- A core is another but for words of its frame, of which the first are as there.
+pub record IsButForWords (kept : ℕ) (c d : Core) : Type 0 where
+  pub core : d ≡ record c { processor = record c.processor { slots = d.processor.slots } }
+  pub long : length d.processor.slots ≡ length c.processor.slots
+  pub words : (k : ℕ) → k < kept → slice_index d.processor.slots k ≡ slice_index c.processor.slots k
+
 -- what lies outside, the lowest address of the stack, an image, the places of its code, and a program; a core at a job,
 -- where the job's frames end, and the processor as the job sees it
 module _ (at : Outside) (bottom : ℕ) (img : Image) (places : List ℕ) (p : Program) (c : Core) (top : ℕ)
     (m : Machine) where
   -- The instruction at the core's address is still to come. From a state at the first place of its code, which stands
-  -- for the core as it is now, what was executed so far is private to the job. Its commit is not private, so it was
-  -- not executed.
+  -- for the core as it is now, what was executed so far is private to the job, and there is more. A commit that is not
+  -- private was not executed.
   pub record IsToCome : Type 0 where
     pub instruction : Instr
     pub note : Option Note
@@ -60,8 +83,9 @@ module _ (at : Outside) (bottom : ℕ) (img : Image) (places : List ℕ) (p : Pr
     pub ends : frames_end c first ≡ top
     pub settled : first.is_unsettled ≡ false
     pub passed : List Instruction
+    pub next : Instruction
     pub left : List Instruction
-    pub parts : machine_code at bottom img places p instruction c ≡ passed ++ left
+    pub parts : machine_code at bottom img places p instruction c ≡ passed ++ next ∷ left
     pub reached : Machine
     pub prepares : RunsPrivately p (first.register 13) top passed first reached
     pub now : IsSameAbove (first.register 13) reached m
@@ -71,6 +95,7 @@ module _ (at : Outside) (bottom : ℕ) (img : Image) (places : List ℕ) (p : Pr
   -- the job is between two instructions.
   pub record IsDone : Type 0 where
     pub left : List Instruction
+    pub steady : AreSteady left
     pub last : Machine
     pub stack : m.register 13 ≡ last.register 13
     pub completes : RunsPrivately p (last.register 13) top left m last
@@ -78,6 +103,53 @@ module _ (at : Outside) (bottom : ℕ) (img : Image) (places : List ℕ) (p : Pr
     pub ends : frames_end c last ≡ top
     pub settled : last.is_unsettled ≡ false
     pub words : HoldsWords last
+
+  -- The job is a handler that was just entered, as the core has seen: from where its entry led it has begun to make
+  -- room for its frame, in which the core may have any words.
+  pub record IsEntering : Type 0 where
+    pub to : ℕ
+    pub irq : ℕ
+    pub handler : Handler
+    pub first : Machine
+    pub opens : IsAtOpening at bottom img places p to irq handler c first
+    pub ends : first.register 13 ≡ top
+    pub settled : first.is_unsettled ≡ false
+    pub words : HoldsWords first
+    pub begun : HasBegun p top (stub at [] places to irq (Some handler)) first m
+    pub deep : top ≤ m.register 13 + 4 * handler.frame
+
+  -- The job has begun to call a body, and the core has done it: but for words of the body's frame behind its arguments,
+  -- which may be any, it is the core after the call.
+  pub record IsCalling : Type 0 where
+    pub row : ℕ
+    pub slot : ℕ
+    pub body : BodyRow
+    pub found : slice_get img.bodies row ≡ Some body
+    pub before : Core
+    pub may : may_call before ≡ true
+    pub fits : call_fits img before body slot ≡ true
+    pub called : IsButForWords body.args (core_after_call before body slot) c
+    pub frame : length c.processor.slots ≡ body.frame
+    pub first : Machine
+    pub stands : IsAt at bottom img places p (instr.Call row slot) before first
+    pub can : CanCall at bottom img places p body slot before first
+    pub ends : frames_end before first ≡ top
+    pub settled : first.is_unsettled ≡ false
+    pub begun : HasBegun p top (machine_code at bottom img places p (instr.Call row slot) before) first m
+    pub deep : first.register 13 ≤ m.register 13 + 4 * body.frame
+
+  -- the phases
+  pub data Phase : Type 0 where
+    ToCome : IsToCome → Phase
+    AlreadyDone : IsDone → Phase
+    Entering : IsEntering → Phase
+    Calling : IsCalling → Phase
+
+  -- how many words of the frame are the core's, whatever the processor has there
+  abbrev pub kept_words : Phase → ℕ
+  kept_words (Entering x) = 0
+  kept_words (Calling x) = x.body.args
+  kept_words phase = length c.processor.slots
 
 -- An instruction that was still to come is so after others have run.
 abbrev pub ToComeIsKept : Type 0
@@ -93,3 +165,16 @@ DoneIsKept =
     → IsLaidOut at bottom (length c.processor.cells) → p.port ≡ at.port
     → IsDone at bottom img places p c top m → OthersRan at (m.register 13) top c d m n
     → IsDone at bottom img places p d top n
+
+-- A frame that was coming into being is so after others have run.
+abbrev pub EnteringIsKept : Type 0
+EnteringIsKept =
+    (at : Outside) (bottom : ℕ) (img : Image) (places : List ℕ) (p : Program) (c d : Core) (top : ℕ) (m n : Machine)
+    → p.port ≡ at.port → IsEntering at bottom img places p c top m → OthersRan at (m.register 13) top c d m n
+    → IsEntering at bottom img places p d top n
+
+abbrev pub CallingIsKept : Type 0
+CallingIsKept =
+    (at : Outside) (bottom : ℕ) (img : Image) (places : List ℕ) (p : Program) (c d : Core) (top : ℕ) (m n : Machine)
+    → IsCalling at bottom img places p c top m → OthersRan at (m.register 13) top c d m n
+    → IsCalling at bottom img places p d top n

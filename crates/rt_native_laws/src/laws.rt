@@ -1,15 +1,20 @@
 // The laws, by kinds of instructions.
 
+ghost use Rattle.rt_native_laws.specs.Inputs.{EntryReadsInputs, ReadingGoesOn, ReadingIsKept};
 ghost use Rattle.rt_native_laws.specs.Laws.{SetIsDone, CopyIsDone, CalculationIsDone, JumpIsDone, JumpIfZeroIsDone};
 ghost use Rattle.rt_native_laws.specs.Laws.{MarkIsDone, WaitIsDone, LoadIsDone, StoreIsDone, LoadAtIsDone};
 ghost use Rattle.rt_native_laws.specs.Laws.{StoreAtIsDone, EmitIsDone, ClockIsDone, RaiseIsDone, RestoreIsDone};
 ghost use Rattle.rt_native_laws.specs.Laws.{MaskIsDone, UnmaskIsDone, ServeIsDone, PostIsDone, NoAlarmIsDone};
 ghost use Rattle.rt_native_laws.specs.Laws.{RetIsDone, BackIsDone, CallIsDone, AlarmIsDone, PrivateIsUnseen};
 ghost use Rattle.rt_native_laws.specs.Laws.{PrivateIsUndisturbed, WordsAreKept};
+ghost use Rattle.rt_native_laws.specs.Going.{OneEventIsOneStepOrNone, MarkIsNoEvent, WhatIsLateIsNothing};
+ghost use Rattle.rt_native_laws.specs.Loading.{LoadedCodeIsThere, LoadedEntriesLead};
 ghost use Rattle.rt_native_laws.specs.Opening.{OpeningIsDone};
-ghost use Rattle.rt_native_laws.specs.Phases.{ToComeIsKept, DoneIsKept};
+ghost use Rattle.rt_native_laws.specs.Phases.{ToComeIsKept, DoneIsKept, EnteringIsKept, CallingIsKept};
 ghost use Rattle.rt_native_laws.specs.Saving.{EntryPushesBelow, EntryIsUndone};
+ghost use Rattle.rt_native_laws.specs.Tail.{AlarmIsStored, TailGoesOn, TailIsKept};
 ghost use Rattle.rt_native_laws.specs.Ticking.{TickIsServed};
+ghost use Rattle.rt_native_laws.specs.Waiting.{PhasesShow, WaitingIsKept, EntryAddsAJob, EntryBegins};
 
 /// The code of `set`, of `copy` and of the operations does what they do, and nobody else sees anything of it.
 pub fn moves_are_done()
@@ -100,4 +105,43 @@ pub fn entries_are_undone()
 pub fn phases_are_kept()
     ensures to_come { ToComeIsKept }
     ensures done { DoneIsKept }
+    ensures entering { EnteringIsKept }
+    ensures calling { CallingIsKept }
+{}
+
+/// A machine instruction of the job that runs, where no exception is taken before it, is one step of the core or
+/// nothing to it; where one might have been taken already it is nothing.
+pub fn events_are_steps()
+    ensures one { OneEventIsOneStepOrNone }
+    ensures mark { MarkIsNoEvent }
+    ensures late { WhatIsLateIsNothing }
+{}
+
+/// Jobs that were interrupted are in their phases, whatever runs above them; and an entry adds what runs to them.
+pub fn jobs_wait()
+    ensures shown { PhasesShow }
+    ensures kept { WaitingIsKept }
+    ensures added { EntryAddsAJob }
+    ensures begins { EntryBegins }
+{}
+
+/// A machine instruction of an `alarm` is nothing to the core, or the store by which the core has done it; behind the
+/// store it is nothing.
+pub fn alarms_are_steps()
+    ensures stored { AlarmIsStored }
+    ensures tail { TailGoesOn }
+    ensures kept { TailIsKept }
+{}
+
+/// As an interrupt is taken whose handler has inputs, each word that a device's register has comes into its cell.
+pub fn inputs_are_read()
+    ensures begins { EntryReadsInputs }
+    ensures goes { ReadingGoesOn }
+    ensures kept { ReadingIsKept }
+{}
+
+/// Where a program lies in flash, each instruction's code is at its place, and entries lead to what runs first.
+pub fn loaded_code_is_there()
+    ensures code { LoadedCodeIsThere }
+    ensures entries { LoadedEntriesLead }
 {}

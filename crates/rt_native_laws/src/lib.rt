@@ -8,7 +8,8 @@
 mod laws;
 
 pub use laws::{
-    accesses_are_done, alarms_are_done, calls_are_done, entries_are_undone, jumps_are_done,
+    accesses_are_done, alarms_are_done, alarms_are_steps, calls_are_done, entries_are_undone,
+    events_are_steps, inputs_are_read, jobs_wait, jumps_are_done, loaded_code_is_there,
     masks_are_done, moves_are_done, openings_are_done, phases_are_kept, private_is_unseen,
     requests_are_done, returns_are_done, ticks_are_served, words_are_kept,
 };

@@ -11,3 +11,4 @@ pub mod Handler
 pub mod Lying
 pub mod Ticking
 pub mod Vectors
+pub mod Loading

@@ -40,7 +40,7 @@ size_even : (h : Halfwords) → size h % 2 ≡ 0
 size_even (halfwords.Short a) = refl
 size_even (halfwords.Wide a b) = refl
 
-bytes_even : (is : List Instruction) → bytes_of is % 2 ≡ 0
+pub bytes_even : (is : List Instruction) → bytes_of is % 2 ≡ 0
 bytes_even [] = refl
 bytes_even (i ∷ is) =
     let one = size_even (encode i) in
@@ -55,7 +55,7 @@ back : (place : ℕ) → place % 2 ≡ 0 → place + 1 < 2 ^ 32 → even (word (
 back place whole small = omega arith
 
 -- a place is no further than all sizes go
-place_within : (from : ℕ) (sizes : List ℕ) (k : ℕ) → slice_index (places_from from sizes) k ≤ from + sum sizes
+pub place_within : (from : ℕ) (sizes : List ℕ) (k : ℕ) → slice_index (places_from from sizes) k ≤ from + sum sizes
 place_within from [] zero = omega arith
 place_within from [] (suc k) = omega arith
 place_within from (s ∷ sizes) zero = omega arith
@@ -149,7 +149,7 @@ module _ (img : Image) (target : Target) where
       zero_more : (n : ℕ) → 0 + n ≡ n
       zero_more n = omega arith
 
-  length_vectors : length (vectors img target) ≡ 16 + line_count img.irqs
+  pub length_vectors : length (vectors img target) ≡ 16 + line_count img.irqs
   length_vectors =
       length-append first_vectors last_vectors
       ∙ (ap (λ n. 15 + suc n)

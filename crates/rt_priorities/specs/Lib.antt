@@ -6,3 +6,4 @@ pub mod Lying
 pub mod Setting
 pub mod Ticking
 pub mod Vectors
+pub mod Loading

@@ -4,6 +4,7 @@ ghost use Rattle.rt_priorities.specs.Agreeing.{ExecutionPrioritiesAgree, TheyTak
 ghost use Rattle.rt_priorities.specs.Controller.{ControllerSetsExecution, TakesWhatIsPicked};
 ghost use Rattle.rt_priorities.specs.Keeping.{ArrivalsKeepAgreeing, EntriesKeepAgreeing, OthersKeepAgreeing};
 ghost use Rattle.rt_priorities.specs.Keeping.{ReturnsKeepAgreeing};
+ghost use Rattle.rt_priorities.specs.Loading.{TextIsLoaded};
 ghost use Rattle.rt_priorities.specs.Setting.{ResetBeginsSo, ResetSetsUp};
 ghost use Rattle.rt_priorities.specs.Ticking.{TicksAreOneEvent};
 ghost use Rattle.rt_priorities.specs.Vectors.{EntriesLead, TicksLead};
@@ -46,4 +47,9 @@ pub fn ticks_are_one_event()
 pub fn entries_lead_to_their_code()
     ensures interrupts { EntriesLead }
     ensures ticks { TicksLead }
+{}
+
+/// Where the text of a program lies in flash, what the processor finds there is the program of the image.
+pub fn text_is_loaded()
+    ensures { TextIsLoaded }
 {}

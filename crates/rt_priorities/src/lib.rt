@@ -8,6 +8,6 @@
 mod laws;
 
 pub use laws::{
-    entries_lead_to_their_code, it_takes_what_is_picked, reset_sets_up, they_keep_agreeing,
-    they_take_the_same, ticks_are_one_event,
+    entries_lead_to_their_code, it_takes_what_is_picked, reset_sets_up, text_is_loaded,
+    they_keep_agreeing, they_take_the_same, ticks_are_one_event,
 };

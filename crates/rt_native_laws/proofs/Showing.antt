@@ -1,0 +1,152 @@
+-- What runs shows the core's masks, cells, time, alarm and requests.
+use Rattle.std.proofs.Common.{◌≡◌, ◌∙◌, ℕ, ◌+◌, ◌*◌, ◌/◌, ◌%◌, ◌≤◌, inr}
+use Rattle.std.proofs.Common.{List, sym, ap, subst, arith, length}
+use Rattle.rt_code.specs.Image.{Image}
+use Rattle.rt_core.specs.Core.{Core}
+use Rattle.rt_native.specs.declared.outside.Outside.{Outside}
+use Rattle.rt_thumb.specs.Exceptions.{external}
+use Rattle.rt_thumb.specs.Machine.{Machine, word_at}
+use Rattle.rt_thumb.specs.Step.{Program}
+use Rattle.rt_native_laws.specs.Own.{ChangesItsOwn}
+use Rattle.rt_native_laws.specs.Phases.{IsToCome, IsDone, IsEntering, IsCalling, OthersRan, Phase, ToCome, AlreadyDone}
+use Rattle.rt_native_laws.specs.Phases.{Entering, Calling}
+use Rattle.rt_native_laws.specs.Standing.{IsLaidOut, StandsFor}
+use Rattle.rt_native_laws.specs.Waiting.{Shows, PhasesShow}
+use Rattle.rt_native_laws.proofs.Kept.{entering_is_kept, calling_is_kept}
+use Rattle.rt_native_laws.proofs.Phases.{apart_of, to_come_is_kept, done_is_kept}
+use Rattle.rt_native_laws.proofs.Private.{private_is_unseen}
+
+-- others leave a job in its phase, whichever it is
+pub phase_is_kept : (at : Outside) (bottom : ℕ) (img : Image) (places : List ℕ) (p : Program) (c d : Core) (top : ℕ)
+    (m n : Machine) → IsLaidOut at bottom (length c.processor.cells) → p.port ≡ at.port
+    → OthersRan at (m.register 13) top c d m n → Phase at bottom img places p c top m
+    → Phase at bottom img places p d top n
+phase_is_kept at bottom img places p c d top m n laid port o (ToCome x) =
+    ToCome (to_come_is_kept at bottom img places p c d top m n x o)
+phase_is_kept at bottom img places p c d top m n laid port o (AlreadyDone x) =
+    AlreadyDone (done_is_kept at bottom img places p c d top m n laid port x o)
+phase_is_kept at bottom img places p c d top m n laid port o (Entering x) =
+    Entering (entering_is_kept at bottom img places p c d top m n port x o)
+phase_is_kept at bottom img places p c d top m n laid port o (Calling x) =
+    Calling (calling_is_kept at bottom img places p c d top m n x o)
+
+module _ (at : Outside) (bottom : ℕ) (places : List ℕ) (c : Core) where
+  stands_shows : (m : Machine) → StandsFor at bottom places c m → Shows at c m
+  stands_shows m st = record {
+    base_priority = st.base_priority;
+    is_masked = st.is_masked;
+    cells = st.cells;
+    time = st.time;
+    alarm = st.alarm;
+    pending = st.pending;
+  }
+
+  -- before and behind what is private
+  module _ (floor top count : ℕ) (m n : Machine) (laid : IsLaidOut at bottom count) (high : top ≤ at.cells)
+      (own : ChangesItsOwn floor top m n) where
+    same_word : (a : ℕ) → at.cells ≤ a → a % 4 ≡ 0 → word_at n a ≡ word_at m a
+    same_word a h z = own.memory (a / 4) (inr (omega (arith, h, z, high)))
+
+    shows_on : Shows at c m → Shows at c n
+    shows_on s = record {
+      base_priority = ap (λ (x : Machine). x.base_priority) own.rest ∙ s.base_priority;
+      is_masked = ap (λ (x : Machine). x.is_masked) own.rest ∙ s.is_masked;
+      cells = λ k l. same_word (at.cells + 4 * k) (omega arith) (omega (arith, laid.aligned)) ∙ s.cells k l;
+      time = same_word at.time (omega (arith, laid.time)) (omega (arith, laid.aligned, laid.time)) ∙ s.time;
+      alarm = same_word (at.time + 4) (omega (arith, laid.time)) (omega (arith, laid.aligned, laid.time)) ∙ s.alarm;
+      pending = λ irq l. ap (λ (x : Machine). x.is_pending (external irq)) own.rest ∙ s.pending irq l;
+    }
+
+    shows_before : Shows at c n → Shows at c m
+    shows_before s = record {
+      base_priority = sym (ap (λ (x : Machine). x.base_priority) own.rest) ∙ s.base_priority;
+      is_masked = sym (ap (λ (x : Machine). x.is_masked) own.rest) ∙ s.is_masked;
+      cells = λ k l. sym (same_word (at.cells + 4 * k) (omega arith) (omega (arith, laid.aligned))) ∙ s.cells k l;
+      time = sym (same_word at.time (omega (arith, laid.time)) (omega (arith, laid.aligned, laid.time))) ∙ s.time;
+      alarm = sym (same_word (at.time + 4) (omega (arith, laid.time)) (omega (arith, laid.aligned, laid.time)))
+          ∙ s.alarm;
+      pending = λ irq l. sym (ap (λ (x : Machine). x.is_pending (external irq)) own.rest) ∙ s.pending irq l;
+    }
+
+module _ (at : Outside) (bottom : ℕ) (img : Image) (places : List ℕ) (p : Program) (c : Core) (top : ℕ)
+    (m : Machine) (port : p.port ≡ at.port) where
+  to_come_shows : IsToCome at bottom img places p c top m → Shows at c m
+  to_come_shows x =
+      let low = x.first.register 13 in
+      let laid = x.stands.laid in
+      let begun = x.stands.stands in
+      let high : top ≤ at.cells = omega (arith, x.ends, begun.frames) in
+      let apart = apart_of at bottom low top (length c.processor.cells) p laid port begun.stack high in
+      let own = private_is_unseen p low top x.passed x.first x.reached apart (omega arith) (omega (arith, x.ends))
+      x.prepares in
+      let s = shows_on at bottom places c low top (length c.processor.cells) x.first x.reached laid high own
+      (stands_shows at bottom places c x.first begun) in
+      let sp : m.register 13 ≡ x.reached.register 13 = ap (λ (y : Machine). y.register 13) x.now.rest in
+      let same_word : (a : ℕ) → at.cells ≤ a → a % 4 ≡ 0 → word_at m a ≡ word_at x.reached a =
+      λ a h z. x.now.memory (a / 4) (inr (omega (arith, h, z, high, sp, own.stack.1))) in
+      record {
+        base_priority = ap (λ (y : Machine). y.base_priority) x.now.rest ∙ s.base_priority;
+        is_masked = ap (λ (y : Machine). y.is_masked) x.now.rest ∙ s.is_masked;
+        cells = λ k l. same_word (at.cells + 4 * k) (omega arith) (omega (arith, laid.aligned)) ∙ s.cells k l;
+        time = same_word at.time (omega (arith, laid.time)) (omega (arith, laid.aligned, laid.time)) ∙ s.time;
+        alarm = same_word (at.time + 4) (omega (arith, laid.time)) (omega (arith, laid.aligned, laid.time)) ∙ s.alarm;
+        pending = λ irq l. ap (λ (y : Machine). y.is_pending (external irq)) x.now.rest ∙ s.pending irq l;
+      }
+
+  done_shows : IsLaidOut at bottom (length c.processor.cells) → IsDone at bottom img places p c top m → Shows at c m
+  done_shows laid x =
+      let low = x.last.register 13 in
+      let high : top ≤ at.cells = omega (arith, x.ends, x.stands.frames) in
+      let apart = apart_of at bottom low top (length c.processor.cells) p laid port x.stands.stack high in
+      let own = private_is_unseen p low top x.left m x.last apart (omega (arith, x.stack))
+      (omega (arith, x.stack, x.ends)) x.completes in
+      shows_before at bottom places c low top (length c.processor.cells) m x.last laid high own
+      (stands_shows at bottom places c x.last x.stands)
+
+  entering_shows : IsEntering at bottom img places p c top m → Shows at c m
+  entering_shows x =
+      let low = m.register 13 in
+      let laid = x.opens.laid in
+      let high : top ≤ at.cells = omega (arith, x.ends, x.opens.stands.frames) in
+      let apart = apart_of at bottom low top (length c.processor.cells) p laid port
+      (omega (arith, x.deep, x.opens.room, x.ends)) high in
+      let own = private_is_unseen p low top x.begun.passed x.first m apart x.begun.fallen (omega (arith, x.ends))
+      x.begun.prepares in
+      let st = x.opens.stands in
+      shows_on at bottom places c low top (length c.processor.cells) x.first m laid high own (record {
+        base_priority = st.base_priority;
+        is_masked = st.is_masked;
+        cells = st.cells;
+        time = st.time;
+        alarm = st.alarm;
+        pending = st.pending;
+      })
+
+  calling_shows : IsCalling at bottom img places p c top m → Shows at c m
+  calling_shows x =
+      let low = m.register 13 in
+      let laid = x.stands.laid in
+      let count = length x.before.processor.cells in
+      let high : top ≤ at.cells = omega (arith, x.ends, x.stands.stands.frames) in
+      let apart = apart_of at bottom low top count p laid port (omega (arith, x.deep, x.can.room)) high in
+      let own = private_is_unseen p low top x.begun.passed x.first m apart x.begun.fallen (omega (arith, x.ends))
+      x.begun.prepares in
+      let s = shows_on at bottom places x.before low top count x.first m laid high own
+      (stands_shows at bottom places x.before x.first x.stands.stands) in
+      subst (λ (y : Core). Shows at y m) (sym x.called.core) (record {
+        base_priority = s.base_priority;
+        is_masked = s.is_masked;
+        cells = s.cells;
+        time = s.time;
+        alarm = s.alarm;
+        pending = s.pending;
+      })
+
+  shows : IsLaidOut at bottom (length c.processor.cells) → Phase at bottom img places p c top m → Shows at c m
+  shows laid (ToCome x) = to_come_shows x
+  shows laid (AlreadyDone x) = done_shows laid x
+  shows laid (Entering x) = entering_shows x
+  shows laid (Calling x) = calling_shows x
+
+pub phases_show : PhasesShow
+phases_show at bottom img places p c top m laid port phase = shows at bottom img places p c top m port laid phase

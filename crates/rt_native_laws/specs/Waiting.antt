@@ -1,0 +1,123 @@
+-- Jobs that handlers interrupted, one above the other: each is in its phase as it will see the processor once it runs
+-- on, which exception entry saved and exception return gives back (ARMv7-M Architecture Reference Manual, sections
+-- B1.5.6 and B1.5.8). What the job above them does leaves them so, and so does an entry.
+use Rattle.std.specs.Prelude.{◌≡◌, ◌≢◌, ℕ, ◌+◌, ◌*◌, ◌%◌, ◌^◌, ◌<◌, ◌≤◌, ◌==◌, false, if◌then◌else◌, List, [], ◌∷◌}
+use Rattle.std.specs.Prelude.{length, slice_index_or, Some}
+use Rattle.std.specs.List.{AllByRecursion}
+use Rattle.rt_code.specs.Image.{Image}
+use Rattle.rt_code.specs.declared.image.Handler.{Handler}
+use Rattle.rt_core.specs.Core.{Core, Context}
+use Rattle.rt_core.specs.Leading.{in_context}
+use Rattle.rt_core.specs.Transfer.{core_after_entry}
+use Rattle.rt_native.specs.Service.{stub}
+use Rattle.rt_native.specs.declared.outside.Outside.{Outside}
+use Rattle.rt_native_laws.specs.Going.{HasCode}
+use Rattle.rt_native_laws.specs.Own.{Spans}
+use Rattle.rt_native_laws.specs.Phases.{Phase}
+use Rattle.rt_native_laws.specs.Saving.{CanBeInterrupted}
+use Rattle.rt_native_laws.specs.Standing.{IsLaidOut, LieFrom, HoldsWords}
+use Rattle.rt_priorities.specs.Ticking.{alarm_word}
+use Rattle.rt_thumb.specs.Exceptions.{external, entered, popped, return_to_thread, return_to_handler}
+use Rattle.rt_thumb.specs.Machine.{Machine, word_at, with_register}
+use Rattle.rt_thumb.specs.Step.{Program}
+
+-- The processor as what a handler interrupted will see it, where the handler's frames end at an address: there lies
+-- what exception entry pushed. BASEPRI is then as it was, and PRIMASK was 0, else there had been no entry.
+abbrev pub resumed : ℕ → ℕ → Machine → Machine
+resumed priority top m =
+    record (popped (with_register 13 top m)) { base_priority = priority; is_masked = false }
+
+-- the core at what its last handler interrupted, with the masks that were then
+abbrev pub interrupted_core : ℕ → Core → Context → List Context → Core
+interrupted_core priority c x below =
+    let there = in_context c x below in
+    record there { processor = record there.processor { basepri = priority; primask = false } }
+
+-- what a handler interrupts, of a core
+abbrev pub context_of : Core → ℕ → Handler → Context
+context_of c irq h =
+    record { irq = irq; value = h.value; address = c.processor.address; slots = c.processor.slots; caller = c.caller }
+
+-- EXC_RETURN for what a handler interrupted: a handler, or the thread, whose exception number is 0
+abbrev pub return_value : ℕ → ℕ
+return_value exception = if exception == 0 then return_to_thread else return_to_handler
+
+-- All that the processor has beside jobs is as the core has it: masks, cells, the time and the alarm, and requests.
+pub record Shows (at : Outside) (c : Core) (m : Machine) : Type 0 where
+  pub base_priority : m.base_priority ≡ c.processor.basepri
+  pub is_masked : m.is_masked ≡ c.processor.primask
+  pub cells : LieFrom m at.cells c.processor.cells
+  pub time : word_at m at.time ≡ c.time
+  pub alarm : word_at m (at.time + 4) ≡ alarm_word c.alarm
+  pub pending : (irq : ℕ) → irq < length c.pending → m.is_pending (external irq) ≡ slice_index_or c.pending irq false
+
+-- From one state to another, what lies above a job is as it was: registers from r4 on, the stack from an address on,
+-- which exception runs, and which are active.
+pub record KeepsAbove (at : Outside) (top : ℕ) (m n : Machine) : Type 0 where
+  pub registers : (k : ℕ) → 4 ≤ k → k ≢ 13 → n.register k ≡ m.register k
+  pub memory : (k : ℕ) → top ≤ 4 * k → 4 * k + 4 ≤ at.cells → n.memory k ≡ m.memory k
+  pub exception : n.exception ≡ m.exception
+  pub active : n.active ≡ m.active
+
+-- what lies outside, the lowest address of the stack and the one behind it, an image, the places of its code, and a
+-- program
+module _ (at : Outside) (bottom highest : ℕ) (img : Image) (places : List ℕ) (p : Program) where
+  -- The jobs that were interrupted, the last one first, each with the BASEPRI that it had then. At the end of the
+  -- frames of what runs lie the eight words that exception entry pushed, and LR has EXC_RETURN. The thread's frames end
+  -- where the stack ends.
+  abbrev pub Waiting : List ℕ → List Context → Core → ℕ → Machine → Type 0
+  Waiting [] [] c top m = (top ≡ highest) × (m.exception ≡ 0) × (m.active ≡ [])
+  Waiting (priority ∷ priorities) (x ∷ below) c top m =
+      let back = resumed priority top m in
+      let there = interrupted_core priority c x below in
+      (top % 4 ≡ 0) × (priority < 2 ^ 8) × (m.exception ≡ external x.irq) × (m.active ≡ external x.irq ∷ back.active)
+      × (m.register 14 ≡ return_value back.exception) × (top + 32 ≤ back.register 13)
+      × (next : ℕ) × (next ≤ at.cells) × (back.register 13 ≤ next) × Phase at bottom img places p there next back
+      × Waiting priorities below there next back
+  Waiting priorities below c top m = ⊥
+
+-- What runs shows the core's masks, cells, time, alarm and requests, whatever phase it is in.
+abbrev pub PhasesShow : Type 0
+PhasesShow =
+    (at : Outside) (bottom : ℕ) (img : Image) (places : List ℕ) (p : Program) (c : Core) (top : ℕ) (m : Machine)
+    → IsLaidOut at bottom (length c.processor.cells) → p.port ≡ at.port
+    → Phase at bottom img places p c top m → Shows at c m
+
+-- What runs above interrupted jobs leaves each of them in its phase, whatever the core does meanwhile.
+abbrev pub WaitingIsKept : Type 0
+WaitingIsKept =
+    (at : Outside) (bottom highest : ℕ) (img : Image) (places : List ℕ) (p : Program) (priorities : List ℕ)
+    (below : List Context) (c d : Core) (top : ℕ) (m n : Machine)
+    → IsLaidOut at bottom (length c.processor.cells) → p.port ≡ at.port
+    → length d.processor.cells ≡ length c.processor.cells → d.stopped ≡ c.stopped
+    → KeepsAbove at top m n → Shows at d n → HoldsWords n
+    → Waiting at bottom highest img places p priorities below c top m
+    → Waiting at bottom highest img places p priorities below d top n
+
+-- An interrupt is taken: what it interrupts is a job more that waits, in the phase in which it was, as the core has it
+-- after its own entry.
+abbrev pub EntryAddsAJob : Type 0
+EntryAddsAJob =
+    (at : Outside) (bottom highest : ℕ) (img : Image) (places : List ℕ) (p : Program) (priorities : List ℕ)
+    (irq : ℕ) (h : Handler) (c : Core) (top : ℕ) (m : Machine)
+    → IsLaidOut at bottom (length c.processor.cells) → p.port ≡ at.port → CanBeInterrupted m → m.address < 2 ^ 32
+    → AllByRecursion (λ e. e ≢ external irq) m.active → c.processor.primask ≡ false → HoldsWords m
+    → m.register 13 ≤ top → top ≤ at.cells
+    → Phase at bottom img places p c top m → Waiting at bottom highest img places p priorities c.below c top m
+    → Waiting at bottom highest img places p (c.processor.basepri ∷ priorities) (context_of c irq h ∷ c.below)
+    (core_after_entry c irq h) ((entered (external irq) m).register 13) (entered (external irq) m)
+
+-- And what runs then is a handler whose frame is coming into being, from where its entry led: there lies what runs
+-- first as the interrupt is taken, with no input, up to an address. There is room for what entry pushes and for the
+-- frame.
+abbrev pub EntryBegins : Type 0
+EntryBegins =
+    (at : Outside) (bottom : ℕ) (img : Image) (places : List ℕ) (p : Program) (to irq : ℕ) (h : Handler) (c : Core)
+    (top : ℕ) (m : Machine) → HasCode at img places p → IsLaidOut at bottom (length c.processor.cells)
+    → CanBeInterrupted m → m.address < 2 ^ 32 → AllByRecursion (λ e. e ≢ external irq) m.active
+    → c.processor.primask ≡ false → HoldsWords m → m.register 13 ≤ top → top ≤ at.cells
+    → Phase at bottom img places p c top m → to < 0xE0000000
+    → Spans p (entered (external irq) m).address (stub at [] places to irq (Some h)) to
+    → bottom + 4 * h.frame + 32 ≤ m.register 13
+    → Phase at bottom img places p (core_after_entry c irq h) ((entered (external irq) m).register 13)
+    (entered (external irq) m)
