@@ -1,0 +1,78 @@
+-- What blocks release, a statement more, and by one table of works or another.
+use Rattle.std.proofs.Common.{◌≡◌, ℕ, suc, ◌+◌, ◌-◌, ◌<◌, ◌==◌, Bool, true, false, if◌then◌else◌, List, [], ◌∷◌}
+use Rattle.std.proofs.Common.{map, take, get_or, length, replicate, find, Option, Some, None, refl, ap, ◌∙◌, arith}
+use Rattle.rt_lemmas.proofs.Lists.{map_alike}
+use Rattle.rt_app.specs.Tree.{Statement, Bind, Assign, Branch, Repeat, Locked, Emit, Pend, Spawns, Block, Empty, Then}
+use Rattle.rt_app.specs.Tree.{App}
+use Rattle.rt_app.specs.View.{statement_of, block_of}
+use Rattle.rt_app.specs.declared.stmt.Stmt.{Stmt}
+use Rattle.rt_frames.proofs.Sums.{block_more}
+use Rattle.rt_respond.specs.Number.{plus, greater_of, times}
+use Rattle.rt_respond.specs.Handlers.{handlers, handled_block, is_at}
+use Rattle.rt_respond.specs.Work.{statement_sends, block_sends, handler_asks, work_within}
+use Rattle.rt_respond.specs.Inside.Works.{table_asks, next_work, table_within}
+use Rattle.rt_respond.specs.declared.handler.Handler.{Handler}
+use Rattle.rt_respond.proofs.Numbers.{plus_regrouped, plus_alone}
+
+pub block_sends_more : (pends : ℕ → Option ℕ) (xs : List Stmt) (i : ℕ) (x : Stmt) → i < length xs → x ≡ get_or xs i x
+    → block_sends pends (block_of (take (i + 1) xs)) ≡ plus (block_sends pends (block_of (take i xs)))
+    (statement_sends pends (statement_of x))
+block_sends_more pends = block_more (block_sends pends) (statement_sends pends) plus (λ s rest. refl) plus_regrouped
+    (λ s. plus_alone (statement_sends pends s))
+
+-- two tables that say the same of each interrupt
+module _ (f g : ℕ → Option ℕ) (same : (irq : ℕ) → f irq ≡ g irq) where
+  mutual
+    pub statement_alike : (s : Statement) → statement_sends f s ≡ statement_sends g s
+    statement_alike (Bind x v) = refl
+    statement_alike (Assign x e at) = refl
+    statement_alike (Branch e first second) =
+        ap (λ w. greater_of w (block_sends f second)) (block_alike first)
+        ∙ ap (greater_of (block_sends g first)) (block_alike second)
+    statement_alike (Repeat x first last turn) = ap (times (last - first)) (block_alike turn)
+    statement_alike (Locked r inner at) = block_alike inner
+    statement_alike (Emit e) = refl
+    statement_alike (Pend i) = same i
+    statement_alike (Spawns s) = refl
+
+    pub block_alike : (b : Block) → block_sends f b ≡ block_sends g b
+    block_alike Empty = refl
+    block_alike (Then s rest) =
+        ap (λ w. plus w (block_sends f rest)) (statement_alike s)
+        ∙ ap (plus (statement_sends g s)) (block_alike rest)
+
+-- the table of what all handlers ask for
+pub table_is : (works : Handler → Option ℕ) (hs : List Handler) (irq : ℕ)
+    → table_asks hs (map works hs) irq ≡ handler_asks works (find (λ h. h.irq == irq) hs)
+table_is works [] irq = refl
+table_is works (h ∷ hs) irq = by (h.irq == irq) (table_is works hs irq)
+  where
+    by : (b : Bool) → table_asks hs (map works hs) irq ≡ handler_asks works (find (λ h. h.irq == irq) hs)
+        → (if b then works h else table_asks hs (map works hs) irq)
+        ≡ handler_asks works (if b then Some h else find (λ h. h.irq == irq) hs)
+    by true rest = refl
+    by false rest = rest
+
+module _ (app : App) (i : Handler) where
+  pub next_is : (depth : ℕ) (h : Handler)
+      → next_work app i (table_within app i depth) h ≡ work_within app i (suc depth) h
+  unfolding work_within
+  next_is depth h =
+      ap (λ w. if is_at i h then plus (Some (h.steps + 1)) w else Some 0)
+      (block_alike _ _ (table_is (work_within app i depth) (handlers app)) (handled_block app h))
+
+  pub table_next : (depth : ℕ) → map (next_work app i (table_within app i depth)) (handlers app)
+      ≡ table_within app i (depth + 1)
+  table_next depth =
+      let e : suc depth ≡ depth + 1 = omega arith in
+      map_alike (next_work app i (table_within app i depth)) (work_within app i (suc depth)) (next_is depth)
+      (handlers app)
+      ∙ ap (table_within app i) e
+
+  none_of : (hs : List Handler) → replicate (length hs) None ≡ map (work_within app i 0) hs
+  unfolding work_within
+  none_of [] = refl
+  none_of (h ∷ hs) = ap (λ ws. None ∷ ws) (none_of hs)
+
+  pub table_start : replicate (length (handlers app)) None ≡ table_within app i 0
+  table_start = none_of (handlers app)

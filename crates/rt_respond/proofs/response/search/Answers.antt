@@ -1,0 +1,64 @@
+use Rattle.std.proofs.Common.{◌≤◌, None, Some, arith}
+use Rattle.rt_respond.specs.Response.{needed}
+use Rattle.rt_respond.proofs.Demand.{needed_is, needed_rises, none_before, some_before, less_before}
+use Rattle.rt_respond.proofs.response.search.Goals as goal
+
+pub returns-in_default : goal.returns-in_default
+returns-in_default c = λ app asked.
+    let limits = c.args.asked.now.limits.now in
+    let this = c.args.asked.now.this.now in
+    let some = c.loop-steps.invariant.some in
+    none_before (needed app limits this 1) (needed app limits this c.loop-steps.steps)
+    (needed_rises app limits this 1 c.loop-steps.steps (omega arith) (omega (arith, some)) c.requires.tables.positive)
+    (needed_is app limits this c.loop-steps.steps c.args.asked.now.backlog c.demand.result None c.in_default.ensures
+    asked.backlog_is (c.demand.ensures app asked))
+
+pub returns-then-needed-from : goal.returns-then-needed-from
+returns-then-needed-from c = λ app asked. (
+  record {
+    some = c.loop-steps.invariant.some;
+    need = c.in-Some.needed;
+    needs = needed_is app c.args.asked.now.limits.now c.args.asked.now.this.now c.loop-steps.steps
+        c.args.asked.now.backlog c.demand.result (Some c.in-Some.needed) c.in-Some.ensures asked.backlog_is
+        (c.demand.ensures app asked);
+    covers = omega (arith, c.if-needed-from.true, c.from.ensures);
+  },
+  omega (arith, c.loop-steps-test.true),
+  c.loop-steps.invariant.least app asked,
+)
+
+pub loop-steps-preserved : goal.loop-steps-preserved
+loop-steps-preserved c = record {
+  some = omega (arith, c.saturated_steps-steps.ensures, c.from.ensures, c.if-needed-from.false);
+  begun = λ app asked more.
+      let limits = c.args.asked.now.limits.now in
+      let this = c.args.asked.now.this.now in
+      let some = c.loop-steps.invariant.some in
+      some_before (needed app limits this 1) (needed app limits this c.loop-steps.steps) c.in-Some.needed
+      (needed_rises app limits this 1 c.loop-steps.steps (omega arith) (omega (arith, some))
+      c.requires.tables.positive)
+      (needed_is app limits this c.loop-steps.steps c.args.asked.now.backlog c.demand.result (Some c.in-Some.needed)
+      c.in-Some.ensures asked.backlog_is (c.demand.ensures app asked));
+  least = λ app asked steps enough.
+      let limits = c.args.asked.now.limits.now in
+      let this = c.args.asked.now.this.now in
+      let some = c.loop-steps.invariant.some in
+      let at_most = c.loop-steps.invariant.least app asked steps enough in
+      let covers = enough.covers in
+      let less : c.in-Some.needed ≤ enough.need =
+      less_before (needed app limits this c.loop-steps.steps) (needed app limits this steps) c.in-Some.needed
+      enough.need
+      (needed_rises app limits this c.loop-steps.steps steps some at_most c.requires.tables.positive)
+      (needed_is app limits this c.loop-steps.steps c.args.asked.now.backlog c.demand.result (Some c.in-Some.needed)
+      c.in-Some.ensures asked.backlog_is (c.demand.ensures app asked))
+      enough.needs in
+      omega (arith, c.saturated_steps-steps.ensures, less, covers);
+}
+
+pub returns : goal.returns
+returns c = λ app asked. (
+  c.loop-steps.invariant.begun app asked (omega (arith, c.loop-steps-test.false)),
+  λ steps few enough.
+      let at_most = c.loop-steps.invariant.least app asked steps enough in
+      absurd (omega (arith, at_most, few, c.loop-steps-test.false)),
+)

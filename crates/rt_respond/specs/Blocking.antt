@@ -1,0 +1,65 @@
+-- What holds a handler off that is of lower priority, or of the same and later in the order. While something at the
+-- handler is left, lower jobs take steps in one section of one of them (Baker, Stack-Based Scheduling of Realtime
+-- Processes, 1991, on blocking), and so does one job of the same priority that has been taken before (as in analysis
+-- without preemption: George, Rivierre and Spuri, Preemptive and Non-Preemptive Real-Time Uniprocessor Scheduling,
+-- 1996). What any of these releases at the handler comes with it, and comes once. A `pend` outside of sections that
+-- count is a release and no step. Of a section's cost the step that enters it lies before the waiting.
+use Rattle.std.specs.Prelude.{ℕ, ◌-◌, ◌==◌, ◌&&◌, nat_lt, nat_le, List, [], ◌∷◌, ◌++◌, flat_map, Option, Some}
+use Rattle.std.specs.Prelude.{None, if◌then◌else◌}
+use Rattle.rt_ids.specs.declared.ids.Section.TheVariants as section
+use Rattle.rt_app.specs.Tree.{Statement, Bind, Assign, Branch, Repeat, Locked, Emit, Pend, Spawns, Block, Empty, Then}
+use Rattle.rt_app.specs.Tree.{Body, Task, App}
+use Rattle.rt_app.specs.Ceiling.{ceiling}
+use Rattle.rt_app.specs.Cost.{lock_cost, block_cost}
+use Rattle.rt_app.specs.BodyCost.{cost_measure}
+use Rattle.rt_respond.specs.Number.{plus, greatest_of}
+use Rattle.rt_respond.specs.Handlers.{handlers, handled_block, stands_before}
+use Rattle.rt_respond.specs.Work.{pend_work, sends}
+use Rattle.rt_respond.specs.declared.handler.Handler.{Handler}
+
+-- at a handler
+module _ (app : App) (i : Handler) where
+  -- a lock round this block: its steps behind the first, and what is released in it
+  abbrev pub section_holds : Block → Option ℕ
+  section_holds inner = plus (Some (lock_cost (block_cost (cost_measure app) inner) - 1)) (sends app i inner)
+
+  -- what the sections of a statement hold off, outermost of those that count, and its releases outside of them
+  abbrev mutual
+    pub statement_holds : Statement → List (Option ℕ)
+    statement_holds (Bind x v) = []
+    statement_holds (Assign x e at) = []
+    statement_holds (Branch e first second) = block_holds first ++ block_holds second
+    statement_holds (Repeat x first last turn) = block_holds turn
+    statement_holds (Locked r inner at) =
+        if nat_le i.priority (ceiling app (section.Res r)) then section_holds inner ∷ [] else block_holds inner
+    statement_holds (Emit e) = []
+    statement_holds (Pend irq) = pend_work app i irq ∷ []
+    statement_holds (Spawns s) = []
+
+    -- and of a block
+    pub block_holds : Block → List (Option ℕ)
+    block_holds Empty = []
+    block_holds (Then s rest) = statement_holds s ++ block_holds rest
+
+  -- of `idle`, which is below each handler
+  abbrev pub idle_holds : Option Body → List (Option ℕ)
+  idle_holds None = []
+  idle_holds (Some b) = block_holds b.block
+
+  -- of a task, where it is of lower priority
+  abbrev pub task_holds : Task → List (Option ℕ)
+  task_holds t = if nat_lt t.priority i.priority then block_holds t.body.block else []
+
+  -- of a handler of the same priority that stands behind: its whole job, and what it releases
+  abbrev pub equal_holds : Handler → List (Option ℕ)
+  equal_holds h =
+      if (h.priority == i.priority) && stands_before i h
+      then plus (Some h.steps) (sends app i (handled_block app h)) ∷ [] else []
+
+  -- all that may hold the handler off; `init` is not among them, since no request counts before it ends
+  abbrev pub holds : List (Option ℕ)
+  holds = idle_holds app.idle ++ (flat_map task_holds app.tasks ++ flat_map equal_holds (handlers app))
+
+  -- worst-case blocking, with what it releases
+  abbrev pub blocking : Option ℕ
+  blocking = greatest_of holds

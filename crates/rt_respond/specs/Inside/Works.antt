@@ -1,0 +1,24 @@
+-- The works of all handlers, as the code keeps them: a table in the order of the handlers, a round more for each job
+-- that may release another.
+use Rattle.std.specs.Prelude.{ℕ, ◌+◌, ◌==◌, List, ◌∷◌, map, Option, Some, if◌then◌else◌}
+use Rattle.rt_app.specs.Tree.{App}
+use Rattle.rt_respond.specs.Number.{plus}
+use Rattle.rt_respond.specs.Handlers.{handlers, handled_block, is_at}
+use Rattle.rt_respond.specs.Work.{block_sends, work_within}
+use Rattle.rt_respond.specs.declared.handler.Handler.{Handler}
+
+-- what a `pend` of an interrupt asks for, by a table of what these handlers ask for
+abbrev pub table_asks : List Handler → List (Option ℕ) → ℕ → Option ℕ
+table_asks (h ∷ hs) (w ∷ ws) irq = if h.irq == irq then w else table_asks hs ws irq
+table_asks hs ws irq = Some 0
+
+-- the work of a handler, where a `pend` asks for what the table says
+abbrev pub next_work : App → Handler → List (Option ℕ) → Handler → Option ℕ
+next_work app i works h =
+    if is_at i h then plus (Some (h.steps + 1))
+    (block_sends (table_asks (handlers app) works) (handled_block app h))
+    else Some 0
+
+-- the table after so many rounds
+abbrev pub table_within : App → Handler → ℕ → List (Option ℕ)
+table_within app i depth = map (work_within app i depth) (handlers app)

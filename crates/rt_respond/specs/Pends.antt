@@ -1,0 +1,32 @@
+-- Which bodies hold a `pend` of which interrupt, whether or not it is ever done.
+use Rattle.std.specs.Prelude.{ℕ, ◌==◌, Bool, false, ◌||◌, Option, Some, None}
+use Rattle.std.specs.List.{list_any}
+use Rattle.rt_app.specs.Tree.{Statement, Bind, Assign, Branch, Repeat, Locked, Emit, Pend, Spawns, Block, Empty, Then}
+use Rattle.rt_app.specs.Tree.{Body, App}
+
+-- a statement holds a `pend` of this interrupt
+abbrev mutual
+  pub statement_pends : ℕ → Statement → Bool
+  statement_pends irq (Bind x v) = false
+  statement_pends irq (Assign x e at) = false
+  statement_pends irq (Branch e first second) = block_pends irq first || block_pends irq second
+  statement_pends irq (Repeat x first last turn) = block_pends irq turn
+  statement_pends irq (Locked r inner at) = block_pends irq inner
+  statement_pends irq (Emit e) = false
+  statement_pends irq (Pend i) = i == irq
+  statement_pends irq (Spawns s) = false
+
+  -- a block does
+  pub block_pends : ℕ → Block → Bool
+  block_pends irq Empty = false
+  block_pends irq (Then s rest) = statement_pends irq s || block_pends irq rest
+
+-- `init` or `idle` does, where it is declared
+abbrev pub body_pends : ℕ → Option Body → Bool
+body_pends irq None = false
+body_pends irq (Some b) = block_pends irq b.block
+
+-- some body does
+abbrev pub is_pended : App → ℕ → Bool
+is_pended app irq =
+    (body_pends irq app.init || body_pends irq app.idle) || list_any (λ t. block_pends irq t.body.block) app.tasks

@@ -1,0 +1,71 @@
+-- What a request asks for at a handler of the order: the core steps of all jobs at it that come of the request. This is
+-- a transaction of Tindell and Clark (Holistic Schedulability Analysis for Distributed Hard Real-Time Systems, 1994),
+-- in which a job releases others. A release downwards is counted with its root, so it has no jitter. What is below the
+-- handler asks for nothing there. A step more than the cost takes the interrupt.
+use Rattle.std.specs.Prelude.{ℕ, zero, suc, ◌+◌, ◌-◌, ◌==◌, length, find, Option, Some, None, if◌then◌else◌}
+use Rattle.rt_app.specs.Tree.{Statement, Bind, Assign, Branch, Repeat, Locked, Emit, Pend, Spawns, Block, Empty, Then}
+use Rattle.rt_app.specs.Tree.{Body, App}
+use Rattle.rt_respond.specs.Number.{plus, greater_of, times}
+use Rattle.rt_respond.specs.Handlers.{handlers, handled_block, is_at}
+use Rattle.rt_respond.specs.declared.handler.Handler.{Handler}
+
+-- where a `pend` of an interrupt asks for so much
+module _ (pends : ℕ → Option ℕ) where
+  -- what a statement releases at most: of a branch the greater block, of a loop all turns
+  abbrev mutual
+    pub statement_sends : Statement → Option ℕ
+    statement_sends (Bind x v) = Some 0
+    statement_sends (Assign x e at) = Some 0
+    statement_sends (Branch e first second) = greater_of (block_sends first) (block_sends second)
+    statement_sends (Repeat x first last turn) = times (last - first) (block_sends turn)
+    statement_sends (Locked r inner at) = block_sends inner
+    statement_sends (Emit e) = Some 0
+    statement_sends (Pend i) = pends i
+    statement_sends (Spawns s) = Some 0
+
+    -- what a block releases at most
+    pub block_sends : Block → Option ℕ
+    block_sends Empty = Some 0
+    block_sends (Then s rest) = plus (statement_sends s) (block_sends rest)
+
+  -- what `init` releases, where it is declared
+  abbrev pub body_sends : Option Body → Option ℕ
+  body_sends None = Some 0
+  body_sends (Some b) = block_sends b.block
+
+-- of a handler, where there is one, so much; an interrupt that is not enabled is never taken
+abbrev pub handler_asks : (Handler → Option ℕ) → Option Handler → Option ℕ
+handler_asks works None = Some 0
+handler_asks works (Some h) = works h
+
+-- what a `pend` of an interrupt asks for, where its handler asks for so much
+abbrev pub pend_asks : App → (Handler → Option ℕ) → ℕ → Option ℕ
+pend_asks app works irq = handler_asks works (find (λ h. h.irq == irq) (handlers app))
+
+-- at a handler
+module _ (app : App) (i : Handler) where
+  -- The work of a request, where one job after another releases the next so many times at most. There is no number
+  -- where they go on.
+  unfoldable pub work_within : ℕ → Handler → Option ℕ
+  work_within zero h = None
+  work_within (suc depth) h =
+      if is_at i h then plus (Some (h.steps + 1))
+      (block_sends (pend_asks app (work_within depth)) (handled_block app h))
+      else Some 0
+
+  -- The work of a request. Where more jobs release one another in a row than there are handlers, one comes back to
+  -- itself, and there is no number.
+  abbrev pub work : Handler → Option ℕ
+  work h = work_within (length (handlers app)) h
+
+  -- what a `pend` of an interrupt asks for
+  abbrev pub pend_work : ℕ → Option ℕ
+  pend_work irq = pend_asks app work irq
+
+  -- what code releases: a block, and `init`
+  abbrev pub sends : Block → Option ℕ
+  sends b = block_sends pend_work b
+
+  -- what `init` releases, which is there once it ends
+  abbrev pub start : Option ℕ
+  start = body_sends pend_work app.init

@@ -1,0 +1,278 @@
+// What is answered: response times, what comes of requests, the load, and deadlines.
+
+ghost use Rattle.std.specs.Prelude.{◌≡◌, ◌<◌, ◌≤◌, ◌++◌, [], not, true, List, length, slice_get};
+ghost use Rattle.std.specs.Prelude.{None, IfOk, IfSome, OnOk};
+ghost use Rattle.std.specs.List.{list_any};
+ghost use Rattle.rt_ids.specs.declared.limits.TheConstants.{TASKS};
+ghost use Rattle.rt_app.specs.Tree as tree;
+ghost use Rattle.rt_app.specs.View.{app_of};
+ghost use Rattle.rt_app.specs.Accepted.{IsAccepted};
+ghost use Rattle.rt_respond.specs.Form.{is_of_form};
+ghost use Rattle.rt_respond.specs.Handlers as handler;
+ghost use Rattle.rt_respond.specs.Limits.{Limits, AreLimits};
+ghost use Rattle.rt_respond.specs.Load.{IsLast, IsLoad};
+ghost use Rattle.rt_respond.specs.Report as spec;
+ghost use Rattle.rt_respond.specs.Response.{IsResponse};
+ghost use Rattle.rt_respond.specs.Rows.{BelongEach};
+ghost use Rattle.rt_respond.specs.Inside.Causing as inner;
+ghost use Rattle.rt_respond.specs.declared.handler.Handler.{Handler};
+
+use crate::handler::{Handler, handlers, stands_before};
+use crate::limits::Limits;
+use crate::load::{shares_of, sum_of};
+use crate::path::{all_edges, all_reached, lowest_on};
+use crate::pend::is_pended;
+use crate::response::{Response, place_of, responses};
+use crate::work::works_at;
+use rt_app::App;
+use rt_ceil::ceilings;
+use rt_ids::NoMemory;
+use std::alloc::Global;
+
+/// How requests of an interrupt may come.
+#[derive(Clone, Copy, PartialEq, Eq)]
+pub enum Requests {
+    /// There are none: it has no limit, and no body pends it.
+    Never,
+    /// One may come while one before it is pending.
+    Merge,
+    /// Each comes while none is pending.
+    Apart,
+}
+
+/// The answer for a hardware task.
+#[derive(Clone, Copy, PartialEq, Eq)]
+pub struct Served {
+    /// Its interrupt, by its index in the order of declaration.
+    pub irq: u8,
+    pub priority: u8,
+    pub response: Response,
+    pub requests: Requests,
+}
+
+/// How long a request takes at most until a job that comes of it is done.
+#[derive(Clone, Copy, PartialEq, Eq)]
+pub struct Caused {
+    /// The interrupts, by their indices in the order of declaration.
+    pub from: u8,
+    pub to: u8,
+    pub response: Response,
+}
+
+/// A deadline, and whether it is met.
+#[derive(Clone, Copy, PartialEq, Eq)]
+pub struct Judged {
+    /// The interrupt, by its index in the order of declaration.
+    pub irq: u8,
+    /// Core steps.
+    pub deadline: u32,
+    pub is_met: bool,
+}
+
+/// What is answered.
+#[derive(Drop)]
+pub struct Report {
+    /// For each hardware task, in order of declaration.
+    pub served: Vec<Served>,
+    /// For each limit on requests, in order, the tasks whose jobs come of them, in order of declaration.
+    pub caused: Vec<Caused>,
+    /// Of 1,000 core steps, how many are asked for, rounded up; None where there is no number.
+    pub load: Option<u64>,
+    /// The deadlines, in order of declaration of the tasks.
+    pub judged: Vec<Judged>,
+}
+
+impl Response {
+    /// Whether it is a number up to this one.
+    pub fn is_within(self, steps: u32) -> bool
+        ensures { result ≡ spec.is_within steps self }
+    {
+        match self {
+            Response::Steps(most) => most <= steps,
+            Response::Cycle => false,
+            Response::Over => false,
+        }
+    }
+}
+
+impl Report {
+    /// Whether a deadline is late.
+    pub fn is_late(&self) -> bool
+        ensures { result ≡ list_any (λ row. not row.is_met) self.now.judged.items }
+    {
+        self.judged.iter().any(|row| !row.is_met)
+    }
+}
+
+/// How requests of a handler may come.
+fn requests_of(app: &App, limits: &Limits, handler: &Handler, response: Response) -> Requests
+    ensures { result ≡ spec.requests_of (app_of app.now) limits.now handler.now response }
+{
+    if is_pended(app, handler.irq) {
+        return Requests::Merge;
+    }
+    match limits.every_of(handler.number) {
+        None => Requests::Never,
+        Some(every) if response.is_within(every) => Requests::Apart,
+        Some(_every) => Requests::Merge,
+    }
+}
+
+/// The answers for the hardware tasks.
+fn served_rows(
+    alloc: Global,
+    app: &App,
+    limits: &Limits,
+    handlers: &[Handler],
+    responses: &[Response],
+) -> Result<Vec<Served>, NoMemory>
+    requires { BelongEach (IsResponse (app_of app.now) limits.now.every) handlers.now responses.now }
+    ensures { IfOk result (λ rows.
+        BelongEach (spec.IsServed (app_of app.now) limits.now) handlers.now rows.items) }
+{
+    let mut rows = Vec::new(alloc);
+    for index in 0..handlers.len() {
+        let handler = handlers[index];
+        rows.push(Served {
+            irq: handler.irq,
+            priority: handler.priority,
+            response: responses[index],
+            requests: requests_of(app, limits, &handler, responses[index]),
+        })?;
+    }
+    Ok(rows)
+}
+
+/// Appends what comes of the requests of a handler.
+fn push_caused(
+    rows: &mut Vec<Caused>,
+    handlers: &[Handler],
+    responses: &[Response],
+    reached: &[Vec<bool>],
+    from: usize,
+) -> Result<(), NoMemory>
+    requires there { from < length handlers.now }
+    requires rows { inner.HasRows (length handlers.now) (length responses.now) reached.now }
+    ensures { (app : tree.App) → (limits : Limits) →
+        inner.IsGraph app limits handlers.now responses.now reached.now →
+        (before : List (Handler × Handler)) → spec.AreCaused app limits before rows.old.items →
+        OnOk result (spec.AreCaused app limits
+        (before ++ spec.pairs_from app limits (slice_get handlers.now from)) rows.new.items) }
+{
+    for to in 0..handlers.len() {
+        if handlers[to].irq != handlers[from].irq {
+            if let Some(lowest) = lowest_on(handlers, reached, from, to) {
+                rows.push(Caused {
+                    from: handlers[from].irq,
+                    to: handlers[to].irq,
+                    response: responses[lowest],
+                })?;
+            }
+        }
+    }
+    Ok(())
+}
+
+/// What comes of requests.
+fn caused_rows(
+    alloc: Global,
+    app: &App,
+    limits: &Limits,
+    handlers: &[Handler],
+    responses: &[Response],
+) -> Result<Vec<Caused>, NoMemory>
+    requires handlers { handlers.now ≡ handler.handlers (app_of app.now) }
+    requires responses { BelongEach (IsResponse (app_of app.now) limits.now.every) handlers.now responses.now }
+    ensures { IfOk result (λ rows. spec.AreCaused (app_of app.now) limits.now
+        (spec.pairs (app_of app.now) limits.now) rows.items) }
+{
+    let edges = all_edges(alloc, app, handlers)?;
+    let reached = all_reached(alloc, &edges, handlers.len())?;
+    let mut rows = Vec::new(alloc);
+    for limit in limits.every() {
+        if let Some(from) = place_of(handlers, limit) {
+            push_caused(&mut rows, handlers, responses, &reached, from)?;
+        }
+    }
+    Ok(rows)
+}
+
+/// The handler that stands last in the order.
+fn last_of(handlers: &[Handler]) -> Option<Handler>
+    ensures none { result ≡ None → handlers.now ≡ [] }
+    ensures last { IfSome result (λ last. IsLast handlers.now last) }
+{
+    let mut last = *handlers.first()?;
+    for handler in handlers {
+        if stands_before(&last, handler) {
+            last = *handler;
+        }
+    }
+    Some(last)
+}
+
+/// The load: what is asked for at the last handler.
+fn load_of(
+    alloc: Global,
+    app: &App,
+    limits: &Limits,
+    handlers: &[Handler],
+) -> Result<Option<u64>, NoMemory>
+    requires few { length (app_of app.now).tasks ≤ TASKS }
+    requires handlers { handlers.now ≡ handler.handlers (app_of app.now) }
+    requires limits { AreLimits (app_of app.now) limits.now }
+    ensures { IfOk result (λ load. IsLoad (app_of app.now) limits.now load) }
+{
+    let Some(last) = last_of(handlers) else {
+        return Ok(Some(0));
+    };
+    let works = works_at(alloc, app, handlers, &last)?;
+    match shares_of(alloc, limits, handlers, &works)? {
+        None => Ok(None),
+        Some(shares) => Ok(Some(sum_of(alloc, &shares)?)),
+    }
+}
+
+/// The deadlines, each judged.
+fn judged_rows(
+    alloc: Global,
+    limits: &Limits,
+    handlers: &[Handler],
+    responses: &[Response],
+) -> Result<Vec<Judged>, NoMemory>
+    requires { length handlers.now ≡ length responses.now }
+    ensures { (app : tree.App) → handlers.now ≡ handler.handlers app →
+        BelongEach (IsResponse app limits.now.every) handlers.now responses.now →
+        IfOk result (λ rows.
+        BelongEach (spec.IsJudged app limits.now) (spec.judged_handlers app limits.now) rows.items) }
+{
+    let mut rows = Vec::new(alloc);
+    for index in 0..handlers.len() {
+        if let Some(deadline) = limits.deadline_of(handlers[index].task) {
+            rows.push(Judged {
+                irq: handlers[index].irq,
+                deadline,
+                is_met: responses[index].is_within(deadline),
+            })?;
+        }
+    }
+    Ok(rows)
+}
+
+/// The answers for an application of hardware tasks alone, under these limits.
+pub fn respond(alloc: Global, app: &App, limits: &Limits) -> Result<Report, NoMemory>
+    requires accepted { IsAccepted (app_of app.now) }
+    requires form { is_of_form (app_of app.now) ≡ true }
+    requires limits { AreLimits (app_of app.now) limits.now }
+    ensures { IfOk result (λ report. spec.IsReport (app_of app.now) limits.now report) }
+{
+    let ceilings = ceilings(alloc, app)?;
+    let handlers = handlers(alloc, app)?;
+    let responses = responses(alloc, app, limits.every(), &ceilings, &handlers)?;
+    Ok(Report {
+        served: served_rows(alloc, app, limits, &handlers, &responses)?,
+        caused: caused_rows(alloc, app, limits, &handlers, &responses)?,
+        load: load_of(alloc, app, limits, &handlers)?,
+        judged: judged_rows(alloc, limits, &handlers, &responses)?,
+    })
+}

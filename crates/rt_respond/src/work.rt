@@ -1,0 +1,162 @@
+// What a request asks for at a handler of the order.
+
+ghost use Rattle.std.specs.Prelude.{◌≡◌, length, map, option_map, replicate, None, IfOk};
+ghost use Rattle.rt_app.specs.View.{statement_of, block_of, body_of, app_of};
+ghost use Rattle.rt_respond.specs.Handlers as order;
+ghost use Rattle.rt_respond.specs.Work as spec;
+ghost use Rattle.rt_respond.specs.Inside.Works as inner;
+
+use crate::handler::{Handler, is_at};
+use crate::number::{greater_of, plus, times};
+use rt_app::{App, Body, Stmt};
+use rt_ids::NoMemory;
+use std::alloc::Global;
+
+/// What handlers ask for at one of them.
+#[derive(Clone, Copy)]
+pub(crate) struct Works<'a> {
+    pub(crate) handlers: &'a [Handler],
+    /// Of each handler, in order.
+    pub(crate) works: &'a [Option<u64>],
+}
+
+/// What a `pend` of an interrupt asks for; nothing where it is not enabled.
+pub(crate) fn pend_asks(all: &Works, irq: u8) -> Option<u64>
+    ensures { result ≡ inner.table_asks all.now.handlers.now all.now.works.now irq }
+{
+    for index in 0..all.handlers.len().min(all.works.len()) {
+        if all.handlers[index].irq == irq {
+            return all.works[index];
+        }
+    }
+    Some(0)
+}
+
+/// What a statement releases at most.
+#[cycle(block)]
+pub(crate) fn statement_sends(all: &Works, stmt: &Stmt) -> Option<u64>
+    ensures { let pends = inner.table_asks all.now.handlers.now all.now.works.now in
+        result ≡ spec.statement_sends pends (statement_of stmt.now) }
+{
+    match stmt {
+        Stmt::Bind(_variable, _value) => Some(0),
+        Stmt::Assign(_atom, _expr, _at) => Some(0),
+        Stmt::Branch(_condition, first, second) => {
+            greater_of(block_sends(all, first), block_sends(all, second))
+        }
+        Stmt::Repeat(_variable, first, last, turn) => {
+            times(
+                u64::from(last.saturating_sub(*first)),
+                block_sends(all, turn),
+            )
+        }
+        Stmt::Locked(_resource, inner, _at) => block_sends(all, inner),
+        Stmt::Emit(_expr) => Some(0),
+        Stmt::Pend(irq) => pend_asks(all, *irq),
+        Stmt::Call(_spawn) => Some(0),
+    }
+}
+
+/// What statements release at most, one after the other.
+#[cycle(block)]
+pub(crate) fn block_sends(all: &Works, stmts: &[Stmt]) -> Option<u64>
+    ensures { let pends = inner.table_asks all.now.handlers.now all.now.works.now in
+        result ≡ spec.block_sends pends (block_of stmts.now) }
+{
+    let mut sum = Some(0);
+    for stmt in stmts {
+        sum = plus(sum, statement_sends(all, stmt));
+    }
+    sum
+}
+
+/// What `init` releases, where it is declared.
+pub(crate) fn body_sends(all: &Works, body: &Option<Body>) -> Option<u64>
+    ensures { let pends = inner.table_asks all.now.handlers.now all.now.works.now in
+        result ≡ spec.body_sends pends (option_map body_of body.now) }
+{
+    match body {
+        None => Some(0),
+        Some(body) => block_sends(all, &body.block),
+    }
+}
+
+/// What the block of a handler releases at most.
+pub(crate) fn handler_sends(app: &App, all: &Works, handler: &Handler) -> Option<u64>
+    ensures { let pends = inner.table_asks all.now.handlers.now all.now.works.now in
+        result ≡ spec.block_sends pends (order.handled_block (app_of app.now) handler.now) }
+{
+    match app.task(handler.task) {
+        None => Some(0),
+        Some(task) => block_sends(all, &task.body.block),
+    }
+}
+
+/// The work of a request of a handler, where a `pend` asks for what the table says.
+fn next_work(app: &App, this: &Handler, all: &Works, handler: &Handler) -> Option<u64>
+    requires { all.now.handlers.now ≡ order.handlers (app_of app.now) }
+    ensures { result ≡ inner.next_work (app_of app.now) this.now all.now.works.now handler.now }
+{
+    if is_at(this, handler) {
+        let own = Some(u64::from(handler.steps) + 1);
+        plus(own, handler_sends(app, all, handler))
+    } else {
+        Some(0)
+    }
+}
+
+/// The works of all handlers after a round more.
+fn next_works(
+    alloc: Global,
+    app: &App,
+    this: &Handler,
+    all: &Works,
+) -> Result<Vec<Option<u64>>, NoMemory>
+    requires { all.now.handlers.now ≡ order.handlers (app_of app.now) }
+    ensures { let of = inner.next_work (app_of app.now) this.now all.now.works.now in
+        IfOk result (λ works. works.items ≡ map of (order.handlers (app_of app.now))) }
+{
+    let mut works = Vec::new(alloc);
+    for handler in all.handlers {
+        works.push(next_work(app, this, all, handler))?;
+    }
+    Ok(works)
+}
+
+/// Of each handler no number.
+fn no_works(alloc: Global, handlers: &[Handler]) -> Result<Vec<Option<u64>>, NoMemory>
+    ensures { IfOk result (λ works. works.items ≡ replicate (length handlers.now) None) }
+{
+    let mut works = Vec::new(alloc);
+    for _handler in handlers {
+        works.push(None)?;
+    }
+    Ok(works)
+}
+
+/// The work of a request of each handler, in order, at this one. The time grows with the square of the number of
+/// handlers, and with the text.
+pub(crate) fn works_at(
+    alloc: Global,
+    app: &App,
+    handlers: &[Handler],
+    this: &Handler,
+) -> Result<Vec<Option<u64>>, NoMemory>
+    requires { handlers.now ≡ order.handlers (app_of app.now) }
+    ensures { IfOk result (λ works.
+        works.items ≡ map (spec.work (app_of app.now) this.now) (order.handlers (app_of app.now))) }
+{
+    let mut works = no_works(alloc, handlers)?;
+    for _round in 0..handlers.len() {
+        works = next_works(
+            alloc,
+            app,
+            this,
+            &Works {
+                handlers,
+                works: &works,
+            },
+        )?;
+    }
+    Ok(works)
+}
