@@ -1,0 +1,255 @@
+-- What each started job may still ask for at a handler: one that is at it the core steps that it has left, and what it
+-- releases; one of the same priority behind it, and a lower one that is in a section, no more than what is kept in
+-- reserve for it.
+use Rattle.std.proofs.Common.{◌≡◌, ℕ, zero, suc, ◌+◌, ◌-◌, ◌≤◌, ◌<◌, ◌⊎◌, inl, inr, Bool, true, List, [], ◌∷◌, map}
+use Rattle.std.proofs.Common.{drop}
+use Rattle.std.proofs.Common.{slice_set, Some, refl, sym, subst, arith}
+use Rattle.std.specs.List.{AllByRecursion}
+use Rattle.std.proofs.lemmas.Option.{same_Some, none-some}
+use Rattle.rt_ids.specs.declared.ids.Section.{Section}
+use Rattle.rt_actions.specs.Content.{Values}
+use Rattle.rt_actions.specs.Action.{Action, Enters, Leaves, Posts, SetsAlarm}
+use Rattle.rt_actions.specs.Doing.{Doing, over, does}
+use Rattle.rt_app.specs.Tree.{App}
+use Rattle.rt_app.specs.Ceiling.{ceiling}
+use Rattle.rt_laws.specs.Preemption.{system_ceiling, greatest_ceiling}
+use Rattle.rt_laws.specs.Allowed.{HasStep}
+use Rattle.rt_laws.specs.State.{Serving, Job, State}
+use Rattle.rt_laws.specs.Unspent.{AreUnspent}
+use Rattle.rt_respond.specs.declared.handler.Handler.{Handler}
+use Rattle.rt_respond_laws.specs.Moments.{IsRoleAt}
+use Rattle.rt_respond_laws.proofs.Sending.{Posting, released, AtMost}
+use Rattle.rt_respond_laws.proofs.Holding.{Mode, Outside, Inside, moved, Comes, Holds}
+use Rattle.rt_respond_laws.proofs.Passing.{sections_after, lefts_after, pending_after, SetsNone}
+
+module _ (app : App) (p : ℕ) where
+  -- the section so deep from the innermost is the outermost that holds the priority off, and it has no more left than
+  -- this, what is released in it counted
+  abbrev pub LiesIn : ℕ → ℕ → ℕ → List Section → List ℕ → Type 0
+  LiesIn depth rest most [] ns = ⊥
+  LiesIn depth rest most (x ∷ xs) [] = ⊥
+  LiesIn zero rest most (x ∷ xs) (n ∷ ns) =
+      (p ≤ ceiling app x) × (greatest_ceiling app xs < p) × (n + rest ≤ most)
+  LiesIn (suc depth) rest most (x ∷ xs) (n ∷ ns) = LiesIn depth rest most xs ns
+
+  lies_high : (depth rest most : ℕ) (xs : List Section) (ns : List ℕ) → LiesIn depth rest most xs ns
+      → p ≤ greatest_ceiling app xs
+  lies_high depth rest most [] ns lies = absurd lies
+  lies_high depth rest most (x ∷ xs) [] lies = absurd lies
+  lies_high zero rest most (x ∷ xs) (n ∷ ns) lies = let high = lies.0 in omega (arith, high)
+  lies_high (suc depth) rest most (x ∷ xs) (n ∷ ns) lies =
+      let high = lies_high depth rest most xs ns lies in omega (arith, high)
+
+  -- with more in reserve
+  lies_more : (depth rest most more : ℕ) (xs : List Section) (ns : List ℕ) → most ≤ more
+      → LiesIn depth rest most xs ns → LiesIn depth rest more xs ns
+  lies_more depth rest most more [] ns less lies = absurd lies
+  lies_more depth rest most more (x ∷ xs) [] less lies = absurd lies
+  lies_more zero rest most more (x ∷ xs) (n ∷ ns) less lies =
+      let few = lies.2 in (lies.0, lies.1, omega (arith, few, less))
+  lies_more (suc depth) rest most more (x ∷ xs) (n ∷ ns) less lies = lies_more depth rest most more xs ns less lies
+
+  -- a step in it, which releases so much
+  pub lies_step : (depth rest later now most : ℕ) (xs : List Section) (ns : List ℕ) → AllByRecursion (λ n. 0 < n) ns
+      → now + later ≤ rest → LiesIn depth rest most xs ns
+      → (1 + now ≤ most) × LiesIn depth later (most - 1 - now) xs (map (λ n. n - 1) ns)
+  lies_step depth rest later now most [] ns may sum lies = absurd lies
+  lies_step depth rest later now most (x ∷ xs) [] may sum lies = absurd lies
+  lies_step zero rest later now most (x ∷ xs) (n ∷ ns) may sum lies =
+      let few = lies.2 in
+      let some = may.0 in (
+        omega (arith, few, some, sum),
+        (lies.0, lies.1, omega (arith, few, some, sum)),
+      )
+  lies_step (suc depth) rest later now most (x ∷ xs) (n ∷ ns) may sum lies =
+      lies_step depth rest later now most xs ns may.1 sum lies
+
+  -- the innermost is left
+  lies_out : (rest most : ℕ) (xs : List Section) (ns : List ℕ) → LiesIn zero rest most xs ns
+      → greatest_ceiling app (drop 1 xs) < p
+  lies_out rest most [] ns lies = absurd lies
+  lies_out rest most (x ∷ xs) [] lies = absurd lies
+  lies_out rest most (x ∷ xs) (n ∷ ns) lies = lies.1
+
+  lies_less : (depth rest most : ℕ) (xs : List Section) (ns : List ℕ) → LiesIn (suc depth) rest most xs ns
+      → LiesIn depth rest most (drop 1 xs) (drop 1 ns)
+  lies_less depth rest most [] ns lies = absurd lies
+  lies_less depth rest most (x ∷ xs) [] lies = absurd lies
+  lies_less depth rest most (x ∷ xs) (n ∷ ns) lies = lies
+
+  closed_less : (xs : List Section) → greatest_ceiling app xs < p → greatest_ceiling app (drop 1 xs) < p
+  closed_less [] closed = closed
+  closed_less (x ∷ xs) closed = omega (arith, closed)
+
+module _ (app : App) (i : Handler) (posts : Posting) (most : ℕ) where
+  abbrev p : ℕ
+  p = i.priority
+
+  -- where a lower job is, with so much in reserve
+  abbrev pub StandsIn : ℕ → Mode → List Section → List ℕ → Type 0
+  StandsIn reserve Outside xs ns = greatest_ceiling app xs < p
+  StandsIn reserve (Inside rest depth) xs ns = LiesIn app p depth rest reserve xs ns
+
+  -- a job asks for so much, and what is in reserve is enough for it
+  pub data Claim (reserve own : ℕ) (job : Job) : Type 0 where
+    -- it is at the handler
+    Own : (irq : ℕ) → job.role ≡ Serving irq → p ≤ job.priority → (rest : ℕ) → AtMost posts rest job.rest
+        → own ≡ job.left + rest → Claim reserve own job
+    -- it is of the same priority, and behind it
+    Equal : ¬ IsRoleAt app i job.role → job.priority ≡ p → (rest : ℕ) → AtMost posts rest job.rest
+        → job.left + rest ≤ reserve → own ≡ 0 → Claim reserve own job
+    -- it is of a lower priority
+    Under : ¬ IsRoleAt app i job.role → job.priority < p → (mode : Mode) → Holds app p most posts mode job.rest
+        → StandsIn reserve mode job.sections job.lefts → own ≡ 0 → Claim reserve own job
+
+  -- these ask for so much
+  abbrev pub Owe : ℕ → ℕ → List Job → Type 0
+  Owe reserve all [] = all ≡ 0
+  Owe reserve all (job ∷ others) =
+      (own : ℕ) × (rest : ℕ) × (all ≡ own + rest) × Claim reserve own job × Owe reserve rest others
+
+  -- with more in reserve
+  claim_more : (reserve more own : ℕ) (job : Job) → reserve ≤ more → Claim reserve own job → Claim more own job
+  claim_more reserve more own job less (Own irq role high rest few is) = Own irq role high rest few is
+  claim_more reserve more own job less (Equal off same rest few within is) =
+      Equal off same rest few (omega (arith, within, less)) is
+  claim_more reserve more own job less (Under off lower Outside holds stands is) =
+      Under off lower Outside holds stands is
+  claim_more reserve more own job less (Under off lower (Inside rest depth) holds stands is) =
+      Under off lower (Inside rest depth) holds
+      (lies_more app p depth rest reserve more job.sections job.lefts less stands) is
+
+  pub owe_more : (reserve more all : ℕ) (js : List Job) → reserve ≤ more → Owe reserve all js → Owe more all js
+  owe_more reserve more all [] less owe = owe
+  owe_more reserve more all (job ∷ others) less owe =
+      (owe.0, owe.1, owe.2, claim_more reserve more owe.0 job less owe.3, owe_more reserve more owe.1 others less owe.4)
+
+  -- where the system ceiling is below the priority nothing needs to be in reserve
+  claim_any : (reserve other own : ℕ) (job : Job) → job.priority < p → greatest_ceiling app job.sections < p
+      → Claim reserve own job → Claim other own job
+  claim_any reserve other own job lower closed (Own irq role high rest few is) = absurd (omega (arith, high, lower))
+  claim_any reserve other own job lower closed (Equal off same rest few within is) =
+      absurd (omega (arith, same, lower))
+  claim_any reserve other own job lower closed (Under off less Outside holds stands is) =
+      Under off less Outside holds stands is
+  claim_any reserve other own job lower closed (Under off less (Inside rest depth) holds stands is) =
+      let high = lies_high app p depth rest reserve job.sections job.lefts stands in
+      absurd (omega (arith, high, closed))
+
+  pub owe_any : (reserve other all : ℕ) (js : List Job) → system_ceiling app js < p → Owe reserve all js
+      → Owe other all js
+  owe_any reserve other all [] below owe = owe
+  owe_any reserve other all (job ∷ others) below owe = (
+    owe.0,
+    owe.1,
+    owe.2,
+    claim_any reserve other owe.0 job (omega (arith, below)) (omega (arith, below)) owe.3,
+    owe_any reserve other owe.1 others (omega (arith, below)) owe.4,
+  )
+
+  -- where nothing is asked for no job is at the handler
+  off_claim : (reserve own : ℕ) (job : Job) → HasStep job.role job.left → own ≡ 0 → Claim reserve own job
+      → ¬ IsRoleAt app i job.role
+  off_claim reserve own job has none (Own irq role high rest few is) =
+      let some : 0 < job.left = subst (λ r. HasStep r job.left) role has in
+      absurd (omega (arith, none, is, some))
+  off_claim reserve own job has none (Equal off same rest few within is) = off
+  off_claim reserve own job has none (Under off lower mode holds stands is) = off
+
+  pub owe_nothing : (reserve all : ℕ) (js : List Job) → AreUnspent js → all ≡ 0 → Owe reserve all js
+      → AllByRecursion (λ job. ¬ IsRoleAt app i job.role) js
+  owe_nothing reserve all [] unspent none owe = tt
+  owe_nothing reserve all (job ∷ others) unspent none owe =
+      let sum = owe.2 in (
+        off_claim reserve owe.0 job unspent.0 (omega (arith, sum, none)) owe.3,
+        owe_nothing reserve owe.1 others unspent.1 (omega (arith, sum, none)) owe.4,
+      )
+
+  -- where something is, one of them is of the priority or a higher one
+  reach_claim : (reserve own : ℕ) (job : Job) → 0 < own → Claim reserve own job → p ≤ job.priority
+  reach_claim reserve own job some (Own irq role high rest few is) = high
+  reach_claim reserve own job some (Equal off same rest few within is) = absurd (omega (arith, some, is))
+  reach_claim reserve own job some (Under off lower mode holds stands is) = absurd (omega (arith, some, is))
+
+  pub zero_or_some : (n : ℕ) → (n ≡ 0) ⊎ (0 < n)
+  zero_or_some zero = inl refl
+  zero_or_some (suc n) = inr (omega arith)
+
+  pub owe_reach : (reserve all : ℕ) (js : List Job) → 0 < all → Owe reserve all js → p ≤ system_ceiling app js
+  owe_reach reserve all [] some owe = absurd (omega (arith, some, owe))
+  owe_reach reserve all (job ∷ others) some owe =
+      let sum = owe.2 in
+      elim (zero_or_some owe.0) [
+        | inl none ↦ (let deeper = owe_reach reserve owe.1 others (omega (arith, some, sum, none)) owe.4 in
+            omega (arith, deeper))
+        | inr more ↦ (let high = reach_claim reserve owe.0 job more owe.3 in omega (arith, high))
+      ]
+
+  -- what is pending behind a step that releases so much
+  pub data Posted (before behind : List Bool) (now : ℕ) : Type 0 where
+    Kept : behind ≡ before → Posted before behind now
+    Put : (irq : ℕ) → behind ≡ slice_set before irq true → posts irq ≡ Some now → Posted before behind now
+
+  pub posted_by : (action : Action) (now : ℕ) (before behind : List Bool) → released posts action ≡ Some now
+      → behind ≡ pending_after action before → Posted before behind now
+  posted_by (Posts irq) now before behind is then_is = Put irq then_is is
+  posted_by action now before behind is then_is = Kept then_is
+
+  -- what is asked for behind a step, where so much was asked for and so much in reserve, of which it spends so many
+  -- core steps
+  pub record Spends (before full : ℕ) (pending : List Bool) (spent : ℕ) (t : State) : Type 0 where
+    pub reserve : ℕ
+    pub all : ℕ
+    pub now : ℕ
+    pub owe : Owe reserve all t.jobs
+    pub posted : Posted pending t.pending now
+    pub less : reserve ≤ full
+    pub sum : all + now + reserve + spent ≤ before + full
+
+  -- a claim sets no alarm
+  pub no_alarm : (posts : Posting) (n : ℕ) (rest : Doing Values) → AtMost posts n rest → SetsNone rest
+  no_alarm posts n over few = tt
+  no_alarm posts n (does SetsAlarm made next) few = none-some few.0 few.2
+  no_alarm posts n (does action made next) few = tt
+
+  no_alarm_in : (mode : Mode) (rest : Doing Values) → Holds app p most posts mode rest → SetsNone rest
+  no_alarm_in mode over holds = tt
+  no_alarm_in mode (does SetsAlarm made next) holds = none-some holds.0 holds.2
+  no_alarm_in mode (does action made next) holds = tt
+
+  pub sets_none : (reserve own : ℕ) (job : Job) → Claim reserve own job → SetsNone job.rest
+  sets_none reserve own job (Own irq role high rest few is) = no_alarm posts rest job.rest few
+  sets_none reserve own job (Equal off same rest few within is) = no_alarm posts rest job.rest few
+  sets_none reserve own job (Under off lower mode holds stands is) = no_alarm_in mode job.rest holds
+
+  -- where a lower job is behind an action in a section
+  pub stands_moved : (action : Action) (depth later reserve : ℕ) (xs : List Section) (ns : List ℕ)
+      → LiesIn app p depth later reserve xs (map (λ n. n - 1) ns)
+      → StandsIn reserve (moved action later depth) (sections_after action xs) (lefts_after action ns)
+  stands_moved (Enters x cost) depth later reserve xs ns lies = lies
+  stands_moved (Leaves x) zero later reserve xs ns lies =
+      lies_out app p later reserve xs (map (λ n. n - 1) ns) lies
+  stands_moved (Leaves x) (suc depth) later reserve xs ns lies =
+      lies_less app p depth later reserve xs (map (λ n. n - 1) ns) lies
+  stands_moved action depth later reserve xs ns lies = lies
+
+  -- and outside of those that count
+  pub stands_come : (action : Action) (now : ℕ) (after : Mode) (xs : List Section) (ns : List ℕ)
+      → released posts action ≡ Some now → now ≤ most → greatest_ceiling app xs < p → Comes app p most action after
+      → StandsIn (most - now) after (sections_after action xs) (lefts_after action ns)
+  stands_come (Enters x cost) now after xs ns is within closed (inl goes) =
+      let none : 0 ≡ now = same_Some 0 now is in
+      let fits = goes.within in
+      subst (λ mode. StandsIn (most - now) mode (x ∷ xs) ((cost - 1) ∷ map (λ n. n - 1) ns)) (sym goes.is)
+      (goes.holds_off, closed, omega (arith, none, fits))
+  stands_come (Enters x cost) now after xs ns is within closed (inr low) =
+      let under = low.0 in
+      subst (λ mode. StandsIn (most - now) mode (x ∷ xs) ((cost - 1) ∷ map (λ n. n - 1) ns)) (sym low.1)
+      (omega (arith, under, closed))
+  stands_come (Leaves x) now after xs ns is within closed comes =
+      subst (λ mode. StandsIn (most - now) mode (drop 1 xs) (drop 1 (map (λ n. n - 1) ns))) (sym comes)
+      (closed_less app p xs closed)
+  stands_come (Posts irq) now after xs ns is within closed comes =
+      subst (λ mode. StandsIn (most - now) mode xs (map (λ n. n - 1) ns)) (sym comes) closed
+  stands_come action now after xs ns is within closed comes =
+      subst (λ mode. StandsIn (most - now) mode (sections_after action xs) (lefts_after action ns)) (sym comes) closed

@@ -1,0 +1,430 @@
+-- How a run begins: while `init` runs nothing preempts it, and nothing comes from outside; as it ends, what is pending
+-- is
+-- what it has released.
+use Rattle.std.proofs.Common.{◌≡◌, ℕ, zero, suc, ◌+◌, ◌≤◌, ◌<◌, ◌^◌, ◌⊎◌, inl, inr, Bool, true, false, if◌then◌else◌}
+use Rattle.std.proofs.Common.{List, [], ◌∷◌, ◌++◌, Contains, length, replicate, slice_index_or, Option}
+use Rattle.std.proofs.Common.{Some}
+use Rattle.std.proofs.Common.{None, IsSome, refl, sym, ap, subst, ◌∙◌, arith}
+use Rattle.std.proofs.lemmas.Option.{none-some}
+use Rattle.std.proofs.lemmas.List.{length-replicate, get_or-set_same}
+use Rattle.rt_lemmas.proofs.Bools.{true_and_false}
+use Rattle.rt_lemmas.proofs.Lists.{find_has}
+use Rattle.rt_lemmas.proofs.Membership.{contains_cases, contains_none, contains_here, contains_there}
+use Rattle.rt_ids.specs.Choice.{IsIn}
+use Rattle.rt_ids.specs.Lists.{or_zero}
+use Rattle.rt_ids.specs.declared.ids.BodyId.TheVariants as body
+use Rattle.rt_ids.specs.declared.ids.Section.{Section}
+use Rattle.rt_ids.specs.declared.limits.TheConstants.{IRQ_NUMBERS}
+use Rattle.rt_actions.specs.Action.{Action, Ends, SetsAlarm, Returns}
+use Rattle.rt_actions.specs.Content.{Values}
+use Rattle.rt_actions.specs.Doing.{Doing, over, does}
+use Rattle.rt_trace.specs.Label.{Label, Arrived, Ticked, Rang, Stepped}
+use Rattle.rt_trace.specs.declared.item.What.{What}
+use Rattle.rt_trace.specs.declared.item.What.TheVariants as what
+use Rattle.rt_app.specs.Tree.{App}
+use Rattle.rt_app.specs.Accepted.{IsAccepted}
+use Rattle.rt_app.specs.Handlers.{Service, services}
+use Rattle.rt_app.proofs.Sound.{accepted_are_sound}
+use Rattle.rt_laws.specs.State.{Role, Init, Idle, Waiting, Serving, Job, State, first_values, first}
+use Rattle.rt_laws.specs.Preemption.{system_ceiling}
+use Rattle.rt_laws.specs.Giving.{return_item, item_of, next_item, item_given, next_instant, is_due}
+use Rattle.rt_laws.specs.Allowed.{May, after}
+use Rattle.rt_laws.specs.Run.{RunsOn}
+use Rattle.rt_laws.specs.ByItems.{after_all}
+use Rattle.rt_laws.specs.Observer.{Seen, Observer, first_sight, sees}
+use Rattle.rt_laws.specs.Unspent.{NoneIsSpent}
+use Rattle.rt_laws.proofs.Fine.{ActsFine, IsFine}
+use Rattle.rt_laws.specs.Waiting.{is_pending}
+use Rattle.rt_laws.proofs.Waiting.{pending_stays}
+use Rattle.rt_laws.proofs.Well.{StackWell, StateWell}
+use Rattle.rt_laws.proofs.Pending.{priority_is, starts_above}
+use Rattle.rt_laws.proofs.Happens.{first_well}
+use Rattle.rt_rta.specs.Limits as rta
+use Rattle.rt_rta.specs.Kept.{end_of_init, Kept}
+use Rattle.rt_rta.specs.declared.limits.Limit.{Limit}
+use Rattle.rt_rta.proofs.Beginning.{Unspent, long_stays, positive_row, next_well}
+use Rattle.rt_rta.proofs.Spacing.{Waits, Spaced}
+use Rattle.rt_respond.specs.Form.{is_of_form}
+use Rattle.rt_respond.specs.Handlers.{handlers}
+use Rattle.rt_respond.specs.Work.{pend_work, work}
+use Rattle.rt_respond.specs.declared.handler.Handler.{Handler}
+use Rattle.rt_respond_laws.specs.Served.{pend_of}
+use Rattle.rt_respond_laws.proofs.Sending.{AtMost}
+use Rattle.rt_respond_laws.proofs.Asking.{posts, agree}
+use Rattle.rt_respond_laws.proofs.Bodies.{init_at_most}
+use Rattle.rt_respond_laws.proofs.Passing.{Passed, Passes, Silently, Acts, Anew, Returned, step_passes}
+use Rattle.rt_respond_laws.proofs.Claims.{no_alarm, posted_by}
+use Rattle.rt_respond_laws.proofs.Owed.{owed_pending}
+use Rattle.rt_respond_laws.proofs.Lowering.{Owes, anew, posted_raises, posted_numbers}
+use Rattle.rt_respond_laws.proofs.Stretch.{Bounded, fits_start, asks_now, HaveNumbers, Short, Stretch}
+use Rattle.rt_respond_laws.proofs.Stretch.{is_served}
+
+-- a job whose next action ends `idle` runs it
+module _ (app : App) (s : State) (role : Role) (q : ℕ) where
+  idle_ends : (n : ℕ) (held : List Section) (base : Values) (rest : Doing Values) → IsFine app role q n held base rest
+      → next_item s role rest ≡ Some (what.End body.Idle) → role ≡ Idle
+  idle_ends n held base over fine is = absurd (none-some (what.End body.Idle) is)
+  idle_ends n held base (does action made next) fine is = of_action action fine.1 is
+    where
+      no_return : (r : Role) → ¬ (return_item r ≡ Some (what.End body.Idle))
+      no_return Init same = cc
+      no_return Idle same = cc
+      no_return Waiting same = cc
+      no_return (Serving irq) same = cc
+
+      not_alarm : (b : Bool) → ¬ (Some (if b then what.Alarm else what.AlarmSet) ≡ Some (what.End body.Idle))
+      not_alarm true same = cc
+      not_alarm false same = cc
+
+      of_action : (a : Action) → ActsFine app role q held a → item_of s role a ≡ Some (what.End body.Idle)
+          → role ≡ Idle
+      of_action (Ends body.Idle) acts same = acts.0
+      of_action SetsAlarm acts same = absurd (not_alarm (is_due s.time (next_instant s)) same)
+      of_action Returns acts same = absurd (no_return role same)
+      of_action a acts same = cc
+
+-- at reset nothing is pending
+pub none_set : (n k : ℕ) → slice_index_or (replicate n false) k false ≡ false
+none_set zero k = refl
+none_set (suc n) zero = refl
+none_set (suc n) (suc k) = none_set n k
+
+owed_none : (app : App) (i : Handler) (n : ℕ) (hs : List Handler) → owed_pending app i (replicate n false) hs ≡ 0
+owed_none app i n [] = refl
+owed_none app i n (h ∷ hs) =
+    let rest = owed_none app i n hs in
+    let here = ap (λ b. if b then or_zero (work app i h) else 0) (none_set n h.number) in
+    omega (arith, rest, here)
+
+-- nothing is requested before `init` ends
+abbrev pub IsLate : List Label → Type 0
+IsLate labels = (front behind : List Label) (irq : ℕ) → labels ≡ front ++ Arrived irq ∷ behind
+    → Contains front end_of_init
+
+late_on : (label : Label) (labels : List Label) → ¬ (label ≡ end_of_init) → IsLate (label ∷ labels) → IsLate labels
+late_on label labels other late front behind irq is =
+    elim (contains_cases label front end_of_init (late (label ∷ front) behind irq (ap (λ xs. label ∷ xs) is))) [
+      | inl same ↦ absurd (other same)
+      | inr there ↦ there
+    ]
+
+module _ (app : App) (accepted : IsAccepted app) (form : is_of_form app ≡ true) (limits : List Limit)
+    (fine : rta.AreLimits app limits) (i : Handler) (declared : IsIn (handlers app) i) (least : ℕ)
+    (bound : Bounded app limits i least) where
+  abbrev Asks : List Bool → ℕ
+  Asks = asks_now app accepted form limits fine i declared least bound
+
+  abbrev Numbers : List Bool → Type 0
+  Numbers = HaveNumbers app accepted form limits fine i declared least bound
+
+  abbrev In : State → Waits → ℕ → Type 0
+  In = Stretch app accepted form limits fine i declared least bound
+
+  abbrev Brief : Waits → Type 0
+  Brief = Short app accepted form limits fine i declared least bound
+
+  abbrev asked_by : ℕ → Option ℕ
+  asked_by = posts app accepted form i
+
+  -- at each moment behind the end of `init`
+  pub record Moment (s : State) (v : Observer) (waits : Waits) (labels : List Label) : Type 0 where
+    pub well : StateWell app s v
+    pub numbered : Numbers s.pending
+    pub alarm : s.alarm ≡ None
+    pub not_owing : s.owing ≡ false
+    pub runs : RunsOn app s labels
+    pub short : Brief waits
+    pub spaced : Spaced limits waits labels
+    pub unspent : Unspent app s labels
+
+  -- with so many core steps into a stretch
+  pub record At (s : State) (labels : List Label) : Type 0 where
+    pub seen : Observer
+    pub waits : Waits
+    pub steps : ℕ
+    pub moment : Moment s seen waits labels
+    pub stretch : In s waits steps
+
+  -- while `init` runs, which nothing preempts
+  record Early (s : State) (v : Observer) (labels : List Label) : Type 0 where
+    job : Job
+    jobs : s.jobs ≡ job ∷ []
+    role : job.role ≡ Init
+    highest : job.priority ≡ 2 ^ app.bits
+    well : StateWell app s v
+    numbered : Numbers s.pending
+    alarm : s.alarm ≡ None
+    not_owing : s.owing ≡ false
+    runs : RunsOn app s labels
+    unspent : Unspent app s labels
+    late : IsLate labels
+    rest : ℕ
+    few : AtMost asked_by rest job.rest
+    owed : Asks s.pending + rest ≤ bound.begin
+
+  no_takes : (s : State) (v : Observer) (shown : Option What) (labels : List Label)
+      → Early s v (Stepped shown ∷ labels) → (irq depth : ℕ) → ¬ (shown ≡ Some (what.Take irq depth))
+  no_takes s v shown labels early irq depth is =
+      let taken = subst (λ w. May app s (Stepped w)) is early.runs.0 in
+      let one = is_served app s irq taken.1 in
+      let over = starts_above app s irq taken.1 in
+      let level = priority_is app irq one.0 one.1 in
+      let highest = early.highest in
+      let reach : 2 ^ app.bits ≤ system_ceiling app s.jobs =
+      subst (λ js. 2 ^ app.bits ≤ system_ceiling app js) (sym early.jobs) (omega (arith, highest)) in
+      let range = find_has (λ (s : Service). (s.irq < length app.irqs) × (1 ≤ s.priority)
+      × (s.priority ≤ 2 ^ app.bits))
+      _ (services app) one.0 (accepted_are_sound app accepted).served one.1 in
+      let within = range.2 in
+      omega (arith, over, level, reach, within)
+
+  early_passed : (s : State) (v : Observer) (shown : Option What) (labels : List Label)
+      → (early : Early s v (Stepped shown ∷ labels)) → Passed app s early.job [] shown (after app s (Stepped shown))
+  early_passed s v shown labels early =
+      step_passes app s early.job [] early.jobs
+      (no_alarm app i asked_by bound.hold asked_by early.rest early.job.rest early.few) shown early.runs.0
+      (no_takes s v shown labels early)
+
+  -- no step of it ends `idle`
+  not_idle : (s : State) (v : Observer) (shown : Option What) (labels : List Label)
+      → Early s v (Stepped shown ∷ labels) → ¬ (shown ≡ Some (what.End body.Idle))
+  not_idle s v shown labels early is =
+      let given = (subst (λ w. May app s (Stepped w)) is early.runs.0).1 in
+      let next : next_item s early.job.role early.job.rest ≡ Some (what.End body.Idle) =
+      subst (λ js. item_given s js ≡ Some (what.End body.Idle)) early.jobs given in
+      of_seen v.jobs (subst (λ js. StackWell app js v.jobs) early.jobs early.well.stack) next
+    where
+      init_or_idle : (role : Role) → role ≡ Init → role ≡ Idle → ⊥
+      init_or_idle role init idle = cc
+
+      of_seen : (vs : List Seen) → StackWell app (early.job ∷ []) vs
+          → next_item s early.job.role early.job.rest ≡ Some (what.End body.Idle) → ⊥
+      of_seen [] stack next = absurd stack
+      of_seen (seen ∷ seens) stack next =
+          init_or_idle early.job.role early.role
+          (idle_ends app s early.job.role early.job.priority stack.0.answered early.job.sections stack.0.base
+          early.job.rest stack.0.fine next)
+
+  no_item : (role : Role) → role ≡ Init → ¬ IsSome (return_item role)
+  no_item Init is some = cc
+  no_item Idle is some = cc
+  no_item Waiting is some = cc
+  no_item (Serving irq) is some = cc
+
+  no_waits : Brief (λ irq. 0)
+  no_waits irq every row = (omega arith, positive_row limits fine irq every row)
+
+  -- it ends
+  ends_here : (behind : List Label) (s : State) (v : Observer) → Early s v (end_of_init ∷ behind)
+      → Spaced limits (λ irq. 0) behind → At (after app s end_of_init) behind
+  ends_here behind s v early spaced = by passed.passes
+    where
+      passed : Passed app s early.job [] (Some (what.End body.Init)) (after app s end_of_init)
+      passed = early_passed s v (Some (what.End body.Init)) behind early
+
+      by : Passes app s early.job [] (Some (what.End body.Init)) (after app s end_of_init)
+          → At (after app s end_of_init) behind
+      by (Silently js ps silent) = absurd (none-some _ (sym silent))
+      by (Acts action made next rest_is a vs j js role priority left rest sections lefts pending no_end) =
+          absurd (no_end refl)
+      by (Anew vs js ps ended) = record {
+        seen = sees app v end_of_init;
+        waits = λ irq. 0;
+        steps = 0;
+        moment = record {
+          well = next_well app accepted s v end_of_init early.well early.runs.0;
+          numbered = subst Numbers (sym ps) early.numbered;
+          alarm = passed.alarm ∙ early.alarm;
+          not_owing = passed.owing ∙ early.not_owing;
+          runs = early.runs.1;
+          short = no_waits;
+          spaced = spaced;
+          unspent = λ n. early.unspent (suc n);
+        };
+        stretch = record {
+          short_of = let some = bound.some in omega (arith, some);
+          counts = λ irq. 0;
+          reserve = 0;
+          all = 0;
+          within = omega arith;
+          owe = subst (Owes app accepted form i declared bound.hold bound.hold_is bound.few 0 0) (sym js) (
+            0,
+            0,
+            refl,
+            anew app accepted form i declared bound.hold bound.hold_is bound.few 0 vs,
+            refl,
+          );
+          owing = let same = ap Asks ps in let owed = early.owed in let base = bound.begin_within in
+              omega (arith, same, owed, base);
+          fits = λ irq. fits_start (rta.every_of limits irq) 0 (no_waits irq);
+        };
+      }
+      by (Returned js ps returns) = absurd (no_item early.job.role early.role returns)
+
+  -- a label on, at which it does not end
+  early_next : (label : Label) (labels : List Label) (s : State) (v : Observer) → Early s v (label ∷ labels)
+      → ¬ (label ≡ end_of_init) → Early (after app s label) (sees app v label) labels
+  early_next (Arrived irq) labels s v early other =
+      absurd (contains_none end_of_init (early.late [] labels irq refl))
+  early_next Ticked labels s v early other = record {
+    job = early.job;
+    jobs = early.jobs;
+    role = early.role;
+    highest = early.highest;
+    well = next_well app accepted s v Ticked early.well early.runs.0;
+    numbered = early.numbered;
+    alarm = early.alarm;
+    not_owing = ap (is_due (suc s.time)) early.alarm;
+    runs = early.runs.1;
+    unspent = λ n. early.unspent (suc n);
+    late = late_on Ticked labels other early.late;
+    rest = early.rest;
+    few = early.few;
+    owed = early.owed;
+  }
+  early_next Rang labels s v early other = absurd (true_and_false s.owing early.runs.0 early.not_owing)
+  early_next (Stepped shown) labels s v early other = goes_on passed.passes
+    where
+      passed : Passed app s early.job [] shown (after app s (Stepped shown))
+      passed = early_passed s v shown labels early
+
+      goes_on : Passes app s early.job [] shown (after app s (Stepped shown))
+          → Early (after app s (Stepped shown)) (sees app v (Stepped shown)) labels
+      goes_on (Silently js ps silent) = record {
+        job = _;
+        jobs = js;
+        role = early.role;
+        highest = early.highest;
+        well = next_well app accepted s v (Stepped shown) early.well early.runs.0;
+        numbered = subst Numbers (sym ps) early.numbered;
+        alarm = passed.alarm ∙ early.alarm;
+        not_owing = passed.owing ∙ early.not_owing;
+        runs = early.runs.1;
+        unspent = λ n. early.unspent (suc n);
+        late = late_on (Stepped shown) labels other early.late;
+        rest = early.rest;
+        few = early.few;
+        owed = let same = ap Asks ps in let owed = early.owed in omega (arith, same, owed);
+      }
+      goes_on (Acts action made then_next rest_is a vs j js role priority left rest sections lefts pending no_end) =
+          let parts = subst (AtMost asked_by early.rest) rest_is early.few in
+          let posted = posted_by app i asked_by bound.hold action parts.0 s.pending
+          (after app s (Stepped shown)).pending parts.2 pending in
+          let raises = posted_raises app accepted form i declared bound.hold bound.hold_is bound.few s.pending
+          (after app s (Stepped shown)).pending parts.0 posted in
+          record {
+            job = j;
+            jobs = js;
+            role = role ∙ early.role;
+            highest = priority ∙ early.highest;
+            well = next_well app accepted s v (Stepped shown) early.well early.runs.0;
+            numbered = posted_numbers app accepted form i declared bound.hold bound.hold_is bound.few s.pending
+                (after app s (Stepped shown)).pending parts.0 posted early.numbered;
+            alarm = passed.alarm ∙ early.alarm;
+            not_owing = passed.owing ∙ early.not_owing;
+            runs = early.runs.1;
+            unspent = λ n. early.unspent (suc n);
+            late = late_on (Stepped shown) labels other early.late;
+            rest = parts.1;
+            few = subst (AtMost asked_by parts.1) (sym rest) (parts.4 a vs);
+            owed = let owed = early.owed in let within = parts.3 in omega (arith, raises, owed, within);
+          }
+      goes_on (Anew vs js ps (inl ended)) = absurd (other (ap Stepped ended))
+      goes_on (Anew vs js ps (inr ended)) = absurd (not_idle s v shown labels early ended)
+      goes_on (Returned js ps returns) = absurd (no_item early.job.role early.role returns)
+
+  not_first : (label : Label) (during : List Label) → ¬ Contains (label ∷ during) end_of_init
+      → ¬ (label ≡ end_of_init)
+  not_first label during not_yet same =
+      not_yet (subst (λ l. Contains (l ∷ during) end_of_init) (sym same) (contains_here end_of_init during))
+
+  until_end : (during behind : List Label) (s : State) (v : Observer) → Early s v (during ++ end_of_init ∷ behind)
+      → ¬ Contains during end_of_init → Spaced limits (λ irq. 0) behind
+      → At (after_all app s (during ++ end_of_init ∷ [])) behind
+  until_end [] behind s v early not_yet spaced = ends_here behind s v early spaced
+  until_end (label ∷ during) behind s v early not_yet spaced =
+      until_end during behind (after app s label) (sees app v label)
+      (early_next label (during ++ end_of_init ∷ behind) s v early (not_first label during not_yet))
+      (λ there. not_yet (contains_there label during end_of_init there)) spaced
+
+  -- nothing that is pending is taken while it runs
+  not_taken : (label : Label) (labels : List Label) (s : State) (v : Observer) → Early s v (label ∷ labels)
+      → (irq depth : ℕ) → ¬ (label ≡ Stepped (Some (what.Take irq depth)))
+  not_taken (Arrived j) labels s v early irq depth is = cc
+  not_taken Ticked labels s v early irq depth is = cc
+  not_taken Rang labels s v early irq depth is = cc
+  not_taken (Stepped shown) labels s v early irq depth is =
+      no_takes s v shown labels early irq depth (shown_same shown (Some (what.Take irq depth)) is)
+    where
+      shown_same : (a b : Option What) → Stepped a ≡ Stepped b → a ≡ b
+      shown_same a b same = cc
+
+  -- what is pending, or is pended while it runs, is pending as it ends
+  stays_until : (during behind : List Label) (s : State) (v : Observer) → Early s v (during ++ end_of_init ∷ behind)
+      → ¬ Contains during end_of_init → (irq : ℕ) → irq < length v.pending
+      → (is_pending v irq ≡ true) ⊎ Contains during (pend_of irq)
+      → slice_index_or (after_all app s (during ++ end_of_init ∷ [])).pending irq false ≡ true
+  stays_until [] behind s v early not_yet irq within (inr there) = absurd (contains_none (pend_of irq) there)
+  stays_until [] behind s v early not_yet irq within (inl set) =
+      let well = next_well app accepted s v end_of_init early.well early.runs.0 in
+      ap (λ ps. slice_index_or ps irq false) (sym well.pending) ∙ set
+  stays_until (label ∷ during) behind s v early not_yet irq within asked =
+      stays_until during behind (after app s label) (sees app v label)
+      (early_next label (during ++ end_of_init ∷ behind) s v early (not_first label during not_yet))
+      (λ there. not_yet (contains_there label during end_of_init there)) irq
+      (let long = long_stays app v label in omega (arith, within, long)) (on asked)
+    where
+      stays : is_pending v irq ≡ true → is_pending (sees app v label) irq ≡ true
+      stays = pending_stays app irq v label
+          (λ j d is same. not_taken label (during ++ end_of_init ∷ behind) s v early j d is)
+
+      on : (is_pending v irq ≡ true) ⊎ Contains (label ∷ during) (pend_of irq)
+          → (is_pending (sees app v label) irq ≡ true) ⊎ Contains during (pend_of irq)
+      on (inl set) = inl (stays set)
+      on (inr there) = elim (contains_cases label during (pend_of irq) there) [
+        | inl same ↦ inl (subst (λ l. is_pending (sees app v l) irq ≡ true) (sym same)
+            (get_or-set_same v.pending irq true false within))
+        | inr deeper ↦ inr deeper
+      ]
+
+  at_reset : (labels during behind : List Label) → RunsOn app (first app) labels → Kept limits labels
+      → NoneIsSpent app labels → labels ≡ during ++ end_of_init ∷ behind
+      → Early (first app) (first_sight app) (during ++ end_of_init ∷ behind)
+  at_reset labels during behind runs kept unspent parts =
+      subst (Early (first app) (first_sight app)) parts
+      (record {
+        job = _;
+        jobs = refl;
+        role = refl;
+        highest = refl;
+        well = first_well app accepted;
+        numbered = λ n set. absurd (true_and_false (slice_index_or (replicate IRQ_NUMBERS false) n false) set
+            (none_set IRQ_NUMBERS n));
+        alarm = refl;
+        not_owing = refl;
+        runs = runs;
+        unspent = unspent;
+        late = λ front rest irq is. kept.late front rest irq is;
+        rest = bound.begin;
+        few = init_at_most app accepted form (pend_work app i) asked_by (agree app accepted form i) bound.begin
+            bound.begin_is (let within = bound.begin_within in let room = bound.room in let small = bound.small in
+            omega (arith, within, room, small)) (first_values app);
+        owed = let none = owed_none app i IRQ_NUMBERS (handlers app) in omega (arith, none);
+      })
+
+  -- from reset on
+  pub from_reset : (labels during behind : List Label) → RunsOn app (first app) labels → Kept limits labels
+      → NoneIsSpent app labels → labels ≡ during ++ end_of_init ∷ behind → ¬ Contains during end_of_init
+      → Spaced limits (λ irq. 0) behind → At (after_all app (first app) (during ++ end_of_init ∷ [])) behind
+  from_reset labels during behind runs kept unspent parts first_end spaced =
+      until_end during behind (first app) (first_sight app)
+      (at_reset labels during behind runs kept unspent parts) first_end spaced
+
+  -- what `init` pends is pending as it ends
+  pub pended_until : (labels during behind : List Label) → RunsOn app (first app) labels → Kept limits labels
+      → NoneIsSpent app labels → labels ≡ during ++ end_of_init ∷ behind → ¬ Contains during end_of_init → (irq : ℕ)
+      → irq < IRQ_NUMBERS → Contains during (pend_of irq)
+      → slice_index_or (after_all app (first app) (during ++ end_of_init ∷ [])).pending irq false ≡ true
+  pended_until labels during behind runs kept unspent parts first_end irq small there =
+      stays_until during behind (first app) (first_sight app) (at_reset labels during behind runs kept unspent parts)
+      first_end irq (let long = length-replicate IRQ_NUMBERS false in omega (arith, small, long)) (inr there)

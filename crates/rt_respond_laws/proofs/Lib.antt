@@ -1,0 +1,19 @@
+-- The lemmas of this crate, a file each.
+pub mod Sending
+pub mod Holding
+pub mod Bounds
+pub mod Tasks
+pub mod Works
+pub mod Asking
+pub mod Bodies
+pub mod Passing
+pub mod Claims
+pub mod Stepping
+pub mod Owed
+pub mod Lowering
+pub mod Stretch
+pub mod Early
+pub mod Coming
+pub mod Serving
+pub mod Unpended
+pub mod Responding

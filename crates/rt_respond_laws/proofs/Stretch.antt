@@ -1,0 +1,471 @@
+-- A stretch of a run in which something is left of a handler: it is over before the response time has passed.
+use Rattle.std.proofs.Common.{◌≡◌, ℕ, suc, ◌+◌, ◌-◌, ◌*◌, ◌≤◌, ◌<◌, ◌==◌, inl, inr, Bool, true, false}
+use Rattle.std.proofs.Common.{if◌then◌else◌, List, find, slice_get, slice_set, option_map}
+use Rattle.std.proofs.Common.{Option, Some, None, IsSome, refl, sym, ap, subst, ◌∙◌, arith, eq-eqb}
+use Rattle.std.proofs.lemmas.Bool.{eqb-true, cases_lt}
+use Rattle.std.proofs.lemmas.Nat.{le-div}
+use Rattle.std.proofs.lemmas.Option.{same_Some, none-some}
+use Rattle.rt_lemmas.proofs.Bools.{true_and_false}
+use Rattle.rt_lemmas.proofs.Lists.{find_has, found, found_passes, mapped_at}
+use Rattle.rt_lemmas.proofs.Membership.{all_at}
+use Rattle.rt_ids.specs.Choice.{IsIn}
+use Rattle.rt_ids.specs.Lists.{or_zero}
+use Rattle.rt_trace.specs.Label.{Arrived, Stepped}
+use Rattle.rt_trace.specs.declared.item.What.{What}
+use Rattle.rt_trace.specs.declared.item.What.TheVariants as what
+use Rattle.rt_app.specs.Tree.{App}
+use Rattle.rt_app.specs.Accepted.{IsAccepted}
+use Rattle.rt_app.specs.Handlers.{Service}
+use Rattle.rt_laws.specs.Services.{service_at, priority_of}
+use Rattle.rt_laws.specs.State.{State}
+use Rattle.rt_laws.specs.Preemption.{candidate}
+use Rattle.rt_laws.specs.Allowed.{HasStep, MayStep, May, state_after_start, after}
+use Rattle.rt_laws.specs.Observer.{Observer, sees}
+use Rattle.rt_laws.proofs.FineHandlers.{all_in}
+use Rattle.rt_laws.proofs.Well.{StateWell}
+use Rattle.rt_laws.proofs.Pending.{starts_above}
+use Rattle.rt_laws.proofs.Happens.{Step, turn_silent, given_step}
+use Rattle.rt_rta.specs.Limits as rta
+use Rattle.rt_rta.specs.Response.{most_requests}
+use Rattle.rt_rta.specs.declared.limits.Limit.{Limit}
+use Rattle.rt_rta.specs.declared.response.TheConstants.{MOST_STEPS}
+use Rattle.rt_rta.proofs.Owing.{Counts, one_more, other_set}
+use Rattle.rt_rta.proofs.Spacing.{Waits, requested, a_step_on}
+use Rattle.rt_respond.specs.Form.{is_of_form}
+use Rattle.rt_respond.specs.Handlers.{handlers}
+use Rattle.rt_respond.specs.Work.{start}
+use Rattle.rt_respond.specs.Blocking.{blocking}
+use Rattle.rt_respond.specs.Response.{demand, backlog, Suffices}
+use Rattle.rt_respond.specs.declared.handler.Handler.{Handler}
+use Rattle.rt_respond.specs.declared.number.TheConstants.{MOST_WORK}
+use Rattle.rt_respond_laws.proofs.Sending.{sums, both_within}
+use Rattle.rt_respond_laws.proofs.Works.{behind_asks}
+use Rattle.rt_respond_laws.proofs.Asking.{distinct, posts, found_handler}
+use Rattle.rt_respond_laws.proofs.Passing.{SetsNone, Passed, step_passes}
+use Rattle.rt_respond_laws.proofs.Claims.{owe_more, sets_none}
+use Rattle.rt_respond_laws.proofs.Owed.{asks_in, pend_raises, raised, raised_none, raised_one, raised_within}
+use Rattle.rt_respond_laws.proofs.Lowering.{asked, Owes, Numbered, Lowers, some_handlers, take_lowers_it}
+use Rattle.rt_respond_laws.proofs.Lowering.{take_quiet, job_lowers, job_quiet}
+
+-- the numbers of a response time
+pub record Bounded (app : App) (limits : List Limit) (i : Handler) (least : ℕ) : Type 0 where
+  pub hold : ℕ
+  pub hold_is : blocking app i ≡ Some hold
+  pub few : hold < MOST_WORK
+  pub begin : ℕ
+  pub begin_is : start app i ≡ Some begin
+  pub base : ℕ
+  pub hold_within : hold ≤ base
+  pub begin_within : begin ≤ base
+  pub demanded : ℕ
+  pub demand_is : demand app limits i least ≡ Some demanded
+  pub room : base + demanded ≤ least
+  pub small : least < MOST_WORK
+  pub some : 1 ≤ least
+
+pub bounded : (app : App) (limits : List Limit) (i : Handler) (least : ℕ) → Suffices app limits i least
+    → least ≤ MOST_STEPS → Bounded app limits i least
+bounded app limits i least suffices within =
+    let covers = suffices.covers in
+    let some = suffices.some in
+    let small : least < MOST_WORK = below within in
+    let parts = sums (backlog app limits i) (demand app limits i least) suffices.need suffices.needs
+    (omega (arith, covers, small)) in
+    let sum = parts.sum in
+    let both = both_within (blocking app i) (start app i) parts.first parts.first_is in
+    let first = both.first_within in
+    record {
+      hold = both.first;
+      hold_is = both.first_is;
+      few = omega (arith, first, sum, covers, small);
+      begin = both.second;
+      begin_is = both.second_is;
+      base = parts.first;
+      hold_within = both.first_within;
+      begin_within = both.second_within;
+      demanded = parts.second;
+      demand_is = parts.second_is;
+      room = omega (arith, sum, covers);
+      small = small;
+      some = some;
+    }
+  where
+    below : least ≤ MOST_STEPS → least < MOST_WORK
+    below within =
+        let steps : MOST_STEPS ≡ 1000000 = refl in
+        let work : MOST_WORK ≡ 1000000000000 = refl in omega (arith, within, steps, work)
+
+-- so many requests of an interrupt fit into so many steps, where it has to wait so long from now on
+abbrev pub Fits : Option ℕ → ℕ → ℕ → ℕ → Type 0
+Fits None count steps waits = count ≡ 0
+Fits (Some every) count steps waits = (count * every ≤ steps + waits) × (waits ≤ every) × (1 ≤ every)
+
+pub fits_start : (o : Option ℕ) (waits : ℕ) → ((every : ℕ) → o ≡ Some every → (waits ≤ every) × (1 ≤ every))
+    → Fits o 0 0 waits
+fits_start None waits short = refl
+fits_start (Some every) waits short = let few = short every refl in (omega arith, few.0, few.1)
+
+fits_step : (o : Option ℕ) (count steps waits : ℕ) → Fits o count steps waits → Fits o count (steps + 1) (waits - 1)
+fits_step None count steps waits fits = fits
+fits_step (Some every) count steps waits fits =
+    let few = fits.0 in
+    let short = fits.1 in (omega (arith, few), omega (arith, short), fits.2)
+
+-- before so many steps have passed no more requests have been made than may begin in them
+fits_within : (o : Option ℕ) (every count steps waits most : ℕ) → o ≡ Some every → Fits o count steps waits
+    → steps < most → count ≤ most_requests most every
+fits_within None every count steps waits most is fits less = absurd (none-some every is)
+fits_within (Some n) every count steps waits most is fits less =
+    let same : n ≡ every = same_Some n every is in
+    subst (λ m. count ≤ most_requests most m) same
+    (let few = fits.0 in
+    let short = fits.1 in
+    let some = fits.2 in le-div count (most + (n - 1)) n some (omega (arith, few, short, some, less)))
+
+-- how a core step comes about
+module _ (app : App) (accepted : IsAccepted app) (s : State) (v : Observer) (shown : Option What) where
+  pub data StepCase : Type 0 where
+    Takes : (irq : ℕ) → candidate app s ≡ Some irq → (x : Service) → (at : service_at app irq ≡ Some x)
+        → (depth : ℕ) → shown ≡ Some (what.Take irq depth) → StepCase
+    Goes : (given : Option What) → (u : Observer) → (step : Step app s v given (after app s (Stepped shown)) u)
+        → HasStep step.job.role step.job.left
+        → (SetsNone step.job.rest → Passed app s step.job step.others shown (after app s (Stepped shown))) → StepCase
+
+pub is_served : (app : App) (s : State) (irq : ℕ) → candidate app s ≡ Some irq
+    → (v : Service) × (service_at app irq ≡ Some v)
+is_served app s irq is = by (service_at app irq) refl
+  where
+    by : (o : Option Service) → service_at app irq ≡ o → (v : Service) × (o ≡ Some v)
+    by (Some v) at = (v, refl)
+    by None at =
+        let over = starts_above app s irq is in
+        let none : priority_of app irq ≡ 0 = ap (λ o. or_zero (option_map (λ (x : Service). x.priority) o)) at in
+        absurd (omega (arith, over, none))
+
+pub step_case : (app : App) (accepted : IsAccepted app) (s : State) (v : Observer) → StateWell app s v
+    → (shown : Option What) → May app s (Stepped shown) → StepCase app accepted s v shown
+step_case app accepted s v well None may =
+    let step = turn_silent app accepted s v s.jobs v.jobs refl refl well.stack well.pending well.queued well.order
+    may.step may.quiet in
+    Goes None (sees app v (Stepped None)) step (subst MayStep step.jobs_are may.step).0
+    (λ none. step_passes app s step.job step.others step.jobs_are none None may (λ irq depth e. none-some _ e))
+step_case app accepted s v well (Some (what.Take irq depth)) may =
+    let x = is_served app s irq may.1 in Takes irq may.1 x.0 x.1 depth refl
+step_case app accepted s v well (Some w) may =
+    let step = given_step app accepted s v well w may.0 may.1 in
+    Goes (Some w) (sees app v (Stepped (Some w))) step (subst MayStep step.jobs_are may.0.step).0
+    (λ none. step_passes app s step.job step.others step.jobs_are none (Some w) may (λ irq depth e. cc))
+
+module _ (app : App) (accepted : IsAccepted app) (form : is_of_form app ≡ true) (limits : List Limit)
+    (fine : rta.AreLimits app limits) (i : Handler) (declared : IsIn (handlers app) i) (least : ℕ)
+    (bound : Bounded app limits i least) where
+  abbrev hold : ℕ
+  hold = bound.hold
+
+  abbrev pub asks_now : List Bool → ℕ
+  asks_now = asked app accepted form i declared hold bound.hold_is bound.few
+
+  abbrev pub OweAt : ℕ → ℕ → State → Type 0
+  OweAt reserve all s = Owes app accepted form i declared hold bound.hold_is bound.few reserve all s.jobs
+
+  abbrev pub HaveNumbers : List Bool → Type 0
+  HaveNumbers = Numbered app accepted form i declared hold bound.hold_is bound.few
+
+  abbrev Lowered : State → State → ℕ → ℕ → ℕ → Type 0
+  Lowered = Lowers app accepted form i declared hold bound.hold_is bound.few
+
+  -- every interrupt with a limit may be requested again within it
+  abbrev pub Short : Waits → Type 0
+  Short waits = (irq every : ℕ) → rta.every_of limits irq ≡ Some every → (waits irq ≤ every) × (1 ≤ every)
+
+  -- so many core steps into a stretch
+  pub record Stretch (s : State) (waits : Waits) (steps : ℕ) : Type 0 where
+    pub short_of : steps < least
+    pub counts : Counts
+    pub reserve : ℕ
+    pub all : ℕ
+    pub within : reserve ≤ hold
+    pub owe : OweAt reserve all s
+    pub owing : all + asks_now s.pending + reserve + steps ≤ bound.base + raised app i counts limits
+    pub fits : (irq : ℕ) → Fits (rta.every_of limits irq) (counts irq) steps (waits irq)
+
+  -- a limit says what is said of its interrupt
+  own_every : (row : Limit) → IsIn limits row → rta.every_of limits row.irq ≡ Some row.every
+  own_every row there =
+      let one = found (λ (l : Limit). l.irq == row.irq) limits there.0 row there.1 (eq-eqb row.irq row.irq refl) in
+      let is_in = find_has (IsIn limits) (λ (l : Limit). l.irq == row.irq) limits one.0
+      (all_in (IsIn limits) limits (λ l is. is)) one.1 in
+      let same : one.0.irq ≡ row.irq =
+      eqb-true one.0.irq row.irq (found_passes (λ (l : Limit). l.irq == row.irq) limits one.0 one.1) in
+      let index : is_in.0 ≡ there.0 =
+      fine.once is_in.0 there.0 row.irq
+      (mapped_at (λ (l : Limit). l.irq) limits is_in.0 one.0 is_in.1 ∙ ap Some same)
+      (mapped_at (λ (l : Limit). l.irq) limits there.0 row there.1) in
+      let equal : one.0 ≡ row =
+      same_Some one.0 row (sym is_in.1 ∙ ap (slice_get limits) index ∙ there.1) in
+      ap (option_map (λ (l : Limit). l.every)) (one.1 ∙ ap Some equal)
+
+  positive_every : (row : Limit) → IsIn limits row → 1 ≤ row.every
+  positive_every row there = all_at (λ l. 1 ≤ l.every) limits there.0 row fine.positive there.1
+
+  -- what was requested asks for no more than is demanded, and for numbers
+  demands : (s : State) (waits : Waits) (steps : ℕ) (counts : Counts) → steps < least
+      → ((irq : ℕ) → Fits (rta.every_of limits irq) (counts irq) steps (waits irq))
+      → raised app i counts limits ≤ bound.demanded
+  demands s waits steps counts short fits =
+      let room = bound.room in
+      let small = bound.small in
+      (raised_within app i (λ h there behind. behind_asks app i h
+      (some_handlers app accepted form i declared hold bound.hold_is bound.few) behind)
+      (λ n h is. (found_handler app accepted form n h is).0) limits least counts limits bound.demanded
+      (all_in (λ l. (1 ≤ most_requests least l.every) × (counts l.irq ≤ most_requests least l.every)) limits
+      (λ row there. (
+        some_begin row there,
+        fits_within (rta.every_of limits row.irq) row.every (counts row.irq) steps (waits row.irq) least
+            (own_every row there) (fits row.irq) short,
+      )))
+      bound.demand_is (omega (arith, room, small))).0
+    where
+      some_begin : (row : Limit) → IsIn limits row → 1 ≤ most_requests least row.every
+      some_begin row there =
+          let positive = positive_every row there in
+          let some = bound.some in
+          le-div 1 (least + (row.every - 1)) row.every positive (omega (arith, some, positive))
+
+  -- each interrupt that may be requested asks for a number
+  requests_ask : (irq every : ℕ) → rta.every_of limits irq ≡ Some every → IsSome (posts app accepted form i irq)
+  requests_ask irq every is = by (find (λ (l : Limit). l.irq == irq) limits) refl is
+    where
+      some_begin : (row : Limit) → IsIn limits row → 1 ≤ most_requests least row.every
+      some_begin row there =
+          let positive = positive_every row there in
+          let some = bound.some in
+          le-div 1 (least + (row.every - 1)) row.every positive (omega (arith, some, positive))
+
+      room_small : bound.demanded < MOST_WORK
+      room_small = let room = bound.room in let small = bound.small in omega (arith, room, small)
+
+      by : (o : Option Limit) → find (λ (l : Limit). l.irq == irq) limits ≡ o
+          → option_map (λ (l : Limit). l.every) o ≡ Some every → IsSome (posts app accepted form i irq)
+      by None none same = absurd (none-some every same)
+      by (Some row) there same =
+          let passes : row.irq ≡ irq = eqb-true row.irq irq
+          (found_passes (λ (l : Limit). l.irq == irq) limits row there)
+          in
+          subst (λ n. IsSome (posts app accepted form i n)) passes
+          (find_has (λ l. IsSome (posts app accepted form i l.irq)) (λ (l : Limit). l.irq == irq) limits row
+          (raised_within app i (λ h there behind. behind_asks app i h
+          (some_handlers app accepted form i declared hold bound.hold_is bound.few) behind)
+          (λ n h is. (found_handler app accepted form n h is).0) limits least (λ n. 0) limits bound.demanded
+          (all_in (λ l. (1 ≤ most_requests least l.every) × (0 ≤ most_requests least l.every)) limits
+          (λ row there. (some_begin row there, omega arith)))
+          bound.demand_is room_small).1 there)
+
+  -- what is asked for is a number that did not stop
+  small_asked : (s : State) (waits : Waits) (steps : ℕ) → (stretch : Stretch s waits steps)
+      → asks_now s.pending < MOST_WORK
+  small_asked s waits steps stretch =
+      let owing = stretch.owing in
+      let few = demands s waits steps stretch.counts stretch.short_of stretch.fits in
+      let room = bound.room in
+      let small = bound.small in omega (arith, owing, few, room, small)
+
+  -- it begins where nothing is left
+  pub fresh : (s : State) (waits : Waits) (reserve all : ℕ) → Short waits → reserve ≤ hold → OweAt reserve all s
+      → all ≡ 0 → asks_now s.pending ≡ 0 → Stretch s waits 0
+  fresh s waits reserve all short within owe none clear =
+      let some = bound.some in
+      let base = bound.hold_within in
+      record {
+        short_of = omega (arith, some);
+        counts = λ irq. 0;
+        reserve = hold;
+        all = all;
+        within = omega arith;
+        owe = owe_more app i (posts app accepted form i) hold reserve hold all s.jobs within owe;
+        owing = omega (arith, none, clear, base, raised_none app i limits);
+        fits = λ irq. fits_start (rta.every_of limits irq) (waits irq) (short irq);
+      }
+
+  -- a request
+  pub on_request : (s : State) (waits : Waits) (steps irq every : ℕ) → Short waits
+      → rta.every_of limits irq ≡ Some every → waits irq ≡ 0 → Stretch s waits steps
+      → Stretch (after app s (Arrived irq)) (requested irq every waits) steps
+  on_request s waits steps irq every short row now stretch =
+      let raises = pend_raises app i s.pending irq (handlers app) (distinct app accepted form) in
+      let one = request_counts (find (λ (l : Limit). l.irq == irq) limits) refl row in
+      let owing = stretch.owing in
+      record {
+        short_of = stretch.short_of;
+        counts = one_more irq stretch.counts;
+        reserve = stretch.reserve;
+        all = stretch.all;
+        within = stretch.within;
+        owe = stretch.owe;
+        owing = omega (arith, raises, one, owing);
+        fits = λ k. by k (k == irq) refl;
+      }
+    where
+      request_counts : (o : Option Limit) → find (λ (l : Limit). l.irq == irq) limits ≡ o
+          → option_map (λ (l : Limit). l.every) o ≡ Some every
+          → raised app i stretch.counts limits + asks_in app i irq (handlers app)
+          ≤ raised app i (one_more irq stretch.counts) limits
+      request_counts None none same = absurd (none-some every same)
+      request_counts (Some l) there same = raised_one app i irq stretch.counts limits l there
+
+      of_row : (o : Option ℕ) (count : ℕ) → o ≡ Some every → Fits o count steps 0 → (1 ≤ every)
+          → Fits o (suc count) steps every
+      of_row o count is fits some =
+          subst (λ q. Fits q (suc count) steps every) (sym is)
+          (let few = (subst (λ q. Fits q count steps 0) is fits).0 in (omega (arith, few), omega arith, some))
+
+      by : (k : ℕ) (b : Bool) → (k == irq) ≡ b
+          → Fits (rta.every_of limits k) (if b then suc (stretch.counts k) else stretch.counts k) steps
+          (if b then every else waits k)
+      by k true test =
+          let same : k ≡ irq = eqb-true k irq test in
+          of_row (rta.every_of limits k) (stretch.counts k) (ap (rta.every_of limits) same ∙ row)
+          (subst (λ w. Fits (rta.every_of limits k) (stretch.counts k) steps w) (ap waits same ∙ now) (stretch.fits k))
+          (short irq every row).1
+      by k false test = stretch.fits k
+
+  pub numbers_requested : (ps : List Bool) (irq every : ℕ) → rta.every_of limits irq ≡ Some every → HaveNumbers ps
+      → HaveNumbers (slice_set ps irq true)
+  numbers_requested ps irq every row numbered n set = by (n == irq) refl
+    where
+      by : (b : Bool) → (n == irq) ≡ b → IsSome (posts app accepted form i n)
+      by true test = subst (λ k. IsSome (posts app accepted form i k)) (sym (eqb-true n irq test))
+          (requests_ask irq every row)
+      by false test =
+          numbered n (sym (other_set ps irq n true (λ e. true_and_false (n == irq) (eq-eqb n irq e) test)) ∙ set)
+
+  -- what a step lowers, while something is left
+  module _ (s : State) (v : Observer) (shown : Option What) (case : StepCase app accepted s v shown) (waits : Waits)
+      (steps : ℕ) (stretch : Stretch s waits steps) (numbered : HaveNumbers s.pending) where
+    abbrev pub t : State
+    t = after app s (Stepped shown)
+
+    -- what is left
+    abbrev pub left : ℕ
+    left = stretch.all + asks_now s.pending
+
+    pub lowers_left : 0 < left → Lowered s t stretch.reserve stretch.all 1
+    lowers_left some = by case
+      where
+        by : StepCase app accepted s v shown → Lowered s t stretch.reserve stretch.all 1
+        by (Takes irq is x at depth shown_is) =
+            subst (λ (w : Option What). Lowered s (after app s (Stepped w)) stretch.reserve stretch.all 1)
+            (sym shown_is)
+            (subst (λ o. Lowered s (state_after_start app (record s { pending = slice_set s.pending irq false }) irq o)
+            stretch.reserve stretch.all 1) (sym at)
+            (take_lowers_it app accepted form i declared hold bound.hold_is bound.few s irq is x at stretch.reserve
+            stretch.all stretch.owe numbered some (small_asked s waits steps stretch)))
+        by (Goes given u step has passed) =
+            let own = subst (Owes app accepted form i declared hold bound.hold_is bound.few stretch.reserve stretch.all)
+            step.jobs_are stretch.owe in
+            job_lowers app accepted form i declared hold bound.hold_is bound.few s v given shown t u step
+            (passed (sets_none app i (posts app accepted form i) hold stretch.reserve own.0 step.job own.3))
+            stretch.reserve stretch.all numbered stretch.owe has some
+
+    -- and where nothing is
+    pub lowers_quiet : left ≡ 0 → Lowered s t hold stretch.all 0
+    lowers_quiet none = by case
+      where
+        full : OweAt hold stretch.all s
+        full = owe_more app i (posts app accepted form i) hold stretch.reserve hold stretch.all s.jobs stretch.within
+            stretch.owe
+
+        by : StepCase app accepted s v shown → Lowered s t hold stretch.all 0
+        by (Takes irq is x at depth shown_is) =
+            subst (λ (w : Option What). Lowered s (after app s (Stepped w)) hold stretch.all 0) (sym shown_is)
+            (subst (λ o. Lowered s (state_after_start app (record s { pending = slice_set s.pending irq false }) irq o)
+            hold stretch.all 0) (sym at)
+            (take_quiet app accepted form i declared hold bound.hold_is bound.few s irq is x at stretch.all full
+            numbered
+            (omega (arith, none)) (omega (arith, none))))
+        by (Goes given u step has passed) =
+            let own = subst (Owes app accepted form i declared hold bound.hold_is bound.few hold stretch.all)
+            step.jobs_are full in
+            job_quiet app accepted form i declared hold bound.hold_is bound.few s v given shown t u step
+            (passed (sets_none app i (posts app accepted form i) hold hold own.0 step.job own.3)) hold stretch.all
+            numbered full has refl
+
+    -- behind it nothing is left, or the stretch goes on
+    pub data Behind : Type 0 where
+      Over : (reserve all : ℕ) → reserve ≤ hold → OweAt reserve all t → all ≡ 0 → asks_now t.pending ≡ 0 → Behind
+      On : (on : Stretch t (a_step_on waits) (steps + 1)) → 0 < on.all + asks_now t.pending → Behind
+
+    pub behind_left : Lowered s t stretch.reserve stretch.all 1 → Behind
+    behind_left lowers = elim (cases_lt 0 (lowers.all_then + asks_now t.pending)) [
+      | inl more ↦ On (record {
+        short_of = still more;
+        counts = stretch.counts;
+        reserve = lowers.reserve_then;
+        all = lowers.all_then;
+        within = let within = stretch.within in let less = lowers.less in omega (arith, within, less);
+        owe = lowers.owe;
+        owing = within_room;
+        fits = λ irq. fits_step (rta.every_of limits irq) (stretch.counts irq) steps (waits irq) (stretch.fits irq);
+      }) more
+      | inr none ↦ Over lowers.reserve_then lowers.all_then
+          (let within = stretch.within in let less = lowers.less in omega (arith, within, less))
+          lowers.owe (omega (arith, none)) (omega (arith, none))
+    ]
+      where
+        within_room : lowers.all_then + asks_now t.pending + lowers.reserve_then + (steps + 1)
+            ≤ bound.base + raised app i stretch.counts limits
+        within_room = let sum = lowers.sum in let owing = stretch.owing in omega (arith, sum, owing)
+
+        still : 0 < lowers.all_then + asks_now t.pending → steps + 1 < least
+        still more = elim (cases_lt (steps + 1) least) [
+          | inl short ↦ short
+          | inr past ↦
+              let short = stretch.short_of in
+              let few = demands s waits steps stretch.counts stretch.short_of stretch.fits in
+              let room = bound.room in
+              absurd (omega (arith, within_room, more, past, short, few, room))
+        ]
+
+    -- where nothing is left the stretch begins anew
+    pub behind_quiet : Short (a_step_on waits) → Lowered s t hold stretch.all 0 → left ≡ 0
+        → Stretch t (a_step_on waits) 0
+    behind_quiet short lowers none =
+        let some = bound.some in
+        let base = bound.hold_within in
+        let sum = lowers.sum in
+        record {
+          short_of = omega (arith, some);
+          counts = λ irq. 0;
+          reserve = lowers.reserve_then;
+          all = lowers.all_then;
+          within = lowers.less;
+          owe = lowers.owe;
+          owing = omega (arith, sum, none, base, raised_none app i limits);
+          fits = λ irq. fits_start (rta.every_of limits irq) (a_step_on waits irq) (short irq);
+        }
+
+    -- wherever it is
+    pub any_step : Short (a_step_on waits) → (n : ℕ) × Stretch t (a_step_on waits) n
+    any_step short = elim (cases_lt 0 left) [
+      | inl more ↦ by (behind_left (lowers_left more))
+      | inr none ↦ let empty : left ≡ 0 = omega (arith, none) in (0, behind_quiet short (lowers_quiet empty) empty)
+    ]
+      where
+        by : Behind → (n : ℕ) × Stretch t (a_step_on waits) n
+        by (Over reserve all within owe none clear) =
+            (0, fresh t (a_step_on waits) reserve all short within owe none clear)
+        by (On on more) = (steps + 1, on)
+
+    -- what is pending behind it has numbers
+    pub numbers_behind : HaveNumbers t.pending
+    numbers_behind = elim (cases_lt 0 left) [
+      | inl more ↦ (lowers_left more).numbered
+      | inr none ↦ (lowers_quiet (omega (arith, none))).numbered
+    ]
+
+    pub calm_behind : s.alarm ≡ None → s.owing ≡ false → (t.alarm ≡ None) × (t.owing ≡ false)
+    calm_behind alarm owing = elim (cases_lt 0 left) [
+      | inl more ↦ ((lowers_left more).alarm ∙ alarm, (lowers_left more).owing ∙ owing)
+      | inr none ↦
+          let lowers = lowers_quiet (omega (arith, none)) in (lowers.alarm ∙ alarm, lowers.owing ∙ owing)
+    ]

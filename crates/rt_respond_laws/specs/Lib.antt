@@ -1,0 +1,4 @@
+-- The definitions of this crate, a file each.
+pub mod Moments
+pub mod Served
+pub mod Laws
