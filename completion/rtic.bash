@@ -26,7 +26,7 @@ _rtic() {
     COMPREPLY=()
     if [[ $COMP_CWORD -eq 1 ]]; then
         local words='run check fmt build audit live soak demo deepest verify times pair'
-        [[ $program != rticx ]] || words='run audit live native why cycles bounds'
+        [[ $program != rticx ]] || words='run audit live native why cycles bounds respond'
         [[ $word != -* ]] || words='-h --help --version'
         mapfile -t COMPREPLY < <(compgen -W "$words" -- "$word")
         return
@@ -37,6 +37,7 @@ _rtic() {
     rticx:native) endings=(rtic board) ;;
     rticx:why | rticx:bounds) endings=(listing) ;;
     rticx:cycles) endings=(rtic) ;;
+    rticx:respond) endings=(rtic limits) ;;
     rticx:*) ;;
     *:check | *:fmt | *:build | *:soak | *:deepest) endings=(rtic) ;;
     *:run | *:live) endings=(rtic script) ;;

@@ -15,6 +15,8 @@ function __rtic_wants --argument-names ending
             set endings listing
         case 'rticx cycles'
             set endings rtic
+        case 'rticx respond'
+            set endings rtic limits
         case 'rticx *'
         case '* check' '* fmt' '* build' '* soak' '* deepest'
             set endings rtic
@@ -76,7 +78,8 @@ for row in \
         'native:write an executable of an image for the ARMv7-M core of a board' \
         'why:judge as rtic verify does, and say where an image breaks a rule' \
         'cycles:write what an image costs on a Cortex-M4, in cycles' \
-        'bounds:write how many steps handlers and sections of an image can take, and its stack'
+        'bounds:write how many steps handlers and sections of an image can take, and its stack' \
+        'respond:write the response time of each interrupt, and what comes of requests'
     set -l parts (string split -m 1 : $row)
     complete -c rticx -n __fish_is_first_token -a $parts[1] -d $parts[2]
 end

@@ -1,4 +1,4 @@
-"""Applications for which `times` and `deepest` have no answer: which condition fails, and where."""
+"""Applications for which `times`, `deepest` and `rticx respond` have no answer: which condition fails, and where."""
 from dataclasses import dataclass
 
 from .costs import Costs
@@ -16,10 +16,12 @@ WHY = {
     "software": {
         "times": "a message comes from a body, and not from outside with a least distance",
         "deepest": "only a run says whether a software task ever starts on top of the others",
+        "rticx respond": "it has no numbers for messages",
     },
     "monotonic": {
         "times": "the timer's requests come from ticks, and not with a least distance in core steps",
         "deepest": "the timer's interrupt comes from ticks and messages, and not from the script's requests alone",
+        "rticx respond": "it has no numbers for the timer",
     },
     "pend": {
         "times": "requests are to come only from outside",
@@ -38,8 +40,9 @@ class Failed:
 
 
 def failed(app, command):
-    """The conditions of `times` or `deepest` that an application does not meet."""
-    rows = [("software", software(app)), ("monotonic", monotonic(app)), ("pend", pends(app, command))]
+    """The conditions of a command that an application does not meet."""
+    rows = [("software", software(app)), ("monotonic", monotonic(app))]
+    rows += [("pend", pends(app, command))] if command in NEEDS["pend"] else []
     rows += [("cost", cost(app))] if command == "deepest" else []
     return [Failed(key, places) for key, places in rows if places]
 

@@ -24,13 +24,21 @@ def limits_line(app, number, source, lines, size, table, takes):
     return said
 
 
+def is_loose(said):
+    """Whether a line has a tab, or a blank at an end, which is said then."""
+    source = said.source
+    if "\t" in source.strip(" \t\r"):
+        said.at("\t", "words are separated by spaces, and this is a tab")
+    elif source != source.strip(" \t") or source.endswith("\r"):
+        said.at(source.strip(" \t"), "a blank comes before the first word, or after the last")
+    return said.cause is not None
+
+
 def bad_line(said, words, lines, table):
     """What is wrong with a line that is of no form, or the second one for its interrupt."""
-    source, forms = said.source, table.mending("limits 2")
-    if "\t" in source.strip(" \t\r"):
-        return said.at("\t", "words are separated by spaces, and this is a tab")
-    if source != source.strip(" \t") or source.endswith("\r"):
-        return said.at(source.strip(" \t"), "a blank comes before the first word, or after the last")
+    if is_loose(said):
+        return said
+    forms = table.mending("limits 2")
     if words[0] != "every":
         said.at(words[0], f"no line of limits begins with `{words[0]}`")
         said.helps = [HASH if words[0].startswith(("//", "--", ";", "/*")) else forms]

@@ -6,7 +6,7 @@ import stat
 import subprocess
 import traceback
 
-from . import audits, boards, every, forms, images, limits, pages, scripts, words as wording
+from . import audits, boards, every, forms, images, limits, pages, responding, scripts, words as wording
 from .lines import LAST, LINE_REFUSAL, refused_lines
 from .refusals import NOT_ASKED, REFUSAL, Refusal, Telling
 from .report import Report, shown
@@ -22,6 +22,8 @@ PLACES = 3
 FRONT = 4_096
 APPLICATION, SECOND = MOST_BYTES, 268_435_456
 DONE, REFUSED, USAGE, BAD_LINE, NO, UNREAD = range(6)
+# the answer of `rticx respond` for an application that it has no numbers for
+FORMLESS = b"- form\n"
 # the commands that judge the image of a listing
 JUDGING = ("verify", "rticx why", "rticx bounds")
 
@@ -69,6 +71,9 @@ class Explained:
             self.warn()
         elif status == DONE and self.words[0] == "times":
             self.responses(front.decode("latin-1"))
+        elif front.startswith(FORMLESS) and self.words[0] == "rticx respond":
+            self.other_form(FORMLESS.decode().strip())
+            self.page(pages.OF_FORMS[self.words[0]])
         elif status == REFUSED and (found := REFUSAL.match(front)):
             self.refused(Refusal(self.text(1 if found[1] else 0), found))
         elif status == USAGE:
@@ -83,7 +88,7 @@ class Explained:
             self.wrong_item(int(front[3:]))
             self.page(pages.AUDITS)
         elif status == NO and front == b"no\n":
-            self.other_form()
+            self.other_form("no")
             self.page(pages.OF_FORMS[self.words[0]])
         elif status == UNREAD:
             self.report.line(shown(wording.of_files(wording.files_of(self.words))))
@@ -158,7 +163,8 @@ class Explained:
 
     def bad_lines(self, which, line, number, words):
         """A refused line, or with `--all` each."""
-        place = {"image": 0}.get(which, 2 if self.words[0] == "pair" or self.is_beside and which != "board" else 1)
+        is_third = self.words[0] == "pair" or self.is_beside and which not in ("board", "limits")
+        place = {"image": 0}.get(which, 2 if is_third else 1)
         if not self.is_all or which == "image" or self.is_beside or not self.program.answers:
             return self.bad_line(which, line, number, words, place)
         found = list(refused_lines(self.program, self.handed, place, self.text(place)))
@@ -193,13 +199,14 @@ class Explained:
             said = scripts.script_line(tree_of(self.text(0)), number, source, lines, size, self.table, takes,
                                        self.is_beside)
         elif which == "limits":
-            said = limits.limits_line(tree_of(self.text(0)), number, source, lines, size, self.table, takes)
+            of_line = responding.respond_line if self.is_beside else limits.limits_line
+            said = of_line(tree_of(self.text(0)), number, source, lines, size, self.table, takes)
         else:
             said = scripts.trace_line(tree_of(self.text(0)), number, source, lines, line, self.table, takes)
         self.report.head(self.names[place], line, said.start + 1, f"{which} {number} {words}")
         self.report.rows([(line, source)], said.start, said.length, "")
         self.report.sentences([("cause", said.cause)] + [("help", one) for one in said.helps])
-        self.page(pages.OF_LINES["board" if self.is_beside and which not in ("limits", "image") else which])
+        self.page(pages.of_line(which, self.is_beside))
 
     def page(self, section):
         """The section of the documents that says more."""
@@ -229,14 +236,14 @@ class Explained:
             report.note(sentence, self.names[0], text, offset_of(text, line, 1), len(lines[line - 1]))
         return report.say("note", breach.remark) if breach.remark else None
 
-    def other_form(self):
-        """Which conditions of `times` or `deepest` an application does not meet, and where."""
+    def other_form(self, answer):
+        """Which conditions of its command an application does not meet, and where."""
         text, report, command = self.text(0), self.report, self.words[0]
         report.line(wording.FORMS[command])
         for one in forms.failed(tree_of(text), command):
             token, label = one.places[0]
             line, column = place_of(text, token.at)
-            report.head(self.names[0], line, column, "no")
+            report.head(self.names[0], line, column, answer)
             report.picture(text, token.at, len(token.text), label)
             report.say("cause", forms.need(one.key, command))
             for token, label in one.places[1 : 1 + PLACES]:

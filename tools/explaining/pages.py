@@ -2,6 +2,7 @@
 GRAMMAR, FORMS = ("LANGUAGE", "Applications"), ("LANGUAGE", "Each form by an example")
 NAMES, USERS = ("LANGUAGE", "What names mean"), ("LANGUAGE", "Who may use a resource")
 REFUSALS = ("LANGUAGE", "Refusals")
+RESPOND = ("TIMES", "Where bodies pend: `rticx respond`")
 OF_RULES = {
     5: NAMES, 6: NAMES, 7: USERS, 8: USERS, 9: USERS, 10: USERS, 11: USERS, 12: FORMS, 13: USERS, 14: USERS, 15: USERS,
     16: ("LANGUAGE", "Messages that wait"), 17: ("BOUNDS", "Costs: core steps of a run that is not interrupted"),
@@ -9,10 +10,11 @@ OF_RULES = {
 }
 OF_LINES = {
     "script": ("LANGUAGE", "Scripts"), "limits": ("LANGUAGE", "Limits"), "trace": ("LANGUAGE", "Traces"),
-    "image": ("LANGUAGE", "Listings"), "board": ("RTICX", "A board, a script and a trace"),
+    "image": ("LANGUAGE", "Listings"), "board": ("RTICX", "A board, a script and a trace"), "limits beside": RESPOND,
 }
 AUDITS, COMMANDS = ("LANGUAGE", "Audits"), ("LANGUAGE", "What each command takes")
-OF_FORMS = {"times": ("TIMES", "For which applications"), "deepest": ("DEEPEST", "For which applications")}
+OF_FORMS = {"times": ("TIMES", "For which applications"), "deepest": ("DEEPEST", "For which applications"),
+            "rticx respond": RESPOND}
 VERIFY = ("VERIFY", "The seven rules")
 
 
@@ -21,6 +23,13 @@ def of_refusal(number, in_body):
     if number in (1, 4):
         return REFUSALS
     return OF_RULES.get(number) or (FORMS if in_body else GRAMMAR)
+
+
+def of_line(which, is_beside):
+    """The section on the lines of a text, which may be one of the second program."""
+    if is_beside:
+        which = {"image": "image", "limits": "limits beside"}.get(which, "board")
+    return OF_LINES[which]
 
 
 def named(section):

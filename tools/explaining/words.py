@@ -15,6 +15,7 @@ COMMANDS_BESIDE = {
     "rticx live": ("APP", "BOARD", "SCRIPT"), "rticx native": ("APP", "BOARD"), "rticx why": ("IMAGE",),
     "rticx cycles": ("APP",),
     "rticx bounds": ("IMAGE",),
+    "rticx respond": ("APP", "LIMITS"),
 }
 TAKEN = {**COMMANDS, **COMMANDS_BESIDE}
 RANGES = {"NUMBER": (0, (1 << 64) - 1), "COUNT": (1, 10_000), "WORKERS": (1, 64), "N": (1, 48)}
@@ -26,6 +27,7 @@ FORMS = {
     "deepest": "`deepest` is for hardware tasks alone, without a monotonic, and an `init` that has no `pend` and costs "
                "at most 900,000",
     "times": "`times` is for hardware tasks alone, without a monotonic and without a `pend`",
+    "rticx respond": "`rticx respond` is for hardware tasks alone, without a monotonic",
 }
 
 

@@ -1,6 +1,6 @@
 #!/usr/bin/env python3
 """What tools/explain says of the second program's answers: refused boards, scripts and traces beside them, wrong lines,
-listings under `why`, and words. A stub stands for the program, which writes the answer of a row; where the second
+listings under `why`, limits of `respond`, and words. A stub stands for the program, which writes the answer of a row; where the second
 program is built, or RTICX names it, the answers are compared with its own."""
 import os
 import pathlib
@@ -132,10 +132,30 @@ LISTINGS = (
      "there is no slot 9: the frame of the handler of `LO` has 4 words, the last number of its `irq` row, in line 3"),
     (APP, 3, "image:1 2 bad line", "an application begins so, and the listing of an image is due"),
 )
+FORMLESS = "`rticx respond` asks that all tasks bind an interrupt, because it has no numbers for messages"
+# A row: limits, the status, the answer, and sentences that must come.
+LIMITS = (
+    ("every UART0 0", 3, "limits:1 2 bad line", "the least number is 1, and this one is of core steps"),
+    ("every rx 50", 3, "limits:1 3 unknown name", "`every` is of an interrupt that a task binds, and `rx` is none",
+     "`rx` is a task, and binds the interrupt `UART0`"),
+    ("every D 50", 3, "limits:1 3 unknown name", "those that may stand here are `UART0`, `PIN`"),
+    ("every UART0 50\nevery UART0 60", 3, "limits:2 2 bad line", "`every UART0` is said already, in line 1"),
+    ("tick 50", 3, "limits:1 3 unknown name", "the application has no monotonic, so it has no ticks"),
+    ("delay digest 5", 3, "limits:1 3 unknown name",
+     "`delay` is of a task that some `spawn_after` names, and `digest` is none"),
+    ("deadline digest 5ms", 3, "limits:1 2 bad line", "`5ms` is no number of one to nine digits",
+     "it is a number of core steps, and has no unit"),
+    ("deadline 50 PIN", 3, "limits:1 2 bad line", "the name comes first, and then the number"),
+    ("deadline PIN", 3, "limits:1 2 bad line", "the form is `deadline X N`"),
+    ("period PIN 50", 3, "limits:1 2 bad line", "no line of limits begins with `period`",
+     "the lines are `every I N`, `tick N`, `delay T N`, `deadline X N` and `# ..`"),
+    ("every PIN 50", 0, "- form", FORMLESS, "`digest` binds no interrupt, so it is a software task"),
+    ("deadline digest 50", 4, "- form\nlate digest 50", FORMLESS),
+)
 WORDS = (
     (["rticx"], "the commands are `rticx run APP BOARD SCRIPT`, `rticx audit APP BOARD TRACE`, "
-                "`rticx live APP BOARD SCRIPT`, `rticx native APP BOARD`, `rticx why IMAGE`, `rticx cycles APP` and "
-                "`rticx bounds IMAGE`"),
+                "`rticx live APP BOARD SCRIPT`, `rticx native APP BOARD`, `rticx why IMAGE`, `rticx cycles APP`, "
+                "`rticx bounds IMAGE` and `rticx respond APP LIMITS`"),
     (["rticx", "run", "app", "board"], "`rticx run` takes 3 files, APP, BOARD and SCRIPT, and 2 are here"),
     (["rticx", "rum", "app"], "a command of a similar name is `rticx run`"),
     (["run", "app", "board", "script"], "with a board it is the second program's: `rticx run app board script`"),
@@ -170,6 +190,8 @@ def rows():
         yield "audit", (APP, BOARD, trace), 4, f"no {number}", sentences
     for listing, status, answer, *sentences in LISTINGS:
         yield "why", (listing,), status, answer, sentences
+    for limits, status, answer, *sentences in LIMITS:
+        yield "respond", (APP, limits), status, answer, sentences
 
 
 def compare(folder, program):

@@ -51,12 +51,17 @@ def try_rows(starter, told):
 
 
 def shown_run(starter, told):
-    """The trace that docs/RTICX.md shows is that of the example."""
+    """The trace that docs/RTICX.md shows is that of the example, and so is the report that docs/TIMES.md shows."""
     files = [str(ROOT / "examples" / f"echo.{ending}") for ending in ("rtic", "board", "script")]
     trace = starter.ended(["run", *files]).output.decode().partition("trace\n")
     page = (ROOT / "docs" / "RTICX.md").read_text(encoding="utf-8")
     if not trace[2] or textwrap.indent(trace[1] + trace[2], "    ") not in page:
         told.differs(f"docs/RTICX.md does not show {trace[2]!r}")
+    files = [str(ROOT / "examples" / f"order.{ending}") for ending in ("rtic", "limits")]
+    report = starter.ended(["respond", *files]).output.decode()
+    page = (ROOT / "docs" / "TIMES.md").read_text(encoding="utf-8")
+    if not report or textwrap.indent(report, "    ") not in page:
+        told.differs(f"docs/TIMES.md does not show {report!r}")
 
 
 def strange_words(starter, told):

@@ -16,7 +16,8 @@ command_named (verb ∷ words) =
     when (bytes_eq verb (codes "run")) command.Run (when (bytes_eq verb (codes "audit")) command.Audit
     (when (bytes_eq verb (codes "live")) command.Live (when (bytes_eq verb (codes "native")) command.Native
     (when (bytes_eq verb (codes "why")) command.Why (when (bytes_eq verb (codes "cycles")) command.Cycles
-    (when (bytes_eq verb (codes "bounds")) command.Bounds None))))))
+    (when (bytes_eq verb (codes "bounds")) command.Bounds (when (bytes_eq verb (codes "respond")) command.Respond
+    None)))))))
 
 names_it : (words : List (List ℕ)) (c : Command) → NamesCommand words c → command_named words ≡ Some c
 names_it words command.Run named = ap command_named named.3
@@ -26,6 +27,7 @@ names_it words command.Native named = ap command_named named.2
 names_it words command.Why named = ap command_named named.1
 names_it words command.Cycles named = ap command_named named.1
 names_it words command.Bounds named = ap command_named named.1
+names_it words command.Respond named = ap command_named named.2
 
 -- words name one command at most
 pub one_command : (words : List (List ℕ)) (c d : Command) → NamesCommand words c → NamesCommand words d → c ≡ d

@@ -57,6 +57,7 @@ begins command.Native why bounds = refl
 begins command.Why why bounds = absurd (why refl)
 begins command.Cycles why bounds = refl
 begins command.Bounds why bounds = absurd (bounds refl)
+begins command.Respond why bounds = refl
 
 pub goes_on : (b : Beside) → drop 1 (kinds_of (command_of b)) ≡ kind.Board ∷ drop 2 (kinds_of (command_of b))
 goes_on beside.Run = refl

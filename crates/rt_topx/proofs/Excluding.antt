@@ -1,5 +1,7 @@
 -- A text is refused or is read, not both, and each command has one output or one status: so `rticx` is lawful.
-use Rattle.std.proofs.Common.{◌≡◌, ℕ, List, inl, inr, refl, sym, ap, subst, ◌∙◌, arith}
+use Rattle.std.specs.Str.Lines.{lines}
+use Rattle.std.proofs.Common.{◌≡◌, ℕ, Bool, true, false, if◌then◌else◌, List, inl, inr, refl, sym, ap, subst, ◌∙◌}
+use Rattle.std.proofs.Common.{arith}
 use Rattle.rt_ids.specs.declared.status.Status.{Status}
 use Rattle.rt_ids.specs.declared.status.Status.TheVariants as status
 use Rattle.rt_app.specs.Names.{names_of}
@@ -25,6 +27,13 @@ use Rattle.rt_inputs_audit.specs.Reading as trace
 use Rattle.rt_inputs_audit.specs.declared.refusal.Cause as in_trace
 use Rattle.rt_load.proofs.OneWay as listings
 use Rattle.rt_points.specs.Checked.{IsChecked}
+use Rattle.rt_respond.specs.Answer.{IsAnswer}
+use Rattle.rt_respond.specs.Limits.{Limits}
+use Rattle.rt_respond.specs.Text.{IsLimitsText, limits_reader}
+use Rattle.rt_respond.specs.Text as limits_text
+use Rattle.rt_respond.specs.declared.refusal.Cause as in_limits
+use Rattle.rt_respond.proofs.Answering.{one_is_late}
+use Rattle.rt_respond.proofs.Telling.{lead_fine}
 use Rattle.rt_target.specs.Reading.{IsBoardOf, IsSetupOf, IsTargetOf, setup_reader, target_reader}
 use Rattle.rt_target.specs.Reading as board
 use Rattle.rt_target.specs.Setup.{Setup}
@@ -39,7 +48,9 @@ use Rattle.rt_topx.specs.declared.command.Command.{Command}
 use Rattle.rt_topx.specs.declared.command.Command.TheVariants as command
 use Rattle.rt_topx.specs.Kinds.{TextKind, kinds_of, IsOfKind, IsRefusedBy}
 use Rattle.rt_topx.specs.Kinds as kind
-use Rattle.rt_topx.specs.Refusal.{RefusesBoard, RefusesTarget, RefusesBeside, SaysBoard, SaysScript, SaysTrace}
+use Rattle.rt_topx.specs.Refusal.{RefusesBoard, RefusesTarget, RefusesLimits, RefusesBeside}
+use Rattle.rt_topx.specs.Refusal.{SaysBoard, SaysLimits, SaysScript, SaysTrace}
+use Rattle.rt_topx.specs.Responded.{IsResponded}
 use Rattle.rt_topx.specs.Outputs.{IsAudited, Says, IsMadeNative}
 use Rattle.rt_topx.specs.Executable.{Misfits, IsMade}
 use Rattle.rt_topx.specs.Bounded as bounded
@@ -67,6 +78,14 @@ target_read app more line s r is (too_long long) says = omega (arith, is.short, 
 target_read app more line s r is (first_wrong n w first) says =
     (read_one_way (target_reader app)).not_both more s n w is first
 target_read app more line s r is no_memory says = says
+
+-- limits for an application
+limits_read : (app : App) (more line : List ℕ) (l : Limits) (r : TextRefused in_limits.Cause) → IsLimitsText app more l
+    → limits_text.IsRefused app more r → SaysLimits r line → ⊥
+limits_read app more line l r is (too_long long) says = omega (arith, is.short, long)
+limits_read app more line l r is (first_wrong n w first) says =
+    (read_one_way (limits_reader app)).not_both more l n w is first
+limits_read app more line l r is no_memory says = says
 
 -- a script, over an application and beside a board
 script_read : (app : App) (b : boards.Board) (more line : List ℕ) (s : List GivenLine) (r : TextRefused in_script.Cause)
@@ -117,6 +136,12 @@ target_passes text more line app is s read r =
     target_read r.app more line s r.refusal
     (subst (λ a. IsTargetOf a more s) (application_only text app r.app is r.of_text) read) r.refused r.says
 
+limits_passes : (text more line : List ℕ) (app : App) → IsApplication text app → (l : Limits)
+    → IsLimitsText app more l → RefusesLimits text more line → ⊥
+limits_passes text more line app is l read r =
+    limits_read r.app more line l r.refusal
+    (subst (λ a. IsLimitsText a more l) (application_only text app r.app is r.of_text) read) r.refused r.says
+
 -- what is of a kind over an application and beside a board is not refused there
 beside_passes : {S R : Type 0} (IsOf : App → boards.Board → List ℕ → S → Type 0)
     (IsRefused : App → boards.Board → List ℕ → R → Type 0) (Says : R → List ℕ → Type 0)
@@ -139,6 +164,8 @@ one_of_each kind.Board t text ended line (app, is, b, read) (told, r) =
     board_passes t.first text line app is b read r
 one_of_each kind.Target t text ended line (app, is, s, read) (told, r) =
     target_passes t.first text line app is s read r
+one_of_each kind.Limits t text ended line (app, is, l, read) (told, r) =
+    limits_passes t.first text line app is l read r
 one_of_each kind.Script t text ended line (app, is, b, of_board, script, read) (told, r) =
     beside_passes (λ a c. IsGivenText (names_of a) a c) (λ a c. given.IsRefused (names_of a) a c) SaysScript
     script_read t.first t.second text line app is b of_board script read r
@@ -222,7 +249,7 @@ made_so text beside a b x y one other =
 -- an answer says whether the image is checked
 bounded_so : (image : Image) (ended : Status) (bytes : List ℕ) → TellsBounds image ended bytes
     → SaysWhether (IsChecked image) ended
-bounded_so image ended bytes (bounded.has_bounds b checked are) = inl (refl, checked)
+bounded_so image ended bytes (bounded.has_bounds b checked are hold) = inl (refl, checked)
 bounded_so image ended bytes (bounded.breaks rule least) =
     inr (refl, λ (checked : IsChecked image). least.broken (checked least.rule))
 
@@ -232,12 +259,34 @@ explained_so image ended bytes (explained.is_safe checked safe) = inl (refl, che
 explained_so image ended bytes (explained.breaks w least is) =
     inr (refl, λ (checked : IsChecked image). least.broken (checked least.rule))
 
+-- a status says whether no deadline is late
+late_so : (late : Bool) (ended : Status) → ended ≡ (if late then status.No else status.Done)
+    → SaysWhether (late ≡ false) ended
+late_so true ended is = inr (is, λ (none : true ≡ false). cc)
+late_so false ended is = inl (is, refl)
+
+responded_so : (text more : List ℕ) (a b : Status) (x y : List ℕ) → IsResponded text more a x
+    → IsResponded text more b y → AreDue a b
+responded_so text more a b x y one other =
+    let app : other.app ≡ one.app = application_only text other.app one.app other.of_text one.of_text in
+    let read = subst (λ p. IsLimitsText p more other.limits) app other.read in
+    let limits : other.limits ≡ one.limits =
+    (read_one_way (limits_reader one.app)).one_state more other.limits one.limits read one.read in
+    let is = subst (λ l. IsAnswer one.app l other.tells.answer) limits
+    (subst (λ p. IsAnswer p other.limits other.tells.answer) app other.tells.is) in
+    let late : other.tells.answer.is_late ≡ one.tells.answer.is_late =
+    one_is_late one.app one.limits (lead_fine one.app (lines more) one.limits one.read.lead) other.tells.answer
+    one.tells.answer is one.tells.is in
+    whether_once (one.tells.answer.is_late ≡ false) a b (late_so one.tells.answer.is_late a one.tells.tells)
+    (subst (λ l. SaysWhether (l ≡ false) b) late (late_so other.tells.answer.is_late b other.tells.tells))
+
 -- a refusal has the status of its kind
 one_refusal : (k : TextKind) (t : Inputs) (text : List ℕ) (a b : Status) (x y : List ℕ) → IsRefusedBy k t text a x
     → IsRefusedBy k t text b y → AreDue a b
 one_refusal kind.Application t text a b x y r s = due_as status.App a b tt r.0 s.0
 one_refusal kind.Board t text a b x y r s = due_as status.Text a b tt r.0 s.0
 one_refusal kind.Target t text a b x y r s = due_as status.Text a b tt r.0 s.0
+one_refusal kind.Limits t text a b x y r s = due_as status.Text a b tt r.0 s.0
 one_refusal kind.Script t text a b x y r s = due_as status.Text a b tt r.0 s.0
 one_refusal kind.Trace t text a b x y r s = due_as status.Text a b tt r.0 s.0
 one_refusal kind.Listing t text a b x y r s = due_as status.Text a b tt r.0 s.0
@@ -264,6 +313,10 @@ all_read command.Native t ended bytes w = (
 all_read command.Why t ended bytes (image, is, explains) = ((image, is), tt)
 all_read command.Cycles t ended bytes (is, w) = ((w.app, w.of_text), tt)
 all_read command.Bounds t ended bytes (image, is, tells) = ((image, is), tt)
+all_read command.Respond t ended bytes w = (
+  (w.app, w.of_text),
+  ((w.app, w.of_text, w.limits, w.read), tt),
+)
 
 one_output : (c : Command) (t : Inputs) (a b : Status) (x y : List ℕ) → IsOutputOf c t a x → IsOutputOf c t b y
     → AreDue a b
@@ -280,6 +333,7 @@ one_output command.Bounds t a b x y (image, is, one) (other, is', told) =
     whether_once (IsChecked image) a b (bounded_so image a x one)
     (subst (λ i. SaysWhether (IsChecked i) b) (listings.read_one_way.one_image t.first other image is' is)
     (bounded_so other b y told))
+one_output command.Respond t a b x y w v = responded_so t.first t.second a b x y w v
 
 pub lawful : IsLawful rticx_program
 lawful = record {

@@ -9,3 +9,4 @@ mod Making
 mod Reading
 mod Explaining
 mod Bounding
+mod Responding

@@ -1,19 +1,45 @@
--- What `bounds` writes of a text that is the listing of an image, whatever made it: bounds in core steps, or the rule
--- that the image breaks. The form is this project's own.
-use Rattle.std.specs.Prelude.{ℕ, List, ◌++◌, codes, decimal}
+-- What `bounds` writes of a text that is the listing of an image, whatever made it: bounds in core steps, which hold on
+-- every run of the image, or the rule that it breaks. The form is this project's own.
+use Rattle.std.specs.Prelude.{ℕ, ◌≤◌, List, Option, ◌++◌, codes, decimal}
+use Rattle.rt_ids.specs.Event.{Event}
 use Rattle.rt_ids.specs.declared.status.Status.{Status}
 use Rattle.rt_ids.specs.declared.status.Status.TheVariants as status
 use Rattle.rt_code.specs.Image.{Image}
+use Rattle.rt_core.specs.Core.{reset}
+use Rattle.rt_core.specs.Trace.{core_after, depth_after}
 use Rattle.rt_load.specs.Reading.{IsListingText}
 use Rattle.rt_points.specs.Checked.{IsChecked, IsLeastBroken}
 use Rattle.rt_bounds.specs.Bounds.{AreBounds}
 use Rattle.rt_bounds.specs.Text.{bounds_text}
 use Rattle.rt_bounds.specs.declared.bound.Bounds.{Bounds}
+use Rattle.rt_bounds.specs.declared.longest.Longest.{Longest}
+use Rattle.rt_timely.specs.InTime.{AreInTime, AreLeftInTime}
+use Rattle.rt_timely.specs.Told.{AreTold}
+use Rattle.rt_timely.specs.Waiting.{IsWaiting, LieInOneSection, RunsTheHighest, lower, steppers}
+use Rattle.rt_timely.specs.Watching.{watched}
+
+-- bounds hold on every run of an image, for every list of events
+pub record HoldOnRuns (image : Image) (b : Bounds) : Type 0 where
+  -- a line is told of each job and each section that is seen
+  pub told : (events : List Event) → AreTold image b (watched image events)
+  -- jobs end, and sections are left, by the last step of their lines
+  pub jobs : (events : List Event) → AreInTime image b (watched image events)
+  pub sections : (events : List Event) → AreLeftInTime image b (watched image events)
+  -- where an interrupt is pending, lower jobs take steps in one section, fewer than are told, until its take, and none
+  -- from there on
+  pub waits : (irq value : ℕ) (longest : Option Longest) (before behind : List Event)
+      → IsWaiting image b irq value longest before
+      → LieInOneSection value longest
+      (lower value (steppers image irq (core_after image (reset image) before) (watched image before) behind))
+  pub started : (events : List Event) → RunsTheHighest (watched image events).jobs
+  -- the stack is enough
+  pub stack : (events : List Event) → depth_after image events ≤ b.stack
 
 -- the status and the text for an image
 pub data TellsBounds (image : Image) : Status → List ℕ → Type 0 where
   -- it keeps each rule, and these are its bounds
-  has_bounds : (b : Bounds) → IsChecked image → AreBounds image b → TellsBounds image status.Done (bounds_text image b)
+  has_bounds : (b : Bounds) → IsChecked image → AreBounds image b → HoldOnRuns image b
+      → TellsBounds image status.Done (bounds_text image b)
   -- the least of the rules that it breaks
   breaks : (rule : ℕ) → IsLeastBroken image rule → TellsBounds image status.No
       (codes "no " ++ decimal rule ++ codes "\n")

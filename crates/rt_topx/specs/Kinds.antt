@@ -14,6 +14,8 @@ use Rattle.rt_given.specs.declared.line.GivenLine.{GivenLine}
 use Rattle.rt_inputs_audit.specs.Reading.{Told, IsInputsText}
 use Rattle.rt_load.specs.Reading.{IsListingText}
 use Rattle.rt_load.specs.declared.refusal.TheConstants.{IMAGE_BYTES}
+use Rattle.rt_respond.specs.Limits as respond
+use Rattle.rt_respond.specs.Text.{IsLimitsText}
 use Rattle.rt_target.specs.Reading.{IsBoardOf, IsTargetOf}
 use Rattle.rt_target.specs.Setup.{Setup}
 use Rattle.rt_top.specs.Refusal.{RefusesApplication}
@@ -21,7 +23,7 @@ use Rattle.rt_top.specs.Program.{Inputs}
 use Rattle.rt_top.specs.Verified.{RefusesListing}
 use Rattle.rt_topx.specs.declared.command.Command.{Command}
 use Rattle.rt_topx.specs.declared.command.Command.TheVariants as command
-use Rattle.rt_topx.specs.Refusal.{RefusesBoard, RefusesTarget, RefusesScript, RefusesTrace}
+use Rattle.rt_topx.specs.Refusal.{RefusesBoard, RefusesTarget, RefusesLimits, RefusesScript, RefusesTrace}
 
 -- what a text is that a command reads
 pub data TextKind : Type 0 where
@@ -30,6 +32,8 @@ pub data TextKind : Type 0 where
   Board : TextKind
   -- a board for which a program is made
   Target : TextKind
+  -- limits on the requests of the first application, and deadlines
+  Limits : TextKind
   -- these are over the names of the application and the inputs of the board
   Script : TextKind
   Trace : TextKind
@@ -45,12 +49,14 @@ kinds_of command.Native = Application ∷ Target ∷ []
 kinds_of command.Why = Listing ∷ []
 kinds_of command.Cycles = Application ∷ []
 kinds_of command.Bounds = Listing ∷ []
+kinds_of command.Respond = Application ∷ Limits ∷ []
 
 -- the most bytes of a text of the kind
 abbrev pub most_bytes : TextKind → ℕ
 most_bytes Application = TEXT_BYTES
 most_bytes Board = SCRIPT_BYTES
 most_bytes Target = SCRIPT_BYTES
+most_bytes Limits = SCRIPT_BYTES
 most_bytes Script = SCRIPT_BYTES
 most_bytes Trace = TRACE_BYTES
 most_bytes Listing = IMAGE_BYTES
@@ -60,6 +66,8 @@ abbrev pub IsOfKind : TextKind → Inputs → List ℕ → Type 0
 IsOfKind Application t text = (app : App) × IsApplication text app
 IsOfKind Board t text = (app : App) × IsApplication t.first app × (board : boards.Board) × IsBoardOf app text board
 IsOfKind Target t text = (app : App) × IsApplication t.first app × (setup : Setup) × IsTargetOf app text setup
+IsOfKind Limits t text =
+    (app : App) × IsApplication t.first app × (limits : respond.Limits) × IsLimitsText app text limits
 IsOfKind Script t text =
     (app : App) × IsApplication t.first app × (board : boards.Board) × IsBoardOf app t.second board
     × (script : List GivenLine) × IsGivenText (names_of app) app board text script
@@ -73,6 +81,7 @@ abbrev pub IsRefusedBy : TextKind → Inputs → List ℕ → Status → List �
 IsRefusedBy Application t text ended line = (ended ≡ status.App) × RefusesApplication text line
 IsRefusedBy Board t text ended line = (ended ≡ status.Text) × RefusesBoard t.first text line
 IsRefusedBy Target t text ended line = (ended ≡ status.Text) × RefusesTarget t.first text line
+IsRefusedBy Limits t text ended line = (ended ≡ status.Text) × RefusesLimits t.first text line
 IsRefusedBy Script t text ended line = (ended ≡ status.Text) × RefusesScript t.first t.second text line
 IsRefusedBy Trace t text ended line = (ended ≡ status.Text) × RefusesTrace t.first t.second text line
 IsRefusedBy Listing t text ended line = (ended ≡ status.Text) × RefusesListing text line

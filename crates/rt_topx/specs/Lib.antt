@@ -5,6 +5,7 @@ pub mod Target
 pub mod Executable
 pub mod Explained
 pub mod Bounded
+pub mod Responded
 pub mod Outputs
 pub mod Rticx
 pub mod Inside

@@ -1,5 +1,5 @@
--- The line that refuses a board, or a script or a trace beside a board: which of these it is, the number of its first
--- wrong line, and what is wrong there. Want of memory refuses nothing.
+-- The line that refuses a board, limits, or a script or a trace beside a board: which of these it is, the number of its
+-- first wrong line, and what is wrong there. Want of memory refuses nothing.
 use Rattle.std.specs.Prelude.{◌≡◌, ℕ, List}
 use Rattle.rt_lines.specs.declared.refusal.TextRefused.{TextRefused}
 use Rattle.rt_lines.specs.declared.refusal.TextRefused.TheVariants as refused
@@ -13,6 +13,8 @@ use Rattle.rt_given.specs.declared.refusal.Cause as in_script
 use Rattle.rt_inputs_audit.specs.Reading as trace
 use Rattle.rt_inputs_audit.specs.Text as trace_text
 use Rattle.rt_inputs_audit.specs.declared.refusal.Cause as in_trace
+use Rattle.rt_respond.specs.Text as limits_text
+use Rattle.rt_respond.specs.declared.refusal.Cause as in_limits
 use Rattle.rt_target.specs.Reading as boards
 use Rattle.rt_target.specs.Text as board_text
 use Rattle.rt_target.specs.declared.refusal.Cause as in_board
@@ -22,6 +24,11 @@ use Rattle.rt_top.specs.SecondRefusal.{RefusesOver}
 abbrev pub SaysBoard : TextRefused in_board.Cause → List ℕ → Type 0
 SaysBoard (refused.Wrong n c) line = line ≡ board_text.refusal_text n c
 SaysBoard refused.NoMemory line = ⊥
+
+-- the line for the refusal of limits
+abbrev pub SaysLimits : TextRefused in_limits.Cause → List ℕ → Type 0
+SaysLimits (refused.Wrong n c) line = line ≡ limits_text.refusal_text n c
+SaysLimits refused.NoMemory line = ⊥
 
 -- the line for the refusal of a script
 abbrev pub SaysScript : TextRefused in_script.Cause → List ℕ → Type 0
@@ -40,6 +47,10 @@ RefusesBoard text more line = RefusesOver boards.IsRefused SaysBoard text more l
 -- the line refuses a text that is no board for which a program can be made
 abbrev pub RefusesTarget : List ℕ → List ℕ → List ℕ → Type 0
 RefusesTarget text more line = RefusesOver boards.IsTargetRefused SaysBoard text more line
+
+-- the line refuses a text that is no limits for an application
+abbrev pub RefusesLimits : List ℕ → List ℕ → List ℕ → Type 0
+RefusesLimits text more line = RefusesOver limits_text.IsRefused SaysLimits text more line
 
 -- The line refuses a text over the application of another and beside the board of a third: the refusal is the text's,
 -- and the line says it.

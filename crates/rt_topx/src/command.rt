@@ -23,6 +23,8 @@ pub enum Command {
     Cycles,
     /// `bounds IMAGE`
     Bounds,
+    /// `respond APP LIMITS`
+    Respond,
 }
 
 /// The command that the words name, None where they name none.
@@ -38,6 +40,7 @@ pub(crate) fn command_of(words: &[&str]) -> Option<Command>
         ["why", _] => Some(Command::Why),
         ["cycles", _] => Some(Command::Cycles),
         ["bounds", _] => Some(Command::Bounds),
+        ["respond", _, _] => Some(Command::Respond),
         _ => None,
     }
 }

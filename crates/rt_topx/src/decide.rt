@@ -21,6 +21,7 @@ use crate::command::Command;
 use crate::cycles::cycles;
 use crate::live::live;
 use crate::native::native;
+use crate::respond::respond;
 use crate::run::run;
 use crate::why::why;
 use rt_app::App;
@@ -106,6 +107,7 @@ fn decide_of<R: Threads + Sync, B: Source, C: Source, K: Sink + Send, G: Gate + 
         Command::Live => decide_on_board(rt, alloc, Beside::Live, app, second, third, out, gate),
         Command::Native => finish(out, &native(alloc, app, second)),
         Command::Cycles => finish(out, &cycles(alloc, app)),
+        Command::Respond => finish(out, &respond(alloc, app, second)),
         Command::Why | Command::Bounds => unreachable!(),
     }
 }

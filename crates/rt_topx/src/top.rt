@@ -25,13 +25,13 @@ use std::thread::Threads;
 /// The line for words that are no command.
 const USAGE: &[u8] =
     b"usage: rticx run APP BOARD SCRIPT | audit APP BOARD TRACE | live APP BOARD SCRIPT | native APP BOARD \
-| why IMAGE | cycles APP | bounds IMAGE\n";
+| why IMAGE | cycles APP | bounds IMAGE | respond APP LIMITS\n";
 
 /// Runs the command that the words name, and answers its status. `first` is the source of the application, of `why`
-/// and `bounds` that of the listing, `second` that of the board, `third` that of the script or the trace. All that is
-/// written goes to `out`. `rt` starts the threads of `live`; `gate` is a seam for tests. What is written is promised of
-/// the texts that the sources have given in this call, whatever they are: files, or memory. The statuses are those of
-/// `Status`, whose numbers are the exit statuses.
+/// and `bounds` that of the listing, `second` that of the board or the limits, `third` that of the script or the trace.
+/// All that is written goes to `out`. `rt` starts the threads of `live`; `gate` is a seam for tests. What is written is
+/// promised of the texts that the sources have given in this call, whatever they are: files, or memory. The statuses
+/// are those of `Status`, whose numbers are the exit statuses.
 pub fn rticx<R: Threads + Sync, A: Source, B: Source, C: Source, K: Sink + Send, G: Gate + Sync>(
     rt: &R,
     alloc: Global,

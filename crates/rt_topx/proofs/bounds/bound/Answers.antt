@@ -6,7 +6,7 @@ use Rattle.rt_bounds.specs.Text.{bounds_text}
 use Rattle.rt_bounds.specs.declared.bound.Bounds.{Bounds}
 use Rattle.rt_top.proofs.Giving.{line_tells, made_tells}
 use Rattle.rt_topx.specs.Bounded.{TellsBounds, breaks, has_bounds}
-use Rattle.rt_topx.proofs.Bounding.{tells_replies}
+use Rattle.rt_topx.proofs.Bounding.{hold_on_runs, tells_replies}
 use Rattle.rt_topx.proofs.bounds.bound.Goals as goal
 
 pub text_of_bounds-requires-clause-checked : goal.text_of_bounds-requires-clause-checked
@@ -18,7 +18,8 @@ returns-in-Ok-Yes c =
     let P : List ℕ → Type 0 = λ bytes. (b : Bounds) × AreBounds img b × (bytes ≡ bounds_text img b) in
     let safe = rw c.in-Ok-Yes.field-0-is at c.in-Ok-Yes.ensures in
     tells_replies status.Done P (TellsBounds img)
-    (λ bytes is. subst (TellsBounds img status.Done) (sym is.2) (has_bounds is.0 safe.0 is.1)) c.reply_of_text.result
+    (λ bytes is. subst (TellsBounds img status.Done) (sym is.2)
+    (has_bounds is.0 safe.0 is.1 (hold_on_runs img is.0 safe.0 is.1))) c.reply_of_text.result
     (made_tells status.Done P c.text_of_bounds.result c.text_of_bounds.ensures c.reply_of_text.result
     c.reply_of_text.ensures.text c.reply_of_text.ensures.memory)
 

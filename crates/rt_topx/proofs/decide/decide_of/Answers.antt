@@ -24,3 +24,8 @@ returns-in-Cycles g c first is =
     (λ ended bytes p.
     (p.0, record { app = app; of_text = is; image = p.1.0; is = p.1.1; written = p.1.2 }))))
     c.finish-in-Cycles.ensures.finished c.finish-in-Cycles.ensures.heard)
+
+pub returns-in-Respond : goal.returns-in-Respond
+returns-in-Respond g c first is =
+    rw c.in-Respond.is (finished (one_answers (kept, tt) (c.respond.ensures first _ is))
+    c.finish-in-Respond.ensures.finished c.finish-in-Respond.ensures.heard)
