@@ -61,7 +61,7 @@ argument_words slots body s k l fits =
     get_or_append_left (take body.args (drop s slots)) (replicate (body.frame - body.args) 0) 0 k (omega (arith, long))
     ∙ (get_or-take body.args (drop s slots) k 0 l ∙ get_or-drop s slots k 0)
 
-frame_length : (slots : List ℕ) (body : BodyRow) (s : ℕ) → body.args ≤ body.frame
+pub frame_length : (slots : List ℕ) (body : BodyRow) (s : ℕ) → body.args ≤ body.frame
     → (body.args ≡ 0) ⊎ (s + body.args ≤ length slots) → length (body_frame slots body s) ≡ body.frame
 frame_length slots body s fits there =
     let long : length (take body.args (drop s slots)) ≡ body.args =
@@ -469,7 +469,7 @@ module _ (at : Outside) (bottom : ℕ) (img : Image) (places : List ℕ) (p : Pr
       }
 
 -- the outcome of a call, by its tests
-by_tests : (img : Image) (c : Core) (a b : Bool) (after : Core) (Holds : Core → Option What → Type 0)
+pub by_tests : (img : Image) (c : Core) (a b : Bool) (after : Core) (Holds : Core → Option What → Type 0)
     → (a ≡ true → b ≡ true → Holds after None)
     → UnlessTrapped (if a then (if b then Done after None else Trapped c trap.Stack) else Trapped c trap.Stack) Holds
 by_tests img c true true after Holds h = h refl refl

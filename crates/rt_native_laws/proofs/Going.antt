@@ -340,7 +340,7 @@ module _ (at : Outside) (bottom : ℕ) (img : Image) (places : List ℕ) (p : Pr
 module _ (at : Outside) (bottom : ℕ) (img : Image) (places : List ℕ) (p : Program) (code : HasCode at img places p)
     (c : Core) (laid : IsLaidOut at bottom (length c.processor.cells)) (top : ℕ) (m n : Machine)
     (executed : Instruction) (exec : Executes p executed m n) (x : IsDone at bottom img places p c top m) where
-  goes_behind : (j : Instruction) (js : List Instruction) → AreSteady (j ∷ js)
+  pub goes_behind : (j : Instruction) (js : List Instruction) → AreSteady (j ∷ js)
       → RunsPrivately p (x.last.register 13) top (j ∷ js) m x.last
       → IsNothing at bottom img places p c top m n (length c.processor.slots)
   goes_behind j js steady run =

@@ -37,3 +37,8 @@ pub mod Tail
 pub mod Storing
 pub mod Inputs
 pub mod Loading
+pub mod Copying
+pub mod Resetting
+pub mod Rising
+pub mod Leaving
+pub mod Calling

@@ -12,3 +12,5 @@ pub mod Waiting
 pub mod Tail
 pub mod Inputs
 pub mod Loading
+pub mod Resetting
+pub mod Leaving

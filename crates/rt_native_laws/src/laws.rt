@@ -8,9 +8,11 @@ ghost use Rattle.rt_native_laws.specs.Laws.{MaskIsDone, UnmaskIsDone, ServeIsDon
 ghost use Rattle.rt_native_laws.specs.Laws.{RetIsDone, BackIsDone, CallIsDone, AlarmIsDone, PrivateIsUnseen};
 ghost use Rattle.rt_native_laws.specs.Laws.{PrivateIsUndisturbed, WordsAreKept};
 ghost use Rattle.rt_native_laws.specs.Going.{OneEventIsOneStepOrNone, MarkIsNoEvent, WhatIsLateIsNothing};
+ghost use Rattle.rt_native_laws.specs.Leaving.{BackGoesOn, CallBegins, RetGoesOn, ReturnResumes};
 ghost use Rattle.rt_native_laws.specs.Loading.{LoadedCodeIsThere, LoadedEntriesLead};
 ghost use Rattle.rt_native_laws.specs.Opening.{OpeningIsDone};
 ghost use Rattle.rt_native_laws.specs.Phases.{ToComeIsKept, DoneIsKept, EnteringIsKept, CallingIsKept};
+ghost use Rattle.rt_native_laws.specs.Resetting.{ResetHasTwoParts, ResetLeads};
 ghost use Rattle.rt_native_laws.specs.Saving.{EntryPushesBelow, EntryIsUndone};
 ghost use Rattle.rt_native_laws.specs.Tail.{AlarmIsStored, TailGoesOn, TailIsKept};
 ghost use Rattle.rt_native_laws.specs.Ticking.{TickIsServed};
@@ -144,4 +146,19 @@ pub fn inputs_are_read()
 pub fn loaded_code_is_there()
     ensures code { LoadedCodeIsThere }
     ensures entries { LoadedEntriesLead }
+{}
+
+/// The rest of reset's code, behind what sets interrupts, leads to the core after reset, whatever comes meanwhile.
+pub fn reset_leads()
+    ensures parts { ResetHasTwoParts }
+    ensures leads { ResetLeads }
+{}
+
+/// A machine instruction of `back` or `ret` is nothing to the core, or its step, and the first one of `call` its step;
+/// and an exception return leads to what waited last.
+pub fn jobs_leave()
+    ensures call { CallBegins }
+    ensures back { BackGoesOn }
+    ensures ret { RetGoesOn }
+    ensures resumes { ReturnResumes }
 {}

@@ -64,7 +64,7 @@ is_behind port (instruction.Store t a n) m plain =
 is_behind port i m plain = absurd plain
 
 -- while PRIMASK is 1 the execution priority is 0
-masked_is_top : (m : Machine) → m.is_masked ≡ true → execution_priority m ≡ 0
+pub masked_is_top : (m : Machine) → m.is_masked ≡ true → execution_priority m ≡ 0
 masked_is_top m is =
     ap (λ b. min (least_value m m.active)
     (min (if m.base_priority == 0 then 256 else m.base_priority) (if b then 0 else 256))) is

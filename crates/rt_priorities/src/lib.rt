@@ -1,7 +1,7 @@
 // The processor and the core of the model take the same interrupts, from reset on.
 // Promises: where both say the same of interrupts and priorities they have one execution priority, and take the same;
 // the code of reset brings them there, and what both do leaves them there; a tick is one event, and vectors lead on.
-// Stands on: rt_lemmas, rt_ids, rt_code, rt_nvic, rt_core, rt_trace, rt_thumb, rt_native, rt_thumb_laws.
+// Stands on: rt_lemmas, rt_ids, rt_code, rt_nvic, rt_core, rt_trace, rt_thumb, rt_elf, rt_native, rt_thumb_laws.
 // Read next: specs/Agreeing.antt and Keeping.antt, then Setting.antt, Ticking.antt, Vectors.antt, Controller.antt.
 #![tactic(auto)]
 

@@ -1,0 +1,277 @@
+-- Words are copied, with all interrupts masked.
+use Rattle.std.proofs.Common.{◌≡◌, ◌∙◌, ℕ, zero, suc, ◌+◌, ◌-◌, ◌*◌, ◌/◌, ◌%◌, ◌^◌, ◌<◌, ◌≤◌, ◌⊎◌, inl, inr}
+use Rattle.std.proofs.Common.{Bool, true, false, List, [], ◌∷◌, ◌++◌, Some, refl, sym, ap, subst, arith}
+use Rattle.std.proofs.Common.{⊎_elim}
+use Rattle.std.specs.Prelude.{if◌then◌else◌, ◌==◌}
+use Rattle.rt_code.specs.Image.{Image}
+use Rattle.rt_ids.specs.Operation.{wrapped_number as word}
+use Rattle.rt_native.specs.declared.outside.Outside.{Outside}
+use Rattle.rt_thumb.specs.Arithmetic.{add_with_carry, complement}
+use Rattle.rt_thumb.specs.Effect.{effect, behind, branched}
+use Rattle.rt_thumb.specs.Machine.{Machine, word_at}
+use Rattle.rt_thumb.specs.Step.{Program}
+use Rattle.rt_thumb.specs.declared.instruction.Condition.TheVariants as condition
+use Rattle.rt_thumb.specs.declared.instruction.Instruction.{Instruction}
+use Rattle.rt_thumb.specs.declared.instruction.Instruction.TheVariants as instruction
+use Rattle.rt_thumb.specs.declared.instruction.Operation.TheVariants as operation
+use Rattle.rt_thumb_laws.specs.Undisturbed.{RunAtTop}
+use Rattle.rt_priorities.proofs.Plain.{masked_is_top}
+use Rattle.rt_native_laws.specs.Going.{HasCode}
+use Rattle.rt_native_laws.specs.Laws.{IsApart}
+use Rattle.rt_native_laws.specs.Own.{RunsPrivately, Spans}
+use Rattle.rt_native_laws.specs.Standing.{HoldsWords}
+use Rattle.rt_native_laws.proofs.Calculating.{next as stepped}
+use Rattle.rt_native_laws.proofs.Carries.{minus, is_none}
+use Rattle.rt_native_laws.proofs.Keeping.{written}
+use Rattle.rt_native_laws.proofs.Pieces.{IsMemory, loading_is, storing_is, same, other}
+use Rattle.rt_native_laws.proofs.Private.{private_is_unseen}
+use Rattle.rt_native_laws.proofs.Steady.{words_after}
+use Rattle.rt_native_laws.proofs.Tests.{not_equal, same_number}
+
+-- instructions that lead from a state to another at that priority
+pub record Led (p : Program) (m last : Machine) : Type 0 where
+  pub executed : List Instruction
+  pub run : RunAtTop p executed m last
+
+pub led_one : (p : Program) (i : Instruction) (m n : Machine) → m.is_masked ≡ true → p.code m.address ≡ Some i
+    → effect p.port i m ≡ Some n → Led p m n
+led_one p i m n masked found does =
+    record { executed = i ∷ []; run = (masked_is_top m masked, found, (n, does, refl)) }
+
+runs_behind : (p : Program) (xs ys : List Instruction) (m n o : Machine) → RunAtTop p xs m n → RunAtTop p ys n o
+    → RunAtTop p (xs ++ ys) m o
+runs_behind p [] ys m n o r s = subst (λ (k : Machine). RunAtTop p ys k o) r s
+runs_behind p (x ∷ xs) ys m n o (top, found, rest) s =
+    (top, found, (rest.0, rest.1, runs_behind p xs ys rest.0 n o rest.2 s))
+
+pub led_on : (p : Program) (m n o : Machine) → Led p m n → Led p n o → Led p m o
+led_on p m n o a b =
+    record { executed = a.executed ++ b.executed; run = runs_behind p a.executed b.executed m n o a.run b.run }
+
+pub led_privately : (p : Program) (floor top : ℕ) → IsApart p floor top → (is : List Instruction) (m n : Machine)
+    → floor ≤ m.register 13 → m.register 13 ≤ top → m.is_masked ≡ true → RunsPrivately p floor top is m n
+    → Led p m n
+led_privately p floor top apart [] m n low high masked r = record { executed = []; run = r }
+led_privately p floor top apart (i ∷ is) m n low high masked r =
+    let own = private_is_unseen p floor top (i ∷ []) m r.0 apart low high (r.0, r.1, refl) in
+    let still : r.0.is_masked ≡ true = ap (λ (x : Machine). x.is_masked) own.rest ∙ masked in
+    led_on p m r.0 n (led_one p i m r.0 masked r.1.executes.found r.1.executes.does)
+    (led_privately p floor top apart is r.0 n own.stack.0 own.stack.1 still r.2)
+
+-- the loop that copies
+abbrev pub loop : List Instruction
+loop =
+    instruction.Operate operation.Compare 1 2 ∷ instruction.BranchIf condition.Equal 12
+    ∷ instruction.Load 3 0 0 ∷ instruction.Store 3 1 0 ∷ instruction.AddNumber 0 4 ∷ instruction.AddNumber 1 4
+    ∷ instruction.Branch (2 ^ 32 - 18) ∷ []
+
+-- so many words were copied, from one address on to another
+pub record Copied (p : Program) (m : Machine) (from to count : ℕ) : Type 0 where
+  pub last : Machine
+  pub led : Led p m last
+  pub rest : last ≡ record m {
+    register = last.register;
+    flags = last.flags;
+    address = m.address + 18;
+    memory = last.memory;
+  }
+  pub registers : (k : ℕ) → 4 ≤ k → last.register k ≡ m.register k
+  pub copied : (j : ℕ) → j < count → word_at last (to + 4 * j) ≡ word_at m (from + 4 * j)
+  pub memory : (k : ℕ) → (4 * k + 4 ≤ to) ⊎ (to + 4 * count ≤ 4 * k) → last.memory k ≡ m.memory k
+  pub words : HoldsWords last
+
+-- words may be copied: from and to where there is memory, apart from each other, and beside the port
+pub record CanCopy (out from to count : ℕ) : Type 0 where
+  pub from_aligned : from % 4 ≡ 0
+  pub to_aligned : to % 4 ≡ 0
+  pub from_space : from + 4 * count < 2 ^ 32
+  pub to_memory : to + 4 * count ≤ 0xE0000000
+  pub apart : (from + 4 * count ≤ to) ⊎ (to + 4 * count ≤ from)
+  pub port : (out < to) ⊎ (to + 4 * count ≤ out)
+
+further : (port from to count : ℕ) → CanCopy port from to (suc count) → CanCopy port (from + 4) (to + 4) count
+further port from to count can = record {
+  from_aligned = omega (arith, can.from_aligned);
+  to_aligned = omega (arith, can.to_aligned);
+  from_space = omega (arith, can.from_space);
+  to_memory = omega (arith, can.to_memory);
+  apart = ⊎_elim (λ (x : from + 4 * suc count ≤ to). inl (omega (arith, x)))
+      (λ (x : to + 4 * suc count ≤ from). inr (omega (arith, x))) can.apart;
+  port = ⊎_elim (λ (x : port < to). inl (omega (arith, x))) (λ (x : to + 4 * suc count ≤ port). inr (omega (arith, x)))
+      can.port;
+}
+
+first_memory : (port from to count : ℕ) → CanCopy port from to (suc count) → IsMemory port to
+first_memory port from to count can = record {
+  aligned = can.to_aligned;
+  no_port = λ e.
+      ⊎_elim (λ (x : port < to). omega (arith, x, e)) (λ (x : to + 4 * suc count ≤ port). omega (arith, x, e)) can.port;
+  below = omega (arith, can.to_memory);
+}
+
+-- what a comparison of two registers says
+compared : (a b : ℕ) → a < 2 ^ 32 → b < 2 ^ 32
+    → ((add_with_carry a (complement b) true).value == 0) ≡ (a == b)
+compared a b h k = ap (λ (x : ℕ). x == 0) (minus a b k) ∙ is_none a b h k
+
+module _ (at : Outside) (img : Image) (places : List ℕ) (p : Program) (code : HasCode at img places p) where
+  -- no word more
+  ends : (m : Machine) (from to : ℕ) → m.register 1 ≡ to → m.register 2 ≡ to → m.is_masked ≡ true → HoldsWords m
+      → Spans p m.address loop (m.address + 18) → m.address < 0xE0000000 → Copied p m from to 0
+  ends m from to r1 r2 masked words span low =
+      let i = instruction.Operate operation.Compare 1 2 in
+      let j = instruction.BranchIf condition.Equal 12 in
+      let m1 = stepped p i m in
+      let is : m1.flags.is_zero ≡ true =
+      compared (m.register 1) (m.register 2) (words.registers 1) (words.registers 2)
+      ∙ same_number (m.register 1) (m.register 2) (r1 ∙ sym r2) in
+      let arrives : word (m.address + 2 + 4 + 12) ≡ m.address + 18 = omega (arith, low) in
+      let m2 = record m1 { address = m.address + 18 } in
+      let does : effect p.port j m1 ≡ Some m2 =
+      ap (λ (t : Bool). if t then branched 12 m1 else behind j m1) is
+      ∙ ap (λ (x : ℕ). Some (record m1 { address = x })) arrives in
+      let w1 = words_after at img places p code i m m1 (record { found = span.0; does = refl }) tt words in
+      record {
+        last = m2;
+        led = led_on p m m1 m2 (led_one p i m m1 masked span.0 refl) (led_one p j m1 m2 masked span.1.0 does);
+        rest = refl;
+        registers = λ k h. refl;
+        copied = λ k l. absurd (omega (arith, l));
+        memory = λ k h. refl;
+        words = words_after at img places p code j m1 m2 (record { found = span.1.0; does = does }) tt w1;
+      }
+
+  -- one word
+  pub record One (m : Machine) (from to : ℕ) : Type 0 where
+    pub next : Machine
+    pub led : Led p m next
+    pub rest : next ≡ record m {
+      register = next.register;
+      flags = next.flags;
+      memory = written m.memory to (word_at m from);
+    }
+    pub source : next.register 0 ≡ from + 4
+    pub target : next.register 1 ≡ to + 4
+    pub limit : next.register 2 ≡ m.register 2
+    pub registers : (k : ℕ) → 4 ≤ k → next.register k ≡ m.register k
+    pub words : HoldsWords next
+
+  one : (m : Machine) (from to count : ℕ) → CanCopy p.port from to (suc count) → m.register 0 ≡ from
+      → m.register 1 ≡ to → m.register 2 ≡ to + 4 * suc count → m.is_masked ≡ true → HoldsWords m
+      → Spans p m.address loop (m.address + 18) → m.address < 0xE0000000 → One m from to
+  one m from to count can r0 r1 r2 masked words span low =
+      let i1 = instruction.Operate operation.Compare 1 2 in
+      let i2 = instruction.BranchIf condition.Equal 12 in
+      let i3 = instruction.Load 3 0 0 in
+      let i4 = instruction.Store 3 1 0 in
+      let i5 = instruction.AddNumber 0 4 in
+      let i6 = instruction.AddNumber 1 4 in
+      let i7 = instruction.Branch (2 ^ 32 - 18) in
+      let v = word_at m from in
+      let m1 = stepped p i1 m in
+      let is : m1.flags.is_zero ≡ false =
+      compared (m.register 1) (m.register 2) (words.registers 1) (words.registers 2)
+      ∙ not_equal (m.register 1) (m.register 2) (λ e. omega (arith, e, r1, r2)) in
+      let m2 = record m1 { address = m.address + 2 + 4 } in
+      let does2 : effect p.port i2 m1 ≡ Some m2 =
+      ap (λ (t : Bool). if t then branched 12 m1 else behind i2 m1) is in
+      let m3 = record m2 { register = λ k. if k == 3 then v else m.register k; address = m.address + 2 + 4 + 2 } in
+      let does3 : effect p.port i3 m2 ≡ Some m3 =
+      loading_is i3 3 (word (m.register 0 + 0)) from m2 (omega (arith, r0, can.from_space)) can.from_aligned in
+      let memory = first_memory p.port from to count can in
+      let m4 = record m3 { memory = written m.memory to v; address = m.address + 2 + 4 + 2 + 2 } in
+      let does4 : effect p.port i4 m3 ≡ Some m4 =
+      storing_is p.port i4 3 (word (m.register 1 + 0)) to m3 (omega (arith, r1, can.to_memory)) memory in
+      let m5 = stepped p i5 m4 in
+      let m6 = stepped p i6 m5 in
+      let returns : word (m.address + 2 + 4 + 2 + 2 + 2 + 2 + 4 + (2 ^ 32 - 18)) ≡ m.address = omega (arith, low) in
+      let m7 = record m6 { address = m.address } in
+      let does7 : effect p.port i7 m6 ≡ Some m7 = ap (λ (x : ℕ). Some (record m6 { address = x })) returns in
+      let f3 = span.1.1 in
+      let f5 = f3.1.1 in
+      let f7 = f5.1.1 in
+      let w1 = words_after at img places p code i1 m m1 (record { found = span.0; does = refl }) tt words in
+      let w2 = words_after at img places p code i2 m1 m2 (record { found = span.1.0; does = does2 }) tt w1 in
+      let w3 = words_after at img places p code i3 m2 m3 (record { found = f3.0; does = does3 }) tt w2 in
+      let w4 = words_after at img places p code i4 m3 m4 (record { found = f3.1.0; does = does4 }) tt w3 in
+      let w5 = words_after at img places p code i5 m4 m5 (record { found = f5.0; does = refl }) tt w4 in
+      let w6 = words_after at img places p code i6 m5 m6 (record { found = f5.1.0; does = refl }) tt w5 in
+      record {
+        next = m7;
+        led = led_on p m m1 m7 (led_one p i1 m m1 masked span.0 refl)
+            (led_on p m1 m2 m7 (led_one p i2 m1 m2 masked span.1.0 does2)
+            (led_on p m2 m3 m7 (led_one p i3 m2 m3 masked f3.0 does3)
+            (led_on p m3 m4 m7 (led_one p i4 m3 m4 masked f3.1.0 does4)
+            (led_on p m4 m5 m7 (led_one p i5 m4 m5 masked f5.0 refl)
+            (led_on p m5 m6 m7 (led_one p i6 m5 m6 masked f5.1.0 refl) (led_one p i7 m6 m7 masked f7.0 does7))))));
+        rest = refl;
+        source = omega (arith, r0, can.from_space);
+        target = omega (arith, r1, can.to_memory);
+        limit = refl;
+        registers = λ k h.
+            other k 1 _ _ (λ e. omega (arith, e, h)) ∙ (other k 0 _ _ (λ e. omega (arith, e, h))
+            ∙ other k 3 _ _ (λ e. omega (arith, e, h)));
+        words = words_after at img places p code i7 m6 m7 (record { found = f7.0; does = does7 }) tt w6;
+      }
+
+  pub copies : (count : ℕ) (m : Machine) (from to : ℕ) → CanCopy p.port from to count → m.register 0 ≡ from
+      → m.register 1 ≡ to → m.register 2 ≡ to + 4 * count → m.is_masked ≡ true → HoldsWords m
+      → Spans p m.address loop (m.address + 18) → m.address < 0xE0000000 → Copied p m from to count
+  copies zero m from to can r0 r1 r2 masked words span low =
+      ends m from to r1 (r2 ∙ omega arith) masked words span low
+  copies (suc count) m from to can r0 r1 r2 masked words span low =
+      let o = one m from to count can r0 r1 r2 masked words span low in
+      let v = word_at m from in
+      let same_address : o.next.address ≡ m.address = ap (λ (x : Machine). x.address) o.rest in
+      let still : o.next.is_masked ≡ true = ap (λ (x : Machine). x.is_masked) o.rest ∙ masked in
+      let more = copies count o.next (from + 4) (to + 4) (further p.port from to count can) o.source o.target
+      (o.limit ∙ (r2 ∙ omega arith)) still o.words
+      (subst (λ (a : ℕ). Spans p a loop (a + 18)) (sym same_address) span)
+      (subst (λ (a : ℕ). a < 0xE0000000) (sym same_address) low) in
+      let memory_is : (k : ℕ) → o.next.memory k ≡ written m.memory to v k =
+      λ k. ap (λ (x : Machine). x.memory k) o.rest in
+      record {
+        last = more.last;
+        led = led_on p m o.next more.last o.led more.led;
+        rest = more.rest ∙ (ap (λ (x : Machine). record x {
+          register = more.last.register;
+          flags = more.last.flags;
+          address = o.next.address + 18;
+          memory = more.last.memory;
+        }) o.rest ∙ ap (λ (a : ℕ). record m {
+          register = more.last.register;
+          flags = more.last.flags;
+          address = a + 18;
+          memory = more.last.memory;
+        }) same_address);
+        registers = λ k h. more.registers k h ∙ o.registers k h;
+        copied = each more memory_is;
+        memory = λ k h.
+            more.memory k (⊎_elim (λ (x : 4 * k + 4 ≤ to). inl (omega (arith, x)))
+            (λ (x : to + 4 * suc count ≤ 4 * k). inr (omega (arith, x))) h)
+            ∙ (memory_is k ∙ other k (to / 4) v (m.memory k) (λ e.
+            ⊎_elim (λ (x : 4 * k + 4 ≤ to). omega (arith, x, e, can.to_aligned))
+            (λ (x : to + 4 * suc count ≤ 4 * k). omega (arith, x, e, can.to_aligned)) h));
+        words = more.words;
+      }
+    where
+      each : (more : Copied p (one m from to count can r0 r1 r2 masked words span low).next (from + 4) (to + 4) count)
+          → ((k : ℕ) → (one m from to count can r0 r1 r2 masked words span low).next.memory k
+          ≡ written m.memory to (word_at m from) k)
+          → (j : ℕ) → j < suc count → word_at more.last (to + 4 * j) ≡ word_at m (from + 4 * j)
+      each more memory_is zero l =
+          let here : (to + 4 * 0) / 4 ≡ to / 4 = omega arith in
+          let there : (from + 4 * 0) / 4 ≡ from / 4 = omega arith in
+          ap more.last.memory here
+          ∙ (more.memory (to / 4) (inl (omega (arith, can.to_aligned)))
+          ∙ (memory_is (to / 4) ∙ (same (to / 4) (word_at m from) (m.memory (to / 4)) ∙ ap m.memory (sym there))))
+      each more memory_is (suc j) l =
+          let here : to + 4 * suc j ≡ to + 4 + 4 * j = omega arith in
+          let there : from + 4 + 4 * j ≡ from + 4 * suc j = omega arith in
+          ap (word_at more.last) here
+          ∙ (more.copied j (omega (arith, l)) ∙ (memory_is ((from + 4 + 4 * j) / 4)
+          ∙ (other ((from + 4 + 4 * j) / 4) (to / 4) (word_at m from) (m.memory ((from + 4 + 4 * j) / 4)) (λ e.
+          ⊎_elim (λ (x : from + 4 * suc count ≤ to).
+          omega (arith, x, e, l, can.to_aligned, can.from_aligned))
+          (λ (x : to + 4 * suc count ≤ from). omega (arith, x, e, l, can.to_aligned, can.from_aligned)) can.apart)
+          ∙ ap (word_at m) there)))
