@@ -81,8 +81,8 @@ def measure_live(program, peer, folder, pends, steps, idle):
         sys.exit("beside.py: the peer's total or account is another one")
     seconds, other = processor(TURNS, ours, plain)
     print(
-        f"live, {'busy' if idle else 'waiting'}, 4 devices of {pends} pends, {2 * steps} steps: {seconds * 1000:.0f} ms, "
-        f"{seconds / other:.2f} times a plain program ({other * 1000:.0f} ms)"
+        f"live, {'busy' if idle else 'waiting'}, 4 devices of {pends} pends, {2 * steps} steps: "
+        f"{seconds * 1000:.0f} ms, {seconds / other:.2f} times a plain program ({other * 1000:.0f} ms)"
     )
 
 

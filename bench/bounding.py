@@ -1,12 +1,12 @@
 #!/usr/bin/env python3
-"""Tries the answers of `rticx bounds` on random listings, half of them with loops. Where the seven rules hold each line is
-compared with a reference of its own in bench/bounds, and the first of these images run under chance events on the core
-of bench/cortex: no job, section, wait or stack may exceed its bound. Where a rule is broken the answer is `no K`.
+"""Tries the answers of `rticx bounds` on random listings, half of them with loops. Where the seven rules hold each line
+is compared with a reference of its own in bench/bounds, and the first of these images run under chance events on the
+core of bench/cortex: no job, section, wait or stack may exceed its bound. Where a rule is broken the answer is `no K`.
 
     python3 bounding.py PROGRAM FOLDER [COUNT [SEED]]
 
-PROGRAM is rticx, FOLDER takes the listings. The last lines count them. The status is 1 where an answer is wrong or a run
-exceeds a bound; a listing with a wrong answer stays in FOLDER.
+PROGRAM is rticx, FOLDER takes the listings. The last lines count them. The status is 1 where an answer is wrong or a
+run exceeds a bound; a listing with a wrong answer stays in FOLDER.
 """
 import collections
 import concurrent.futures
@@ -57,7 +57,7 @@ def judged(text, answer, status):
 
 
 def tried(program, folder, number, text):
-    """What one listing counts as, what is wrong with its answer, if something is, and the answer where it has bounds."""
+    """What a listing counts as, what is wrong with its answer, if something is, and the answer where it has bounds."""
     path = pathlib.Path(folder) / f"{number}.listing"
     path.write_text(text)
     answer, status = told(program, path)

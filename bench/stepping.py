@@ -1,5 +1,5 @@
 #!/usr/bin/env python3
-"""Prints what a core step of the whole machine takes, beside the same steps in a plain interpreter and as straight Rust.
+"""Prints what a core step of the whole machine takes, beside the same steps in a plain interpreter and straight Rust.
 
     python3 stepping.py SPIN INTERPRETER STRAIGHT
 

@@ -105,19 +105,20 @@ ldrb r0, [r1, #4]; strh r0, [r1, #4]; ldrh r0, [r1, #4]; add r0, sp, #4; add r0,
 cbz r0, .+8; cbnz r0, .+8; sxth r0, r1; uxtb r0, r1; rev r0, r1; cpsie f; cpsid f; cpsie if; bkpt 0; bkpt 255; yield
 wfe; sev; it eq; stmia r0!, {r1}; ldmia r0!, {r1}; beq.n .+4; bhi.n .+4; svc 0; udf #0; b.n .+4; nop.w; wfi.w
 mov.w r0, #0; movs.w r0, #255; mvns.w r0, #0; mvn.w r0, #0x00ff00ff; mvn.w r0, #0x100; mvn.w r0, r1; addw r0, r1, #4
-addw r0, sp, #4; addw sp, sp, #1; addw sp, sp, #4094; subw sp, sp, #2; subw r0, r1, #4; add.w sp, sp, #4; sub.w sp, sp, #8
-adr.w r0, .+8; .inst.w 0xf2400d00; .inst.w 0xf2400e00; .inst.w 0xf2400f00; .inst.w 0xf2c00d00; .inst.w 0xf06f0d00
-.inst.w 0xf06f0e00; ubfx r0, r1, #0, #8; bfi r0, r1, #0, #8; ssat r0, #4, r1; ldr.w r0, [pc, #4]; ldr.w sp, [r0]
-ldr.w pc, [r0]; ldr.w r0, [r1, #-4]; ldr r0, [r1], #4; ldr r0, [r1, #4]!; str.w r0, [r1, #-4]; str r0, [r1], #4
-str.w sp, [r0]; ldr.w r0, [r1, r2]; ldr.w r0, [r1, r2, lsl #1]; ldr.w r0, [r1, r2, lsl #3]; str.w r0, [r1, r2]
-str.w r0, [r1, r2, lsl #3]; ldr.w lr, [r0, r1, lsl #2]; .inst.w 0xf851002d; .inst.w 0xf851002e; .inst.w 0xf85f0022
-ldrb.w r0, [r1, #4]; strb.w r0, [r1, #4]; ldrh.w r0, [r1, #4]; ldrd r0, r1, [r2]; strd r0, r1, [r2]; ldrex r0, [r1]
-sdiv r0, r1, r2; .inst.w 0xfbb1fdf2; .inst.w 0xfbbef0f2; .inst.w 0xfbb1f0fd; mla r0, r1, r2, r3; mul.w r0, r1, r2
-.inst.w 0xfb013d12; .inst.w 0xfb01d012; .inst.w 0xfb01f012; umull r0, r1, r2, r3; smull r0, r1, r2, r3; mrs r0, ipsr
-mrs r0, msp; mrs r0, psp; mrs r0, faultmask; mrs r0, control; mrs r0, basepri_max; .inst.w 0xf3ef8d10; .inst.w 0xf3ef8e10
-msr basepri_max, r0; msr faultmask, r0; msr control, r0; msr msp, r0; .inst.w 0xf38d8810; .inst.w 0xf38e8811
-msr apsr_nzcvq, r0; dmb sy; dsb st; .inst.w 0xf3bf8f6e; clrex; nop.w; bmi.w .+4; bpl.w .+4; bvs.w .+4; bvc.w .+4
-bge.w .+4; blt.w .+4; bgt.w .+4; ble.w .+4; udf.w #0; push.w {r4, lr}; pop.w {r4, lr}; tbb [r0, r1]; add.w r0, r1, r2
+addw r0, sp, #4; addw sp, sp, #1; addw sp, sp, #4094; subw sp, sp, #2; subw r0, r1, #4; add.w sp, sp, #4
+sub.w sp, sp, #8; adr.w r0, .+8; .inst.w 0xf2400d00; .inst.w 0xf2400e00; .inst.w 0xf2400f00; .inst.w 0xf2c00d00
+.inst.w 0xf06f0d00; .inst.w 0xf06f0e00; ubfx r0, r1, #0, #8; bfi r0, r1, #0, #8; ssat r0, #4, r1; ldr.w r0, [pc, #4]
+ldr.w sp, [r0]; ldr.w pc, [r0]; ldr.w r0, [r1, #-4]; ldr r0, [r1], #4; ldr r0, [r1, #4]!; str.w r0, [r1, #-4]
+str r0, [r1], #4; str.w sp, [r0]; ldr.w r0, [r1, r2]; ldr.w r0, [r1, r2, lsl #1]; ldr.w r0, [r1, r2, lsl #3]
+str.w r0, [r1, r2]; str.w r0, [r1, r2, lsl #3]; ldr.w lr, [r0, r1, lsl #2]; .inst.w 0xf851002d; .inst.w 0xf851002e
+.inst.w 0xf85f0022; ldrb.w r0, [r1, #4]; strb.w r0, [r1, #4]; ldrh.w r0, [r1, #4]; ldrd r0, r1, [r2]
+strd r0, r1, [r2]; ldrex r0, [r1]; sdiv r0, r1, r2; .inst.w 0xfbb1fdf2; .inst.w 0xfbbef0f2; .inst.w 0xfbb1f0fd
+mla r0, r1, r2, r3; mul.w r0, r1, r2; .inst.w 0xfb013d12; .inst.w 0xfb01d012; .inst.w 0xfb01f012; umull r0, r1, r2, r3
+smull r0, r1, r2, r3; mrs r0, ipsr; mrs r0, msp; mrs r0, psp; mrs r0, faultmask; mrs r0, control; mrs r0, basepri_max
+.inst.w 0xf3ef8d10; .inst.w 0xf3ef8e10; msr basepri_max, r0; msr faultmask, r0; msr control, r0; msr msp, r0
+.inst.w 0xf38d8810; .inst.w 0xf38e8811; msr apsr_nzcvq, r0; dmb sy; dsb st; .inst.w 0xf3bf8f6e; clrex; nop.w
+bmi.w .+4; bpl.w .+4; bvs.w .+4; bvc.w .+4; bge.w .+4; blt.w .+4; bgt.w .+4; ble.w .+4; udf.w #0; push.w {r4, lr}
+pop.w {r4, lr}; tbb [r0, r1]; add.w r0, r1, r2
 """
 
 

@@ -1,7 +1,7 @@
 """The bounds of a listing that keeps the rules, found by peeling its graph of addresses from the ends.
 
-It reads the listing itself and shares no text with the program or with bench/witness. A bound is a number, or the set of
-the addresses at which a loop can be told.
+It reads the listing itself and shares no text with the program or with bench/witness. A bound is a number, or the set
+of the addresses at which a loop can be told.
 """
 
 import collections

@@ -105,7 +105,8 @@ def chip_of(rng, app, inputs):
     """The words of lines that say something of a chip, all that a program takes or a part of it."""
     flash, ram = rng.choice(((0, 0x2000_0000), (0x800_0000, 0x2000_0000), (0x6000_0000, 0x1000_0000)))
     rows = [("flash", number(rng, flash), number(rng, rng.choice((0x400, 0x800, 0x10_0000, 0x40_0000)))),
-            ("ram", number(rng, ram + 8 * rng.randrange(2)), number(rng, rng.choice((64, 300, 0x4000, 0x4000, 0x4000)))),
+            ("ram", number(rng, ram + 8 * rng.randrange(2)),
+             number(rng, rng.choice((64, 300, 0x4000, 0x4000, 0x4000)))),
             ("port", number(rng, 0x4000_0000 + 4 * rng.randrange(99))), ("bits", str(rng.randrange(app.bits, 9)))]
     rows = rows if rng.random() < 0.8 else rng.sample(rows, rng.randrange(len(rows) + 1))
     rows += [("tick", number(rng, rng.randrange(1, 1 << 24)))] if rng.random() < 0.5 else []

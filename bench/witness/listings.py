@@ -4,8 +4,8 @@ VALUES = (240, 224, 208, 192, 176)
 PLAIN = ("set {s} 7", "copy {s} {t}", "add {s} {s} {t}", "emit {s}", "clock {s}", "post {row}", "mark")
 OTHER = (
     "mark", "ret", "serve", "wait", "noalarm", "back", "set 0 0", "raise 0 224", "raise 0 0", "mask 0", "mask 1",
-    "restore 0", "unmask 0", "clock 1", "loadat 0 0 1", "storeat 0 1 1", "call 0 1", "load 0 1", "store 1 0", "set 99 1",
-    "load 0 40", "emit 5",
+    "restore 0", "unmask 0", "clock 1", "loadat 0 0 1", "storeat 0 1 1", "call 0 1", "load 0 1", "store 1 0",
+    "set 99 1", "load 0 40", "emit 5",
 )
 NOTES = ("", "", "enter s0", "enter s1", "leave s0", "leave s1", "end init", "end idle", "enter timer.0",
          "leave ready.3", "enter ready.3")
@@ -118,7 +118,7 @@ def other_line(chance, codes, place):
 
 
 def other_section(chance, codes, names):
-    """The texts of the code, with one section changed at both of its ends: its value, its kind, its name, or left out."""
+    """The texts of the code, with a section changed at both of its ends: its value, its kind, its name, or left out."""
     codes = list(codes)
     enters = [n for n, code in enumerate(codes) if " ; enter " in code]
     if not enters:

@@ -7,7 +7,9 @@ from calling.sources import calls
 HEAD = "| Call | Needs | Other answers, and their cause | Left |\n|---|---|---|---|\n"
 # Types of answers of which each value is a cause of its own.
 TELLING = ("Status", "Verdict", "Verified", "Pended", "Measure")
-FAILS = re.compile(r"\b(OnErr|IfErr|IsErr|IsErrOf|Err|HasEffect|RepliesOrStops|HasCause|MatchResult|Reads|ReadsBytes)\b")
+FAILS = re.compile(
+    r"\b(OnErr|IfErr|IsErr|IsErrOf|Err|HasEffect|RepliesOrStops|HasCause|MatchResult|Reads|ReadsBytes)\b"
+)
 SUCCEEDS = re.compile(r"^(OnOk|IfOk|OnSome|IfSome)\b")
 DECIDES = re.compile(r"\bresult\b.*(≡|↔)|(≡|↔).*\bresult\b|MatchOption|IsTrue result|IsFalse result"
                      r"|^(YieldsFirst|StepsToItem|Passes|TotalJudged)|\bIs(FirstBroken|Decoding)\b.* result$")

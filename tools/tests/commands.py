@@ -1,7 +1,7 @@
 #!/usr/bin/env python3
-"""Compares what is said of the commands' words, of what they do and of the statuses in several places, for each program:
-the words with its own usage line, the statuses with the table of its page, and the rest with the launcher's help. What
-the launcher takes for each command is tried in launcher.py, and what completions offer in completion.py.
+"""Compares what is said of the commands' words, of what they do and of the statuses in several places, for each
+program: the words with its own usage line, the statuses with the table of its page, and the rest with the launcher's
+help. What the launcher takes for each command is tried in launcher.py, and what completions offer in completion.py.
 
 The man pages are also set, without a warning, where there is a program that does it."""
 import pathlib

@@ -284,7 +284,8 @@ def try_vim(told, folder):
     said = out.read_text(encoding="utf-8").split("\n") if out.exists() else []
     told.expect(f"Vim's settings: {said[:2]}", "rtic|// %s" in said)
     told.expect(f"Vim's list: {[one for one in said if one.startswith('found')]}",
-                any(one.startswith("found|3|15|3|syntax|help: a statement or declaration ends with `;`, and none comes after `x` in line 3") for one in said))
+                any(one.startswith("found|3|15|3|syntax|help: a statement or declaration ends with `;`, and none comes "
+                                   "after `x` in line 3") for one in said))
     plain = [word for word in words if not any(re.fullmatch(rf"word\|{word}\|rtic\w+", one) for one in said)]
     told.expect(f"words without a colour in Vim: {plain}", not plain)
     told.tried.append(f"{len(words)} words by Vim")

@@ -22,7 +22,8 @@ from explaining.table import Table
 
 ORDERS = (
     "write|leave|put|use|save|keep|drop|make|declare|give|look|add|remove|replace|take|split|move|audit|insert|delete|"
-    "rename|change|jump|try|list|choose|swap|join|close|open|begin|begins? with a new|enter|raise|let each|compare|assign"
+    "rename|change|jump|try|list|choose|swap|join|close|open|begin|begins? with a new|enter|raise|let each|compare|"
+    "assign"
 )
 BEGINS = r"(?:^|[:;,(] |\b(?:and|or|so|then|please|first) )"
 ADVISES = re.compile(rf"{BEGINS}(?:{ORDERS})\b(?! (?:an |the |no |some |it)?\w+s\b)")

@@ -1,7 +1,7 @@
 #!/usr/bin/env python3
 """What tools/explain says of the second program's answers: refused boards, scripts and traces beside them, wrong lines,
-listings under `why`, limits of `respond`, and words. A stub stands for the program, which writes the answer of a row; where the second
-program is built, or RTICX names it, the answers are compared with its own."""
+listings under `why`, limits of `respond`, and words. A stub stands for the program, which writes the answer of a row;
+where the second program is built, or RTICX names it, the answers are compared with its own."""
 import os
 import pathlib
 import re

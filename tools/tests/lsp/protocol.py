@@ -236,8 +236,8 @@ def processor_seconds(number):
 
 
 def costs(client, turns=3):
-    """The server's processor seconds of each request on a text of 1,000 lines, with the reading of a change: the least of
-    some turns, because on a busy machine processor time counts for more, now and then much more."""
+    """The server's processor seconds of each request on a text of 1,000 lines, with the reading of a change: the least
+    of some turns, because on a busy machine processor time counts for more, now and then much more."""
     text, version, found = large(), 1, {}
     client.open(URI, text)
     line, character = place_in(text, text.index("r7 = r7") + 1)
