@@ -44,6 +44,8 @@ def bad_line(said, words, lines, table):
         said.helps = [HASH if words[0].startswith(("//", "--", ";", "/*")) else forms]
     elif len(words) != 3:
         said.at(words[-1] if len(words) < 3 else words[3], "the form is `every I N`")
+        if len(words) > 3 and words[3].lower() in ("jitter", "jit", "j"):
+            said.helps = ["N is the least distance of two requests: a period less its jitter"]
     elif not NAME.fullmatch(words[1]):
         said.at(words[1], f"`every` wants the name of an interrupt, and `{words[1]}` is none")
         if NAME.fullmatch(words[2]) and NUMERAL.fullmatch(words[1]):

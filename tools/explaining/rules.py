@@ -16,6 +16,7 @@ OF_NUMBERS = {
     "true": 1, "false": 0, "null": 0, "nullptr": 0, "nil": 0, "none": 0, "pdtrue": 1, "pdpass": 1, "pdfalse": 0,
     "pdfail": 0,
 }
+EXCEPTIONS = ("systick", "pendsv", "svcall", "svc", "nmi", "hardfault", "memmanage", "busfault", "usagefault")
 LIKE_DIGITS = {"O": 0, "o": 0, "l": 1, "I": 1}
 HEXADECIMAL = re.compile(
     r"(?P<a>[0-9A-F]{2,})h|(?P<b>[A-Fa-f]+[0-9][0-9A-Fa-f]*)[hH]|[xX](?P<c>(?=.*[0-9])[0-9A-Fa-f]{2,8})|F{2,8}"
@@ -123,7 +124,10 @@ class Rules:
         if others:
             return self.other_kind(table, name, wanted, *others[0])
         self.row(table, f"E05 {wanted}", N=name)
-        if name in ("true", "false"):
+        if wanted == "interrupt" and (bare := re.sub(r"_?(irqn|handler)$", "", name.lower())) in EXCEPTIONS:
+            timers = ": that of a timer takes its place" * (bare == "systick")
+            self.helps = [f"`{name}` is an exception of the core, and no interrupt{timers}"]
+        elif name in ("true", "false"):
             self.helps = ["`true` is 1 and `false` is 0"]
         elif name.lower() in OF_NUMBERS:
             number = OF_NUMBERS[name.lower()]

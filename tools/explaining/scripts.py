@@ -125,6 +125,8 @@ def bad_line(app, said, words, forms):
             said.helps = ["a blank comes between two words", forms]
         elif words[0] in ("repeat", "loop", "for", "while", "times", "end", "done"):
             said.helps = ["a script has no loops: `pend I N` requests N times, and `step N` takes N steps"]
+        elif words[0] == "give" and "from V" not in forms:
+            said.helps = ["a line `give` is of scripts beside a board, which `rticx run` reads", forms]
         elif words[0].lower() in ("wait", "sleep", "delay", "pause", "run", "advance"):
             said.helps = ["a line `step N` lets N core steps pass, and `tick N` lets N ticks of the clock come", forms]
         elif (NUMERAL.fullmatch(words[0]) or words[0].lower() in TIMES) and any(word in WORDS for word in words[1:]):
