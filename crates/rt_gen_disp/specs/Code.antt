@@ -80,7 +80,7 @@ callee_of app n row t = record {
 abbrev pub next_for : Exit → ℕ → ℕ → ℕ
 next_for exit n behind = if n == exit.last then exit.address else behind
 
--- the number of the last task of a level, and 0 where there is none
+-- the number of the last task of a level that has one
 abbrev pub last_of : ℕ → List Task → ℕ
 last_of level tasks =
     greatest (those_below (λ n. is_some_and (is_of_level level) (slice_get tasks n)) (length tasks))

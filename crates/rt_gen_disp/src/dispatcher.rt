@@ -1,12 +1,12 @@
 // Generates the code of a dispatcher.
 
-ghost use Rattle.std.specs.Prelude.{◌≡◌, ◌+◌, ◌≤◌, length, map, take, drop, slice_get, Contains, IfOk};
+ghost use Rattle.std.specs.Prelude.{◌≡◌, ◌+◌, ◌≤◌, length, map, take, drop, slice_get, Contains, IfOk, IsTrue};
 ghost use Rattle.std.specs.Prelude.{OnOk};
 ghost use Rattle.std.specs.Prelude.{OnErr};
-ghost use Rattle.std.specs.List.{AllByRecursion};
+ghost use Rattle.std.specs.List.{AllByRecursion, list_any};
 ghost use Rattle.rt_app.specs.Accepted.{IsAccepted};
 ghost use Rattle.rt_app.specs.BodyCost.{dispatcher_size};
-ghost use Rattle.rt_app.specs.Level.{levels};
+ghost use Rattle.rt_app.specs.Level.{is_of_level, levels};
 ghost use Rattle.rt_app.specs.Names.{names_of};
 ghost use Rattle.rt_app.specs.Plan.{IsPlan};
 ghost use Rattle.rt_app.specs.View.{app_of, task_of};
@@ -24,17 +24,21 @@ use rt_gen_queue::{Lines, ReadyQueue, next_entry, queue_of};
 use rt_ids::NoMemory;
 use std::alloc::Global;
 
-/// The number of the last task of a level, and 0 where there is none.
+/// The number of the last task of a level that has one.
 fn last_of(tasks: &[Task], level: u8) -> usize
+    requires served { IsTrue (list_any (is_of_level level) (map task_of tasks.now)) }
     ensures { result ≡ last_of level (map task_of tasks.now) }
 {
-    let mut last: usize = 0;
+    let mut last = None;
     for number in 0..tasks.len() {
         if tasks[number].is_of_level(level) {
-            last = number;
+            last = Some(number);
         }
     }
-    last
+    match last {
+        None => unreachable!(),
+        Some(number) => number,
+    }
 }
 
 /// The lines of the task of a number, where it is one of the level.

@@ -5,9 +5,15 @@ use Rattle.std.proofs.lemmas.Result.{on_err_weaker}
 use Rattle.rt_lemmas.proofs.Results.{on_err_from}
 use Rattle.rt_gen_queue.proofs.Extending.{extends_by, extends_same, extends_then}
 use Rattle.rt_gen_queue.specs.declared.queue.ReadyQueue.{ReadyQueue}
+use Rattle.rt_gen_disp.proofs.Lasts.{level_served}
 use Rattle.rt_gen_disp.proofs.dispatcher.generate.Goals as goal
 use Rattle.rt_gen_disp.specs.Code.{choices_code, exit_of, front_lines, last_of}
 use Rattle.rt_gen_disp.specs.declared.lines.Exit.{Exit}
+
+pub last_of-last-requires : goal.last_of-last-requires
+last_of-last-requires c =
+    let served = level_served (app_of c.args.plan.now.app.now) c.args.level c.requires.software in
+    rw c.deref.ensures.value (record { served = served })
 
 pub push_choices-requires-clause-queue : goal.push_choices-requires-clause-queue
 push_choices-requires-clause-queue c =
