@@ -1,6 +1,6 @@
 // The rows of the timer queue that belong to each task.
 
-ghost use Rattle.std.specs.Prelude.{◌≡◌, ◌≤◌, if◌then◌else◌};
+ghost use Rattle.std.specs.Prelude.{◌≡◌, ◌<◌, ◌≤◌, length, if◌then◌else◌};
 ghost use Rattle.rt_app.specs.View.{app_of};
 ghost use Rattle.rt_app.specs.Level.{is_armed, armed_messages, capacities_before};
 ghost use Rattle.rt_app.specs.Sending.{capacity_of};
@@ -71,8 +71,9 @@ impl<'a> ArmedRows<'a> {
         armed::messages_before(self.app, &self.armed, usize::from(task.0))
     }
 
-    /// How many rows a task has: its capacity, and 0 where no message of it is ever armed.
+    /// How many rows a declared task has: its capacity, and none where no message of it is ever armed.
     pub fn count(&self, task: TaskId) -> u32
+        requires { task < length (app_of self.now).tasks }
         ensures { let app = app_of self.now in result ≡ if is_armed app task then capacity_of app task else 0 }
     {
         if self.is_armed(task) {
@@ -82,12 +83,13 @@ impl<'a> ArmedRows<'a> {
         }
     }
 
-    /// The capacity of a task, and 0 where there is none.
+    /// The capacity of a declared task.
     fn capacity(&self, task: TaskId) -> u32
+        requires { task < length (app_of self.now).tasks }
         ensures { result ≡ capacity_of (app_of self.now) task }
     {
         match self.app.task(task) {
-            None => 0,
+            None => unreachable!(),
             Some(task) => u32::from(task.capacity),
         }
     }
