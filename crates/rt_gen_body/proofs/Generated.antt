@@ -15,9 +15,11 @@ use Rattle.rt_ids.specs.declared.ids.BodyId.TheVariants as body
 use Rattle.rt_ids.specs.declared.ids.Section.TheVariants as section
 use Rattle.rt_app.specs.{View.body_of, View.statement_of, declared.stmt.Stmt.Stmt}
 use Rattle.rt_app.specs.Tree as tree
+use Rattle.rt_app.specs.Bodies.{Member}
+use Rattle.rt_app.specs.declared.body.Body as written
 use Rattle.rt_app.specs.declared.app.App as code
 use Rattle.rt_app.specs.declared.app.Task as row
-use Rattle.rt_frames.proofs.Within.{frame_few}
+use Rattle.rt_frames.{proofs.Within.frame_few, specs.Inside.Reached.IsBlockReached}
 use Rattle.rt_code.specs.declared.instr.Instr.TheVariants as instr
 use Rattle.rt_gen_queue.specs.declared.guard.Guard.{Guard}
 use Rattle.rt_gen_body.proofs.Promises.{BodyThere, body_between, called_stands, contains_range, idle_stands}
@@ -127,6 +129,20 @@ task_found app n t is = mapped_at task_of app.tasks.items n t (sym is)
 pub task_not_found : (app : code.App) (n : ℕ) → None ≡ slice_get app.tasks.items n
     → slice_get (app_of app).tasks n ≡ None
 task_not_found app n is = slice_get-map task_of app.tasks.items n ∙ ap (option_map task_of) (sym is)
+
+-- what `init` has is what a body has
+pub init_reached : (app : code.App) → IsAccepted (app_of app) → (b : written.Body) → app.init ≡ Some b
+    → IsBlockReached (app_of app) (body_of b).block
+init_reached app accepted b at =
+    let m : Member = record { id = body.Init; priority = 0; args = 0; body = body_of b } in (
+      m,
+      0,
+      [],
+      [],
+      (accepted_are_sound (app_of app) accepted).bodies body.Init m
+          (ap (λ (o : Option written.Body). option_map (λ x. let y : Member =
+          record { id = body.Init; priority = 0; args = 0; body = x } in y) (option_map body_of o)) at),
+    )
 
 -- the ceilings of a plan are priorities that there are, and how the sections mask by them
 pub small_ceilings : (plan : Plan) → IsAccepted (app_of plan.app.now) → IsPlan plan → (bits : ℕ) (tops : List ℕ)

@@ -12,6 +12,7 @@ ghost use Rattle.rt_app.specs.Limits.{KeepsBodyLimits};
 ghost use Rattle.rt_app.specs.Names.{names_of};
 ghost use Rattle.rt_app.specs.Plan.{IsPlan};
 ghost use Rattle.rt_app.specs.View.{app_of, body_of};
+ghost use Rattle.rt_frames.specs.Inside.Reached.{IsBlockReached};
 ghost use Rattle.rt_gen_queue.specs.Line.{IsNameable};
 ghost use Rattle.rt_gen_queue.specs.Guards.{guard_of_ceiling};
 ghost use Rattle.rt_gen_body.specs.Bodies.{IsBodyOf, BodyStands};
@@ -74,6 +75,8 @@ fn blocks(
     requires rows { source.now.rows.now ≡ source.now.plan.now.app.now }
     requires few { args ≤ ARGUMENTS }
     requires limits { KeepsBodyLimits (body_of body.now) }
+    requires guards { source.now.guards.now ≡ guards_of (app_of source.now.plan.now.app.now) }
+    requires reached { IsBlockReached (app_of source.now.plan.now.app.now) (body_of body.now).block }
     ensures { OnOk result (Appends lines.old lines.new
         (slots_code (app_of source.now.plan.now.app.now) source.now.guards.now args threshold
         (body_of body.now) (next_address lines.old))) }

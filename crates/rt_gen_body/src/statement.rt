@@ -4,6 +4,7 @@ ghost use Rattle.std.specs.Prelude.{◌≡◌, ◌∷◌, [], ◌<◌, ◌+◌, 
 ghost use Rattle.rt_ids.specs.Lists.{or_zero};
 ghost use Rattle.rt_app.specs.Handlers as handlers;
 ghost use Rattle.rt_app.specs.View.{statement_of, block_of};
+ghost use Rattle.rt_frames.specs.Inside.Reached.{IsStatementReached, IsBlockReached};
 ghost use Rattle.rt_gen_queue.specs.Guards.{enter_line, leave_line};
 ghost use Rattle.rt_gen_body.specs.BlockCode as blocks;
 ghost use Rattle.rt_gen_queue.specs.Making.{next_address, Appends};
@@ -25,21 +26,20 @@ struct Bounds {
     end: u32,
 }
 
-/// How a resource's section masks; one that is not declared masks nothing.
+/// How the section of a declared resource masks.
 fn guard_at(generator: &Generator<'_>, resource: ResId) -> Guard
+    requires { resource < length (context generator.now).guards }
     ensures { result ≡ blocks.guard_at (context generator.now) resource }
 {
     match generator.guards.get(usize::from(resource.0)) {
         Some(guard) => *guard,
-        None => Guard {
-            ceiling: 0,
-            value: 0,
-        },
+        None => unreachable!(),
     }
 }
 
-/// The number of an interrupt, by its index, and 0 where it is not declared.
+/// The number of a declared interrupt, by its index.
 fn number_at(generator: &Generator<'_>, irq: u8) -> Irq
+    requires { irq < length (context generator.now).app.irqs }
     ensures { result ≡ or_zero (handlers.irq_number (context generator.now).app irq) }
 {
     irq_number(&generator.plan.app.irqs, irq)
@@ -81,7 +81,8 @@ impl<'a> Generator<'a> {
         first: &[Stmt],
         code: &mut Lines,
     ) -> Result<(), NoMemory>
-        requires { IsPlanned self.now }
+        requires planned { IsPlanned self.now }
+        requires reached { IsBlockReached (context self.now).app (block_of first.now) }
         ensures { let block = λ (at : ℕ). blocks.block_code (context self.now) threshold lock at (block_of first.now) in
             OnOk result (Appends code.old code.new (blocks.one_code (context self.now) (next_address code.old) block)) }
     {
@@ -102,7 +103,8 @@ impl<'a> Generator<'a> {
         first: &[Stmt],
         code: &mut Lines,
     ) -> Result<usize, NoMemory>
-        requires { IsPlanned self.now }
+        requires planned { IsPlanned self.now }
+        requires reached { IsBlockReached (context self.now).app (block_of first.now) }
         ensures place { let at = next_address code.old + 1 in
             let block = blocks.block_code (context self.now) threshold lock at (block_of first.now) in
             IfOk result (λ over. over ≡ length code.old.lines + 1 + length block) }
@@ -131,8 +133,9 @@ impl<'a> Generator<'a> {
         over: usize,
         code: &mut Lines,
     ) -> Result<(), NoMemory>
-        requires ready { IsPlanned self.now }
+        requires planned { IsPlanned self.now }
         requires place { over < length code.old.lines }
+        requires reached { IsBlockReached (context self.now).app (block_of second.now) }
         ensures { let at = next_address code.old in
             let block = blocks.block_code (context self.now) threshold lock at (block_of second.now) in
             OnOk result (EndsWith code.old code.new over block) }
@@ -153,7 +156,9 @@ impl<'a> Generator<'a> {
         inner: &[Stmt],
         code: &mut Lines,
     ) -> Result<(), NoMemory>
-        requires { IsPlanned self.now }
+        requires planned { IsPlanned self.now }
+        requires declared { resource < length (context self.now).app.shared }
+        requires reached { IsBlockReached (context self.now).app (block_of inner.now) }
         ensures { let block = λ (inside slot at : ℕ).
             blocks.block_code (context self.now) inside slot at (block_of inner.now) in
             OnOk result (Appends code.old code.new
@@ -204,7 +209,8 @@ impl<'a> Generator<'a> {
         turn: &[Stmt],
         code: &mut Lines,
     ) -> Result<(), NoMemory>
-        requires { IsPlanned self.now }
+        requires planned { IsPlanned self.now }
+        requires reached { IsBlockReached (context self.now).app (block_of turn.now) }
         ensures { let at = next_address code.old in
             let block = blocks.block_code (context self.now) threshold lock (at + 4) (block_of turn.now) in
             OnOk result (Appends code.old code.new
@@ -230,7 +236,8 @@ impl<'a> Generator<'a> {
         stmt: &Stmt,
         code: &mut Lines,
     ) -> Result<(), NoMemory>
-        requires { IsPlanned self.now }
+        requires planned { IsPlanned self.now }
+        requires reached { IsStatementReached (context self.now).app (statement_of stmt.now) }
         ensures { OnOk result (Appends code.old code.new
             (blocks.statement_code (context self.now) threshold lock (next_address code.old) (statement_of stmt.now))) }
     {
@@ -272,7 +279,8 @@ impl<'a> Generator<'a> {
         stmts: &[Stmt],
         code: &mut Lines,
     ) -> Result<(), NoMemory>
-        requires { IsPlanned self.now }
+        requires planned { IsPlanned self.now }
+        requires reached { IsBlockReached (context self.now).app (block_of stmts.now) }
         ensures { OnOk result (Appends code.old code.new
             (blocks.block_code (context self.now) threshold lock (next_address code.old) (block_of stmts.now))) }
     {

@@ -1,5 +1,6 @@
 -- What a spawn is made of, as a plan has it in its tables.
-use Rattle.rt_gen_queue.proofs.Vocabulary.{App, Bool, Ceilings, IsAccepted, IsPlan, Layout, Line, List, None, Option}
+use Rattle.rt_gen_queue.proofs.Vocabulary.{App, Bool, Ceilings, IsAccepted, IsPlan, IsSome, Layout, Line, List, None}
+use Rattle.rt_gen_queue.proofs.Vocabulary.{Option, subst}
 use Rattle.rt_gen_queue.proofs.Vocabulary.{Plan, Some, Task, [], ap, app_of, arith, ceiling, free_at, guard_of_ceiling}
 use Rattle.rt_gen_queue.proofs.Vocabulary.{if◌then◌else◌, inputs_at, is_software, layout, lt-ltb, nat_lt, none-some}
 use Rattle.rt_gen_queue.proofs.Vocabulary.{or_zero, queue_at, same_Some, slice_get, slice_index, suc, sym, then_from}
@@ -65,15 +66,15 @@ module _ (app : App) (n : ℕ) {t : Task} (there : slice_get app.tasks n ≡ Som
 -- the ceiling of a task's free places
 pub free_top_is : (app : App) (n : ℕ) (ts : List Task) (i : ℕ) (t : Task) → slice_get ts i ≡ Some t
     → is_software t ≡ true
-    → or_zero (then_from (slice_get (free_ceilings app n ts) i) (λ c. c)) ≡ ceiling app (section.Free (n + i))
+    → then_from (slice_get (free_ceilings app n ts) i) (λ c. c) ≡ Some (ceiling app (section.Free (n + i)))
 free_top_is app n [] i t there software = absurd (none-some t there)
 free_top_is app n (u ∷ ts) zero t there software =
     let e : n ≡ n + 0 = omega arith in
-    ap (λ (b : Bool). or_zero (if b then Some (ceiling app (section.Free n)) else None))
-    (ap is_software (same_Some u t there) ∙ software) ∙ ap (λ k. ceiling app (section.Free k)) e
+    ap (λ (b : Bool). if b then Some (ceiling app (section.Free n)) else None)
+    (ap is_software (same_Some u t there) ∙ software) ∙ ap (λ k. Some (ceiling app (section.Free k))) e
 free_top_is app n (u ∷ ts) (suc i) t there software =
     let e : n + 1 + i ≡ n + suc i = omega arith in
-    free_top_is app (n + 1) ts i t there software ∙ ap (λ k. ceiling app (section.Free k)) e
+    free_top_is app (n + 1) ts i t there software ∙ ap (λ k. Some (ceiling app (section.Free k))) e
 
 -- the ceiling 0 masks nothing
 pub no_guard : (bits top : ℕ) → 3 ≤ bits → bits ≤ 7 → top ≡ 0 → record { ceiling = top; value = 256 }
@@ -93,12 +94,19 @@ module _ {plan : Plan} (task : ℕ) {t : Task} (accepted : IsAccepted (app_of pl
   abbrev top_read : ℕ
   top_read = or_zero (then_from (slice_get plan.ceil.free task) (λ c. c))
 
-  top_at : top_read ≡ ceiling of_plan (section.Free task)
-  top_at =
+  top_found : then_from (slice_get plan.ceil.free task) (λ c. c) ≡ Some (ceiling of_plan (section.Free task))
+  top_found =
       let zeroth : 0 + task ≡ task = omega arith in
       let listed = ap (λ (c : Ceilings). c.free) planned.ceilings in
-      ap (λ (os : List (Option ℕ)). or_zero (then_from (slice_get os task) (λ c. c))) listed
-      ∙ free_top_is of_plan 0 of_plan.tasks task t there software ∙ ap (λ k. ceiling of_plan (section.Free k)) zeroth
+      ap (λ (os : List (Option ℕ)). then_from (slice_get os task) (λ c. c)) listed
+      ∙ free_top_is of_plan 0 of_plan.tasks task t there software
+      ∙ ap (λ k. Some (ceiling of_plan (section.Free k))) zeroth
+
+  pub top_there : IsSome (then_from (slice_get plan.ceil.free task) (λ c. c))
+  top_there = subst (λ (o : Option ℕ). IsSome o) (sym top_found) refl
+
+  top_at : top_read ≡ ceiling of_plan (section.Free task)
+  top_at = ap or_zero top_found
 
   pub top_small : top_read ≤ 2 ^ plan.app.now.bits
   top_small = omega (arith, top_at, free_top of_plan task t facts)

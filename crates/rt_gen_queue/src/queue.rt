@@ -63,26 +63,21 @@ fn ceiling_at(queues: &[ReadyCeiling], index: usize) -> u8
     queues[index].ceiling
 }
 
-/// The number of an interrupt that is not declared.
-fn no_number() -> Irq
-    ensures { result ≡ 0 }
-{
-    Irq::new(0).unwrap()
-}
-
-/// The number of an interrupt, by its index, and 0 where it is not declared.
+/// The number of a declared interrupt, by its index.
 pub fn irq_number(irqs: &[IrqDecl], irq: u8) -> Irq
-    ensures { result ≡ or_zero (option_map (λ d. d.number) (slice_get irqs.now irq)) }
+    requires { irq < length irqs.now }
+    ensures { option_map (λ d. d.number) (slice_get irqs.now irq) ≡ Some result }
 {
     match irqs.get(usize::from(irq)) {
+        None => unreachable!(),
         Some(declared) => declared.number,
-        None => no_number(),
     }
 }
 
-/// The number of the interrupt of a dispatcher, by its index.
+/// The number of the interrupt of a dispatcher of an accepted application, by the dispatcher's index.
 fn dispatcher_number(app: &App, index: usize) -> Irq
-    requires { index < length (app_of app.now).dispatchers }
+    requires accepted { IsAccepted (app_of app.now) }
+    requires there { index < length (app_of app.now).dispatchers }
     ensures { result ≡ or_zero (then_from (option_map (λ d. d.irq) (slice_get (app_of app.now).dispatchers index))
         (handlers.irq_number (app_of app.now))) }
 {

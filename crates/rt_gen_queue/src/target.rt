@@ -1,7 +1,7 @@
 // What the code of a spawn has to know of its task.
 
-ghost use Rattle.std.specs.Prelude.{◌≡◌, ◌≤◌, true, slice_get, Some};
-ghost use Rattle.rt_ids.specs.Lists.{is_some_and, or_zero, then_from};
+ghost use Rattle.std.specs.Prelude.{◌≡◌, ◌≤◌, true, slice_get, Some, IsSome};
+ghost use Rattle.rt_ids.specs.Lists.{is_some_and, then_from};
 ghost use Rattle.rt_app.specs.Accepted.{IsAccepted};
 ghost use Rattle.rt_app.specs.Level.{is_software};
 ghost use Rattle.rt_app.specs.Plan.{IsPlan};
@@ -29,14 +29,15 @@ pub struct Target {
     pub queue: ReadyQueue,
 }
 
-/// The ceiling of the free places of a task, and 0 where it has none.
+/// The ceiling of the free places of a software task.
 pub fn free_ceiling(ceilings: &[Option<u8>], task: TaskId) -> u8
-    ensures { result ≡ or_zero (then_from (slice_get ceilings.now task) (λ c. c)) }
+    requires { IsSome (then_from (slice_get ceilings.now task) (λ c. c)) }
+    ensures { then_from (slice_get ceilings.now task) (λ c. c) ≡ Some result }
 {
     match ceilings.get(usize::from(task.0)) {
+        None => unreachable!(),
+        Some(None) => unreachable!(),
         Some(Some(ceiling)) => *ceiling,
-        Some(None) => 0,
-        None => 0,
     }
 }
 

@@ -9,6 +9,7 @@ use Rattle.rt_gen_queue.specs.Line.{Line}
 use Rattle.rt_gen_queue.specs.declared.guard.Guard.{Guard}
 use Rattle.rt_gen_body.specs.ValueCode.{Context}
 use Rattle.rt_gen_body.specs.BlockCode.{block_code}
+use Rattle.rt_gen_body.specs.BodyCode.{guards_of}
 use Rattle.rt_gen_body.specs.declared.generator.Generator.{Generator}
 
 -- the context that a generator's fields are
@@ -27,6 +28,8 @@ pub record IsPlanned (g : Generator) : Type 0 where
   pub planned : IsPlan g.plan.now
   -- and by the rows of its messages that may be armed
   pub rows : g.rows.now ≡ g.plan.now.app.now
+  -- and by how the sections of its resources mask
+  pub guards : g.guards.now ≡ guards_of (app_of g.plan.now.app.now)
 
 -- the blocks of a body with so many arguments, at a preemption threshold, in an application whose resources are guarded
 -- so

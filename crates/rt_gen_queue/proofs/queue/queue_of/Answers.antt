@@ -36,8 +36,12 @@ ceiling_at-requires c =
     let there = place_there c.args.plan.now c.args.level c.requires.planned c.requires.software in
     rw (sym (ap or_zero c.index_of-index.ensures), queues) there
 
-pub dispatcher_number-requires : goal.dispatcher_number-requires
-dispatcher_number-requires c =
+pub dispatcher_number-requires-clause-accepted : goal.dispatcher_number-requires-clause-accepted
+dispatcher_number-requires-clause-accepted c =
+    rw (ap (λ (p : Plan). p.app.now) c.plan.view_is) c.requires.accepted
+
+pub dispatcher_number-requires-clause-there : goal.dispatcher_number-requires-clause-there
+dispatcher_number-requires-clause-there c =
     let queues = c.as_slice-queues.ensures.value ∙ ap (λ (p : Plan). p.ceil.ready) c.plan.view_is in
     let app = ap (λ (p : Plan). p.app.now) c.plan.view_is in
     rw (sym (ap or_zero c.index_of-index.ensures), queues, app)
