@@ -1,6 +1,6 @@
 // What resources and queues hold.
 
-ghost use Rattle.std.specs.Prelude.{◌≡◌, ◌≤◌, ◌++◌, OnOk, drop, is_some, length, map, slice_index};
+ghost use Rattle.std.specs.Prelude.{◌≡◌, ◌≤◌, ◌++◌, OnOk, drop, is_some, length, map};
 ghost use Rattle.rt_actions.specs.Action.{effect, Places, Frees, Readies, Starts, Arms, Fires, Cancels, Moves};
 ghost use Rattle.rt_actions.specs.Content as content;
 ghost use Rattle.rt_actions.specs.Location.{Guarded, Own};
@@ -46,13 +46,6 @@ impl Model for Store {
     ghost invariant = { λ s.
         (256 ≤ length s.shared.items) × (256 ≤ length s.locals.items) × (256 ≤ length s.out.items) × (256 ≤ length
         s.ready.items) };
-}
-
-/// The number at an index, and 0 past the end.
-pub(crate) fn at(numbers: &[u32], index: usize) -> u32
-    ensures { result ≡ slice_index numbers.now index }
-{
-    numbers.get(index).copied().unwrap_or(0)
 }
 
 /// Drops the first item, where there is one.
@@ -117,21 +110,21 @@ impl Store {
     pub fn shared_value(&self, resource: ResId) -> u32
         ensures { result ≡ number (contents self.now (Guarded (section.Res resource))) }
     {
-        at(&self.shared, usize::from(resource.0))
+        self.shared[usize::from(resource.0)]
     }
 
     /// The value of a local resource.
     pub(crate) fn local(&self, local: u8) -> u32
         ensures { result ≡ number (contents self.now (Own local)) }
     {
-        at(&self.locals, usize::from(local))
+        self.locals[usize::from(local)]
     }
 
     /// How many places of a task are out.
     pub(crate) fn places_out(&self, task: TaskId) -> u32
         ensures { result ≡ number (contents self.now (Guarded (section.Free task))) }
     {
-        at(&self.out, usize::from(task.0))
+        self.out[usize::from(task.0)]
     }
 
     /// The ready messages of a level, the oldest first.

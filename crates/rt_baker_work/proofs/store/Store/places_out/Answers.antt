@@ -1,13 +1,11 @@
-use Rattle.std.proofs.Common.{ap}
+use Rattle.std.proofs.Common.{ℕ, get_or, ap, ◌∙◌, arith}
+use Rattle.std.proofs.lemmas.List.{get_or_read}
 use Rattle.rt_baker_work.specs.Store.{Store, contents}
 use Rattle.rt_baker_work.proofs.store.Store.places_out.Goals as goal
 
 pub returns : goal.returns
 unfolding contents
-returns c = let e = ap (λ (s : Store). s.out) c.self.view_is in cc (
-  e,
-  c.at.ensures,
-  c.deref.ensures.value,
-  c.from.ensures,
-  c.task.view_is,
-)
+returns c =
+    get_or_read c.self.inside.out.items _ _ (omega arith) c.index.ensures 0
+    ∙ ap (λ (s : Store). get_or s.out c.from.result 0) c.self.view_is
+    ∙ ap (λ (k : ℕ). get_or c.args.self.now.out k 0) (c.from.ensures ∙ c.task.view_is)

@@ -1,13 +1,11 @@
-use Rattle.std.proofs.Common.{ap}
+use Rattle.std.proofs.Common.{ℕ, get_or, ap, ◌∙◌, arith}
+use Rattle.std.proofs.lemmas.List.{get_or_read}
 use Rattle.rt_baker_work.specs.Store.{Store, contents}
 use Rattle.rt_baker_work.proofs.store.Store.shared_value.Goals as goal
 
 pub returns : goal.returns
 unfolding contents
-returns c = let e = ap (λ (s : Store). s.shared) c.self.view_is in cc (
-  e,
-  c.at.ensures,
-  c.deref.ensures.value,
-  c.from.ensures,
-  c.resource.view_is,
-)
+returns c =
+    get_or_read c.self.inside.shared.items _ _ (omega arith) c.index.ensures 0
+    ∙ ap (λ (s : Store). get_or s.shared c.from.result 0) c.self.view_is
+    ∙ ap (λ (k : ℕ). get_or c.args.self.now.shared k 0) (c.from.ensures ∙ c.resource.view_is)
