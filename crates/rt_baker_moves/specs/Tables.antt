@@ -1,7 +1,7 @@
 -- What an auditor's tables hold of an accepted application: what `Code` and `Machine` borrow. The definitions compute
 -- each from the application whenever it is asked for (`rt_app`, `rt_laws`; Baker, Stack-Based Scheduling of Realtime
 -- Processes, 1991).
-use Rattle.std.specs.Prelude.{◌≡◌, ℕ, ◌<◌, slice_index, slice_index_or, None}
+use Rattle.std.specs.Prelude.{◌≡◌, ℕ, ◌<◌, ◌≤◌, length, slice_index, slice_index_or, None}
 use Rattle.rt_ids.specs.declared.limits.TheConstants.{IRQ_NUMBERS}
 use Rattle.rt_app.specs.Tree.{App}
 use Rattle.rt_app.specs.BodyCost.{cost_measure, timer_section_cost, handle_section_cost}
@@ -15,7 +15,8 @@ use Rattle.rt_baker_moves.specs.Machine.{IsServiceOf}
 pub record AreTables (app : App) (t : Tables) : Type 0 where
   -- core steps are counted by its measure
   pub measured : t.measure ≡ cost_measure app
-  -- the dispatchers of levels, by number
+  -- the dispatchers of levels, by number: a row for every priority of a byte
+  pub rows : 256 ≤ length t.dispatchers.items
   pub dispatched : (p : ℕ) → p < 256 → slice_index t.dispatchers.items p ≡ dispatcher_number app p
   -- the cost of a section of the timer queue, and of one that looks for the message of a handle
   pub timed : t.timer_section ≡ timer_section_cost app

@@ -1,6 +1,6 @@
 // Makes what is known beforehand of an application.
 
-ghost use Rattle.std.specs.Prelude.{◌≡◌, ◌<◌, ℕ, slice_index, IfOk};
+ghost use Rattle.std.specs.Prelude.{◌≡◌, ◌<◌, ◌≤◌, ℕ, length, slice_index, IfOk};
 ghost use Rattle.rt_app.specs.Accepted.{IsAccepted};
 ghost use Rattle.rt_app.specs.BodyCost.{cost_measure, timer_section_cost, handle_section_cost};
 ghost use Rattle.rt_app.specs.Level.{levels};
@@ -41,10 +41,12 @@ pub struct Tables {
     ceilings: Ceilings,
 }
 
-/// The numbers of the dispatchers of an application whose levels have these rows, by level; 0 where there is none.
+/// The numbers of the dispatchers of an application whose levels have these rows, by priority. A row of a priority that
+/// no software task has means nothing.
 fn dispatchers(alloc: Global, app: &App, rows: &[ReadyCeiling]) -> Result<Vec<u16>, NoMemory>
     requires { levels_of rows.now ≡ levels (app_of app.now) }
-    ensures { IfOk result (λ numbers. (p : ℕ) → p < 256
+    ensures rows { IfOk result (λ numbers. 256 ≤ length numbers.items) }
+    ensures numbers { IfOk result (λ numbers. (p : ℕ) → p < 256
         → slice_index numbers.items p ≡ dispatcher_number (app_of app.now) p) }
 {
     let mut numbers = Vec::new(alloc);

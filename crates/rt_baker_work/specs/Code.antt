@@ -1,6 +1,6 @@
 -- What an auditor knows of an application's code beforehand: numbers in tables, where the definitions compute each from
 -- the application whenever it is asked for (`rt_app`; the RTIC 1 book, software tasks and the monotonic).
-use Rattle.std.specs.Prelude.{◌≡◌, ℕ, ◌<◌, slice_index}
+use Rattle.std.specs.Prelude.{◌≡◌, ℕ, ◌<◌, ◌≤◌, length, slice_index}
 use Rattle.rt_app.specs.View.{app_of}
 use Rattle.rt_app.specs.Accepted.{IsAccepted}
 use Rattle.rt_app.specs.BodyCost.{cost_measure, timer_section_cost, handle_section_cost}
@@ -21,7 +21,8 @@ pub record IsCode (code : Code) : Type 0 where
   pub accepted : IsAccepted (app_of code.app.now)
   -- core steps are counted by its measure
   pub measured : code.measure ≡ cost_measure (app_of code.app.now)
-  -- the dispatchers of levels, by number
+  -- the dispatchers of levels, by number: a row for every priority of a byte
+  pub rows : 256 ≤ length code.dispatchers.now
   pub dispatched : (p : ℕ) → p < 256 → slice_index code.dispatchers.now p ≡ dispatcher_number (app_of code.app.now) p
   -- the cost of a section of the timer queue, and of one that looks for the message of a handle
   pub timed : code.timer_section ≡ timer_section_cost (app_of code.app.now)

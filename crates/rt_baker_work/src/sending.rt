@@ -27,8 +27,7 @@ pub(crate) fn dispatcher<'a>(code: &Code<'a>, level: u8) -> u16
     requires { IsCode code.now }
     ensures { result ≡ dispatcher_number (app_of code.now.app.now) level }
 {
-    let index = usize::from(level);
-    code.dispatchers.get(index).copied().unwrap_or(0)
+    code.dispatchers[usize::from(level)]
 }
 
 /// A variable, where there is one, comes to hold what a spawn gave.
