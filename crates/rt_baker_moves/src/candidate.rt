@@ -16,7 +16,7 @@ use crate::machine::{Machine, Served};
 use crate::state::State;
 use rt_ids::{Irq, NoMemory};
 
-/// The priority of what serves, and 0 where nothing does.
+/// The priority of what serves; 0, which is above no ceiling, where nothing does.
 fn priority_served(served: &Option<Served>) -> u8
     ensures { result ≡ or_zero (option_map (λ s. s.priority) served.now) }
 {
@@ -26,7 +26,7 @@ fn priority_served(served: &Option<Served>) -> u8
     }
 }
 
-/// The priority that an interrupt is served at, and 0 where nothing serves it.
+/// The priority that an interrupt is served at; 0, which is above no ceiling, where nothing serves it.
 fn priority<'a>(machine: &Machine<'a>, irq: Irq) -> u8
     requires { IsMachine machine.now }
     ensures { result ≡ priority_of (app_of machine.now.code.now.app.now) irq }

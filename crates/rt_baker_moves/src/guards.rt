@@ -12,7 +12,7 @@ use rt_app::{Ceilings, ReadyCeiling};
 use rt_baker_work::lookup::priority;
 use rt_ids::{ResId, Section, TaskId};
 
-/// The ceiling of a resource, and 0 where there is none.
+/// The ceiling of a resource; 0, which holds nobody off, for one that is not declared.
 fn shared_ceiling(ceilings: &Ceilings, resource: ResId) -> u8
     ensures { result ≡ slice_index ceilings.now.shared resource }
 {
@@ -42,7 +42,7 @@ fn ready(queues: &[ReadyCeiling], level: u8) -> u8
     }
 }
 
-/// The ceiling of the armed messages, and 0 where there is no monotonic.
+/// The ceiling of the armed messages; 0, which holds nobody off, without a monotonic.
 fn timer(ceilings: &Ceilings) -> u8
     ensures { result ≡ or_zero ceilings.now.timer }
 {

@@ -70,7 +70,7 @@ fn levels_above(rows: &[ReadyCeiling], level: u8) -> usize
     rows.iter().filter(|row| level < row.level).count()
 }
 
-/// The number of the dispatcher of a level, and 0 where it has none.
+/// The number of the dispatcher of a level; of a priority that no software task has, a number that means nothing.
 pub(crate) fn dispatcher(app: &App, rows: &[ReadyCeiling], level: u8) -> u16
     requires { levels_of rows.now ≡ levels (app_of app.now) }
     ensures { result ≡ dispatcher_number (app_of app.now) level }

@@ -61,7 +61,7 @@ impl<'a> Model for State<'a> {
     } };
 }
 
-/// The number of the monotonic's interrupt, and 0 where there is no monotonic.
+/// The number of the monotonic's interrupt; 0 without a monotonic, where nothing is armed and the alarm never comes.
 pub(crate) fn timer(app: &App) -> u16
     ensures { result ≡ timer_number (app_of app.now) }
 {

@@ -10,7 +10,7 @@ ghost use Rattle.rt_app.specs.View.{app_of};
 use rt_app::App;
 use rt_ids::TaskId;
 
-/// The places that a task has for its messages, and 0 where it is not declared.
+/// The places that a task has for its messages; one that is not declared has none.
 pub(crate) fn capacity(app: &App, task: TaskId) -> u8
     ensures { result ≡ capacity_of (app_of app.now) task }
 {
@@ -20,7 +20,7 @@ pub(crate) fn capacity(app: &App, task: TaskId) -> u8
     }
 }
 
-/// The priority of a task, and 0 where it is not declared.
+/// The priority of a task; 0, that of the thread, for one that is not declared.
 pub fn priority(app: &App, task: TaskId) -> u8
     ensures { result ≡ task_priority (app_of app.now) task }
 {
@@ -30,7 +30,7 @@ pub fn priority(app: &App, task: TaskId) -> u8
     }
 }
 
-/// The number of an interrupt, by its index, and 0 where it is not declared.
+/// The number of an interrupt, by its index; 0 for one that is not declared.
 pub fn number(app: &App, irq: u8) -> u16
     ensures { result ≡ or_zero (irq_number (app_of app.now) irq) }
 {

@@ -27,7 +27,7 @@ fn level_at(app: &App, task: TaskId) -> Option<u8>
     }
 }
 
-/// The priority of the monotonic, and 0 where there is none.
+/// The priority of the monotonic; 0, which raises no entry, without one.
 fn mono_priority(mono: Option<Mono>) -> u8
     ensures { result ≡ mono_priority mono }
 {

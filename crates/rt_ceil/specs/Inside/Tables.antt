@@ -52,7 +52,7 @@ abbrev pub level_in : Option Task → Option ℕ
 level_in None = None
 level_in (Some t) = level_of t
 
--- the priority of the monotonic, and 0 where there is none
+-- the priority of the monotonic; 0, which raises no entry, without one
 abbrev pub mono_priority : Option Mono → ℕ
 mono_priority None = 0
 mono_priority (Some mono) = mono.priority
