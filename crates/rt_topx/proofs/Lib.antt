@@ -5,6 +5,7 @@ mod Scripted
 mod Running
 mod Living
 mod Regions
+mod Saying
 mod Making
 mod Reading
 mod Explaining

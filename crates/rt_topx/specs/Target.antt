@@ -16,13 +16,13 @@ use Rattle.rt_target.specs.Setup.{Setup}
 use Rattle.rt_target.specs.declared.fact.Fact.{Fact}
 use Rattle.rt_target.specs.declared.fact.Fact.TheVariants.{Flash, Ram, Port, Tick, Word, Call}
 
--- the memory of a fact; none where it has none
+-- the memory of a fact that is of one
 abbrev pub region_of : Option Fact → Region
 region_of (Some (Flash a n)) = record { address = a; size = n }
 region_of (Some (Ram a n)) = record { address = a; size = n }
 region_of fact = record { address = 0; size = 0 }
 
--- the address of a port; 0 where there is none
+-- the address of a port
 abbrev pub address_of : Option Fact → ℕ
 address_of (Some (Port a)) = a
 address_of fact = 0

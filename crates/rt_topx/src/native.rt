@@ -1,11 +1,11 @@
 // The command `native`.
 
-ghost use Rattle.std.specs.Prelude.{◌≡◌, ◌≤◌, ℕ, List, length, IfOk, IfErr};
+ghost use Rattle.std.specs.Prelude.{◌≡◌, ◌≤◌, ℕ, List, length, None, IfOk, IfErr};
 ghost use Rattle.rt_ids.specs.declared.limits.TheConstants.{SCRIPT_BYTES};
 ghost use Rattle.rt_app.specs.Accepted.{IsAccepted};
 ghost use Rattle.rt_app.specs.View.{app_of};
 ghost use Rattle.rt_build.specs.Accepted.{IsApplication};
-ghost use Rattle.rt_target.specs.Chip.{AreFacts};
+ghost use Rattle.rt_target.specs.{Chip.AreFacts, Reading.wanting};
 ghost use Rattle.rt_top.specs.Program.{inputs};
 ghost use Rattle.rt_top.specs.Inside.Decides.{AnswersOne};
 ghost use Rattle.rt_top.specs.Inside.Replies.{Replies};
@@ -58,6 +58,7 @@ pub(crate) fn native<S: Source>(alloc: Global, app: &App, source: &mut S) -> Rep
 fn make(alloc: Global, app: &App, text: &[u8], setup: &Setup) -> Reply
     requires accepted { IsAccepted (app_of app.now) }
     requires facts { AreFacts (app_of app.now) setup.now.facts }
+    requires whole { wanting setup.now.facts ≡ None }
     requires short { length text.now ≤ SCRIPT_BYTES }
     ensures { Replies (making.IsMade (app_of app.now) text.now setup.now) result }
 {
@@ -78,6 +79,7 @@ fn make(alloc: Global, app: &App, text: &[u8], setup: &Setup) -> Reply
 fn program(alloc: Global, app: &App, setup: &Setup) -> Result<Result<Vec<u8>, Cause>, NoMemory>
     requires accepted { IsAccepted (app_of app.now) }
     requires facts { AreFacts (app_of app.now) setup.now.facts }
+    requires whole { wanting setup.now.facts ≡ None }
     ensures bytes { IfOk result (λ made. IfOk made (λ bytes.
         making.IsProgram (app_of app.now) setup.now bytes.items)) }
     ensures unfit { IfOk result (λ made. IfErr made (making.IsMisfit (app_of app.now) setup.now)) }

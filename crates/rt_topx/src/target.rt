@@ -1,10 +1,12 @@
 // What a program is made for, from what the text of a board tells.
 
-ghost use Rattle.std.specs.Prelude.{◌≡◌, ◌++◌, [], filter_map, find, IfOk, OnOk};
+ghost use Rattle.std.specs.Prelude.{◌≡◌, ◌++◌, [], filter_map, find, true, None, IfOk, OnOk};
 ghost use Rattle.std.specs.List.{cons_option};
+ghost use Rattle.rt_ids.specs.Lists.{is_some_and};
 ghost use Rattle.rt_app.specs.Accepted.{IsAccepted};
 ghost use Rattle.rt_app.specs.View.{app_of};
 ghost use Rattle.rt_target.specs.Chip as chip;
+ghost use Rattle.rt_target.specs.Reading.{wanting};
 ghost use Rattle.rt_topx.specs.Target as spec;
 
 use rt_app::App;
@@ -16,9 +18,10 @@ use rt_target::fact::{is_flash, is_port, is_ram, is_tick};
 use rt_target::{Fact, Setup};
 use std::alloc::Global;
 
-/// What a program of an application is made for, where a board's text tells all that it takes.
+/// What a program of an application is made for, by a board's text that tells all that it takes.
 pub(crate) fn target_of(alloc: Global, app: &App, setup: &Setup) -> Result<Target, NoMemory>
-    requires { IsAccepted (app_of app.now) }
+    requires accepted { IsAccepted (app_of app.now) }
+    requires whole { wanting setup.now.facts ≡ None }
     ensures { IfOk result (λ target. target ≡ spec.target_of (app_of app.now) setup.now) }
 {
     let facts = setup.facts();
@@ -91,25 +94,26 @@ fn tick_of(facts: &[Fact]) -> Option<Fact>
     facts.iter().find(|fact| is_tick(fact)).copied()
 }
 
-/// The memory of a fact; none where it has none.
+/// The memory of a fact that is of one.
 fn region_of(fact: Option<Fact>) -> Region
+    requires { is_some_and chip.is_memory fact ≡ true }
     ensures { result ≡ spec.region_of fact }
 {
-    let (address, size) = match fact {
-        Some(Fact::Flash(address, size)) => (address, size),
-        Some(Fact::Ram(address, size)) => (address, size),
-        _ => (0, 0),
-    };
-    Region { address, size }
+    match fact {
+        Some(Fact::Flash(address, size)) => Region { address, size },
+        Some(Fact::Ram(address, size)) => Region { address, size },
+        _ => unreachable!(),
+    }
 }
 
-/// The address of a port; 0 where there is none.
+/// The address of a port.
 fn address_of(fact: Option<Fact>) -> u32
+    requires { is_some_and chip.is_port fact ≡ true }
     ensures { result ≡ spec.address_of fact }
 {
     match fact {
         Some(Fact::Port(address)) => address,
-        _ => 0,
+        _ => unreachable!(),
     }
 }
 

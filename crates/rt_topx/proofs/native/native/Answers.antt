@@ -69,3 +69,6 @@ returns g c first third is =
     inr (refusal_reads rticx_program kind.Target t _ _ read.0 read.0.1 status.Text (SaysBoard refusal)
     (λ line says. (refl, refused_over _ is refusal refused says)) c.refuse_board-in-Err-read_target.result
     c.refuse_board-in-Err-read_target.ensures)
+
+pub make-requires-clause-whole : goal.make-requires-clause-whole
+make-requires-clause-whole g c = c.in-Ok-read_target.ensures.read.whole
