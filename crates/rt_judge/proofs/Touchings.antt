@@ -1,5 +1,5 @@
 -- What is kept of those who touch cells, with one more point.
-use Rattle.std.proofs.Common.{◌≡◌, ◌≢◌, ◌⊎◌, ◌≤◌, ◌||◌, ◌==◌, Bool, true, false, not, cond, ℕ, zero, suc, List, []}
+use Rattle.std.proofs.Common.{◌≡◌, ◌≢◌, ◌⊎◌, ◌↔◌, ◌≤◌, ◌||◌, ◌==◌, Bool, true, false, not, cond, ℕ, zero, suc, List, []}
 use Rattle.std.proofs.Common.{◌∷◌, ◌++◌}
 use Rattle.std.proofs.Common.{filter, length, slice_get, slice_set, option_map, Option, Some, None, refl, sym, ap}
 use Rattle.std.proofs.Common.{subst, ◌∙◌}
@@ -8,7 +8,11 @@ use Rattle.std.specs.List.{list_all}
 use Rattle.std.proofs.lemmas.Bool.{eqb-true}
 use Rattle.std.proofs.lemmas.Option.{same_Some, none-some, slice_get_within}
 use Rattle.std.proofs.lemmas.List.Elements.{Contains-append_left, Contains-push_cases, Contains-push}
-use Rattle.rt_lemmas.proofs.Bools.{not_true, not_false, and_parts}
+use Rattle.rt_lemmas.proofs.Bools.{not_true, not_false, and_parts, or_cases, or_left, or_right}
+use Rattle.rt_code.proofs.Mine.{same_section}
+use Rattle.rt_actions.specs.Location.{is_same_section}
+use Rattle.rt_actions.proofs.Sections.{one_section}
+use Rattle.rt_points.specs.declared.point.Opened.{Opened}
 use Rattle.rt_ids.specs.Choice.{IsIn}
 use Rattle.rt_ids.specs.declared.ids.Section.{Section}
 use Rattle.rt_code.specs.Access.{Access, Loads, Stores, cell_of}
@@ -21,7 +25,7 @@ use Rattle.rt_points.specs.Rules.{touched_cell, IsStore}
 use Rattle.rt_points.specs.declared.point.Owner.TheVariants.{Starting}
 use Rattle.rt_judge.specs.Inside.Touching.{Toucher, SomeIfTrue, IsTouching, TellsOfTouching, TellsOfCells, is_stored}
 use Rattle.rt_judge.specs.Inside.Touching.{is_open}
-use Rattle.rt_judge.specs.Inside.Touching.{IsFirst, IsWith, IsNext, IsTouched}
+use Rattle.rt_judge.specs.Inside.Touching.{IsFirst, IsWith, IsNext, IsTouched, is_among}
 use Rattle.rt_judge.specs.declared.touching.Touching.{Touching}
 use Rattle.rt_judge.specs.declared.touching.Touch.{Touch}
 use Rattle.rt_judge.proofs.Seen.{any_inside, inside_any}
@@ -266,13 +270,13 @@ module _ (img : Image) (ps : List Point) (p : Point) (i : Instr) (told : Option 
           (not_false (touch.value == old.value) no)))))
           was.differ));
       guards = λ x inside q b h.
-          let both = in_filter (is_open p.inside) old.sections.items x (subst (λ xs. IsIn xs x) is.sections inside) in
+          let both = (is.sections x).0 inside in
           by_cases touch.cell q b h (was.guards x both.0 q b)
           (λ same _ _ _. subst (λ (r : Point). IsIn (sections r.inside) x) same (any_inside x p.inside both.1));
-      guarding = λ x all. subst (λ xs. IsIn xs x) (sym is.sections)
-          (filter_in (is_open p.inside) old.sections.items x
-          (was.guarding x (λ q b h. all q b (seen_before img ps p touch.cell q b h)))
-          (inside_any x p.inside (all p a here)));
+      guarding = λ x all. (is.sections x).1 (
+        was.guarding x (λ q b h. all q b (seen_before img ps p touch.cell q b h)),
+        inside_any x p.inside (all p a here),
+      );
     }
 
     next_row : (row : Option Touching) (t : Touching) → IsNext row touch p.inside t
@@ -290,12 +294,44 @@ module _ (img : Image) (ps : List Point) (p : Point) (i : Instr) (told : Option 
         (λ there. row_more img ps p k (apart k there.0) row (tells k row there.1))
         (get_set old touch.cell k (Some done.next) row (subst (λ rows. slice_get rows k ≡ Some row) done.is is))
 
--- a filter leaves all, where all pass
-pub filter_all : {X : Type 0} (f : X → Bool) (xs : List X) → list_all f xs ≡ true → xs ≡ filter f xs
-filter_all f [] all = refl
-filter_all f (x ∷ xs) all =
-    let parts = and_parts (f x) (list_all f xs) all in
-    rw parts.0 (ap (λ ys. x ∷ ys) (filter_all f xs parts.1))
+-- what is one of these
+among_in : (xs : List Section) (x : Section) → is_among xs x ≡ true → IsIn xs x
+among_in [] x is = absurd cc
+among_in (y ∷ xs) x is = elim (or_cases (is_same_section y x) (is_among xs x) is) [
+  | inl here ↦ (0, ap Some (one_section y x here))
+  | inr there ↦ let rest = among_in xs x there in (suc rest.0, rest.1)
+]
+
+in_among : (xs : List Section) (x : Section) → IsIn xs x → is_among xs x ≡ true
+in_among [] x (i, at) = absurd (none-some x at)
+in_among (y ∷ xs) x (zero, at) = or_left (is_same_section y x) (is_among xs x)
+    (subst (λ z. is_same_section y z ≡ true) (same_Some y x at) (same_section y))
+in_among (y ∷ xs) x (suc i, at) = or_right (is_same_section y x) (is_among xs x) (in_among xs x (i, at))
+
+-- the open ones of these
+pub common_ones : (xs ys : List Section) (opened : List Opened) → ys ≡ filter (is_among xs) (sections opened)
+    → (x : Section) → IsIn ys x ↔ (IsIn xs x × (is_open opened x ≡ true))
+common_ones xs ys opened is x = (
+  λ inside.
+      let both = in_filter (is_among xs) (sections opened) x (subst (λ zs. IsIn zs x) is inside) in
+      (among_in xs x both.1, inside_any x opened both.0),
+  λ both. subst (λ zs. IsIn zs x) (sym is)
+      (filter_in (is_among xs) (sections opened) x (any_inside x opened both.1) (in_among xs x both.0)),
+)
+
+-- all of these are open
+all_pass : (f : Section → Bool) (xs : List Section) (x : Section) → list_all f xs ≡ true → IsIn xs x → f x ≡ true
+all_pass f [] x all (i, at) = absurd (none-some x at)
+all_pass f (y ∷ xs) x all (zero, at) =
+    subst (λ z. f z ≡ true) (same_Some y x at) (and_parts (f y) (list_all f xs) all).0
+all_pass f (y ∷ xs) x all (suc i, at) = all_pass f xs x (and_parts (f y) (list_all f xs) all).1 (i, at)
+
+pub all_ones : (xs : List Section) (opened : List Opened) → list_all (is_open opened) xs ≡ true
+    → (x : Section) → IsIn xs x ↔ (IsIn xs x × (is_open opened x ≡ true))
+all_ones xs opened all x = (
+  λ inside. (inside, all_pass (is_open opened) xs x all inside),
+  λ both. both.0,
+)
 
 -- the access of a touch
 pub record HasAccess (i : Instr) (touch : Touch) : Type 0 where

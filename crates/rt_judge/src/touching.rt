@@ -8,7 +8,7 @@ ghost use Rattle.rt_judge.specs.Inside.Points.{point};
 ghost use Rattle.rt_judge.specs.Inside.Touching as spec;
 
 use crate::execution_priority::outside_value;
-use crate::nesting::{is_inside, is_same_section};
+use crate::nesting::is_same_section;
 use crate::operands::{is_store, touched_cell};
 use rt_code::{Image, Line};
 use rt_ids::{NoMemory, Section};
@@ -50,17 +50,35 @@ fn sections_of(alloc: Global, opened: &[Opened]) -> Result<Vec<Section>, NoMemor
     Ok(opened.iter().map(|o| o.section).collect(alloc)?)
 }
 
-/// Those sections that are open.
-fn common(alloc: Global, sections: &[Section], opened: &[Opened]) -> Result<Vec<Section>, NoMemory>
-    ensures { IfOk result (λ all. all.items ≡ filter (spec.is_open opened.now) sections.now) }
+/// Whether a section is one of these.
+fn is_among(sections: &[Section], section: &Section) -> bool
+    ensures { result ≡ spec.is_among sections.now section.now }
 {
-    Ok(
-        sections
-            .iter()
-            .copied()
-            .filter(|section| is_inside(opened, section))
-            .collect(alloc)?,
-    )
+    sections.iter().any(|one| is_same_section(*one, *section))
+}
+
+/// The same. Most often it is the one at this index, which is the faster test.
+fn is_among_at(sections: &[Section], index: usize, section: &Section) -> bool
+    ensures { result ≡ spec.is_among sections.now section.now }
+{
+    match sections.get(index) {
+        Some(one) if is_same_section(*one, *section) => true,
+        _ => is_among(sections, section),
+    }
+}
+
+/// Those sections that are open, in the order in which they are open.
+fn common(alloc: Global, sections: &[Section], opened: &[Opened]) -> Result<Vec<Section>, NoMemory>
+    ensures { IfOk result (λ all. all.items
+        ≡ filter (spec.is_among sections.now) (map (λ o. o.section) opened.now)) }
+{
+    let mut all = Vec::with_capacity(alloc, sections.len())?;
+    for (index, o) in opened.iter().enumerate() {
+        if is_among_at(sections, index, &o.section) {
+            all.push(o.section)?;
+        }
+    }
+    Ok(all)
 }
 
 /// Whether these sections are those that are open outermost, in their order.
@@ -79,11 +97,24 @@ fn are_outermost(sections: &[Section], opened: &[Opened]) -> bool
     true
 }
 
-/// Whether all of these sections are open. Most often they are the outermost, which is the faster test.
-fn are_open(sections: &[Section], opened: &[Opened]) -> bool
-    ensures { result ≡ list_all (spec.is_open opened.now) sections.now }
+/// Whether these sections are open, each further out than the one before.
+fn are_nested(sections: &[Section], opened: &[Opened]) -> bool
+    ensures { IsTrue result → list_all (spec.is_open opened.now) sections.now ≡ true }
 {
-    are_outermost(sections, opened) || sections.iter().all(|section| is_inside(opened, section))
+    let mut found = 0;
+    for o in opened {
+        if found < sections.len() && is_same_section(o.section, sections[found]) {
+            found += 1;
+        }
+    }
+    found == sections.len()
+}
+
+/// Whether these sections are open in their order. Most often they are the outermost, which is the faster test.
+pub fn are_in_order(sections: &[Section], opened: &[Opened]) -> bool
+    ensures { IsTrue result → list_all (spec.is_open opened.now) sections.now ≡ true }
+{
+    are_outermost(sections, opened) || are_nested(sections, opened)
 }
 
 impl Touching {
@@ -99,14 +130,15 @@ impl Touching {
         })
     }
 
-    /// One more touch.
+    /// One more touch. Where its sections are open in another order they are kept in that one, so that the next touch
+    /// with the same sections open is looked through once.
     fn add(&mut self, alloc: Global, touch: &Touch, opened: &[Opened]) -> Result<(), NoMemory>
         ensures { OnOk result (spec.IsWith self.old touch.now opened.now self.new) }
     {
         let is_other = touch.value != self.value;
         self.stored = self.stored || touch.stored;
         self.differ = self.differ || is_other;
-        if !are_open(self.sections.as_slice(), opened) {
+        if !are_in_order(self.sections.as_slice(), opened) {
             self.sections = common(alloc, self.sections.as_slice(), opened)?;
         }
         Ok(())

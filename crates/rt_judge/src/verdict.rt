@@ -64,7 +64,11 @@ fn look_behind(
 }
 
 /// Finds what there is at the points of `init` and the thread. It answers whether the first rule is kept there.
-fn look_at_thread(alloc: Global, image: &Image, findings: &mut Findings) -> Result<bool, NoMemory>
+pub fn look_at_thread(
+    alloc: Global,
+    image: &Image,
+    findings: &mut Findings,
+) -> Result<bool, NoMemory>
     requires { IsWithinLimits image.now }
     ensures { IfOk result (λ kept. MatchBool kept
         (spec.Looks image.now spec.IsThread findings.old findings.new) (¬ NestsInOneWay image.now)) }
@@ -98,7 +102,7 @@ fn look_from_entry(
 
 /// Finds what there is at the points of a handler, where it is enabled. It answers whether the first rule is kept
 /// there.
-fn look_at_handler(
+pub fn look_at_handler(
     alloc: Global,
     image: &Image,
     findings: &mut Findings,

@@ -1,6 +1,6 @@
 -- What is kept of those who touch a cell, by the points that were looked at.
 use Rattle.std.specs.Prelude.{◌≡◌, ◌≢◌, ◌⊎◌, ◌||◌, ◌==◌, not, ℕ, Bool, true, false, List, Some, Option, None, slice_get}
-use Rattle.std.specs.Prelude.{slice_set, option_map, map, filter, length}
+use Rattle.std.specs.Prelude.{◌↔◌, slice_set, option_map, map, length}
 use Rattle.std.specs.List.{Contains, list_any}
 use Rattle.rt_actions.specs.Location.{is_same_section}
 use Rattle.rt_ids.specs.Choice.{IsIn}
@@ -66,6 +66,10 @@ TellsOfCells img ps rows =
 abbrev pub is_open : List Opened → Section → Bool
 is_open opened x = list_any (λ o. is_same_section o.section x) opened
 
+-- whether a section is one of these
+abbrev pub is_among : List Section → Section → Bool
+is_among xs x = list_any (λ y. is_same_section y x) xs
+
 -- what a row has of a cell behind its first touch
 pub record IsFirst (touch : Touch) (opened : List Opened) (t : Touching) : Type 0 where
   pub stored : t.stored ≡ touch.stored
@@ -78,7 +82,7 @@ pub record IsWith (old : Touching) (touch : Touch) (opened : List Opened) (t : T
   pub stored : t.stored ≡ (old.stored || touch.stored)
   pub value : t.value ≡ old.value
   pub differ : t.differ ≡ (old.differ || not (touch.value == old.value))
-  pub sections : t.sections.items ≡ filter (is_open opened) old.sections.items
+  pub sections : (x : Section) → IsIn t.sections.items x ↔ (IsIn old.sections.items x × (is_open opened x ≡ true))
 
 -- what a row has of a cell behind a touch, the first or one more
 abbrev pub IsNext : Option Touching → Touch → List Opened → Touching → Type 0
