@@ -22,6 +22,7 @@ LEFT_UNSAID = {
     "rt_listing push_section", "rt_listing push_note", "rt_elf push_words", "rt_native push_stub",
     "rt_native push_sequence", "rt_native push_tick", "rt_judge Sections::take", "rt_judge Findings::take_point",
     "rt_judge Nestings::behind", "rt_judge NestingTable::put", "rt_judge walk_from", "rt_judge Walk::take_in",
+    "rt_judge look_at_thread", "rt_judge look_at_handler",
     "rt_baker judge_item", "rt_inputs_audit InputsAuditor::end",
 }
 # Arguments of which no clause says what is left: the sink of a text has had lines of it, a buffer may have had bytes,

@@ -16,10 +16,11 @@ use Rattle.rt_points.specs.Point.{Point, sections}
 use Rattle.rt_points.specs.declared.point.Owner.TheVariants.{Starting}
 use Rattle.rt_points.specs.Rules.{IsOperable, IsNotedWell, touched_cell, IsStore}
 use Rattle.rt_judge.specs.Inside.Touching.{is_stored}
+use Rattle.rt_judge.specs.declared.touching.Touching.{Touching}
 use Rattle.rt_judge.proofs.FindingsSoFar.{one_instr, one_note}
 use Rattle.rt_judge.proofs.Seen.{any_inside, inside_any}
 use Rattle.rt_judge.proofs.Touchings.{store_test, test_store}
-use Rattle.rt_why.specs.Inside.Wanted.{IsWanted, IsUnwanted, EntersOpen, TouchAt, EachTouchAt}
+use Rattle.rt_why.specs.Inside.Wanted.{IsWanted, IsUnwanted, EntersOpen, TouchAt, EachTouchAt, tells_more}
 use Rattle.rt_why.specs.declared.wanted.Wanted.{Wanted}
 use Rattle.rt_why.specs.declared.wanted.Wanted.TheVariants as want
 
@@ -137,6 +138,13 @@ module _ (img : Image) (p : Point) (i : Instr) (told : Option Note)
       outside x true e = one_access (λ a. IsIn (sections p.inside) x) (λ a by. any_inside x p.inside (sym e))
       outside x false e = touching (λ a. ¬ IsIn (sections p.inside) x) (touched_cell i) refl is.1 is.0
           (λ a by inside. (let yes = inside_any x p.inside inside in cc))
+
+      pub more : (known : Touching) (b : Bool) → b ≡ tells_more img p.owner p.inside (touched_cell i) known
+          → MatchBool b (IsWanted img (want.More cell known) p) (IsUnwanted img (want.More cell known) p)
+      more known true e = touching (λ a. tells_more img p.owner p.inside (Some a) known ≡ true) (touched_cell i) refl
+          is.1 is.0 (λ a by. sym (e ∙ ap (λ t. tells_more img p.owner p.inside t known) by))
+      more known false e = one_access (λ a. tells_more img p.owner p.inside (Some a) known ≡ false)
+          (λ a by. sym (e ∙ ap (λ t. tells_more img p.owner p.inside t known) by))
 
 -- the same under another name for what is looked for
 pub named : (img : Image) (p : Point) (b : Bool) (w v : Wanted) → w ≡ v

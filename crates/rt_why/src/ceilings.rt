@@ -10,7 +10,8 @@ ghost use Rattle.rt_judge.specs.Inside.Entering.{holds_off};
 ghost use Rattle.rt_why.specs.Inside.Rows.{IsWeakRow};
 ghost use Rattle.rt_why.specs.Witness as spec;
 
-use crate::search::point_wanted;
+use crate::marks::Marks;
+use crate::search::point_near;
 use crate::wanted::Wanted;
 use crate::witness::Witness;
 use rt_code::Image;
@@ -47,6 +48,7 @@ pub fn ceilings_witness(
     alloc: Global,
     image: &Image,
     findings: &Findings,
+    marks: &Marks,
 ) -> Result<Witness, NoMemory>
     requires limits { IsWithinLimits image.now }
     requires looked { Looked image.now findings.now }
@@ -54,12 +56,22 @@ pub fn ceilings_witness(
     ensures { IfOk result (λ w. spec.IsWitness image.now w × (spec.rule_of w ≡ rule.Ceilings)) }
 {
     if !findings.sections.free {
-        return Ok(Witness::Again(point_wanted(alloc, image, &Wanted::Again)?));
+        return Ok(Witness::Again(point_near(alloc, image, marks.again, &Wanted::Again)?));
     }
     match weak_row(&findings.sections.rows) {
         Some(weak) => {
-            let one = point_wanted(alloc, image, &Wanted::Weaker(weak.0, weak.1))?;
-            let other = point_wanted(alloc, image, &Wanted::Enterer(weak.0, weak.1))?;
+            let one = point_near(
+                alloc,
+                image,
+                marks.weaker(&weak.0),
+                &Wanted::Weaker(weak.0, weak.1),
+            )?;
+            let other = point_near(
+                alloc,
+                image,
+                marks.enterer(&weak.0),
+                &Wanted::Enterer(weak.0, weak.1),
+            )?;
             Ok(Witness::Weak(one, other))
         }
         None => unreachable!(),

@@ -8,12 +8,15 @@
 mod ceilings;
 mod guards;
 mod laws;
+mod looking;
+mod marks;
 mod numbers;
 mod parts;
 pub mod point;
 mod pushing;
 mod reason;
 mod search;
+mod telling;
 pub mod text;
 mod walk;
 mod wanted;

@@ -6,8 +6,9 @@ ghost use Rattle.rt_points.specs.Rules.{NestsInOneWay, IsOperable, OperatesWell,
 ghost use Rattle.rt_points.specs.declared.rule.Rule.TheVariants as rule;
 ghost use Rattle.rt_why.specs.Witness as spec;
 
+use crate::marks::Marks;
 use crate::point::Point;
-use crate::search::point_wanted;
+use crate::search::point_near;
 use crate::wanted::Wanted;
 use crate::witness::{NotePart, OperandPart, Witness};
 use rt_code::{Image, Line};
@@ -52,13 +53,13 @@ fn failed_note(image: &Image, point: &Point, line: &Line) -> NotePart
 }
 
 /// The witness that the fourth rule is broken.
-pub fn operands_witness(alloc: Global, image: &Image) -> Result<Witness, NoMemory>
+pub fn operands_witness(alloc: Global, image: &Image, marks: &Marks) -> Result<Witness, NoMemory>
     requires limits { IsWithinLimits image.now }
     requires nests { NestsInOneWay image.now }
     requires broken { ¬ OperatesWell image.now }
     ensures { IfOk result (λ w. spec.IsWitness image.now w × (spec.rule_of w ≡ rule.Operands)) }
 {
-    let point = point_wanted(alloc, image, &Wanted::Inoperable)?;
+    let point = point_near(alloc, image, marks.inoperable, &Wanted::Inoperable)?;
     match line_at(image, point.address) {
         Some(line) => {
             let part = failed_operand(image, &point, &line);
@@ -69,13 +70,13 @@ pub fn operands_witness(alloc: Global, image: &Image) -> Result<Witness, NoMemor
 }
 
 /// The witness that the fifth rule is broken.
-pub fn notes_witness(alloc: Global, image: &Image) -> Result<Witness, NoMemory>
+pub fn notes_witness(alloc: Global, image: &Image, marks: &Marks) -> Result<Witness, NoMemory>
     requires limits { IsWithinLimits image.now }
     requires nests { NestsInOneWay image.now }
     requires broken { ¬ NotesWell image.now }
     ensures { IfOk result (λ w. spec.IsWitness image.now w × (spec.rule_of w ≡ rule.Notes)) }
 {
-    let point = point_wanted(alloc, image, &Wanted::Misnoted)?;
+    let point = point_near(alloc, image, marks.misnoted, &Wanted::Misnoted)?;
     match line_at(image, point.address) {
         Some(line) => {
             let part = failed_note(image, &point, &line);

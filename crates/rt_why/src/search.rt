@@ -1,6 +1,6 @@
 // Looks for a point of an image, owner by owner: `init`, the thread behind it, then the handlers in the order of rows.
 
-ghost use Rattle.std.specs.Prelude.{[], ◌∷◌, IfOk};
+ghost use Rattle.std.specs.Prelude.{[], ◌∷◌, IfOk, ⊤};
 ghost use Rattle.rt_points.specs.Leading.{IsPoint, starts_at};
 ghost use Rattle.rt_points.specs.Limits.{IsWithinLimits};
 ghost use Rattle.rt_points.specs.Point.{Point as PointOf};
@@ -121,6 +121,22 @@ pub fn search(alloc: Global, image: &Image, wanted: &Wanted) -> Result<Outcome, 
     Ok(Outcome::Nothing)
 }
 
+/// Looks for a point of one owner; `init` and the thread behind it are one.
+pub fn search_owner(
+    alloc: Global,
+    image: &Image,
+    owner: Owner,
+    wanted: &Wanted,
+) -> Result<Outcome, NoMemory>
+    requires { IsWithinLimits image.now }
+    ensures { IfOk result (spec.Finds image.now wanted.now ⊤) }
+{
+    match owner {
+        Owner::Starting | Owner::Thread => search_thread(alloc, image, wanted),
+        Owner::Handling(index) => search_handler(alloc, image, index, wanted),
+    }
+}
+
 /// The point that is looked for, where there is one.
 pub fn point_wanted(alloc: Global, image: &Image, wanted: &Wanted) -> Result<Point, NoMemory>
     requires limits { IsWithinLimits image.now }
@@ -132,4 +148,25 @@ pub fn point_wanted(alloc: Global, image: &Image, wanted: &Wanted) -> Result<Poi
         Outcome::Found(point) => Ok(point),
         Outcome::Nothing | Outcome::Split(_) => unreachable!(),
     }
+}
+
+/// The same, where it is likely that it is this owner's.
+pub fn point_near(
+    alloc: Global,
+    image: &Image,
+    owner: Option<Owner>,
+    wanted: &Wanted,
+) -> Result<Point, NoMemory>
+    requires limits { IsWithinLimits image.now }
+    requires nests { NestsInOneWay image.now }
+    requires there { ¬ ((p : PointOf) → IsPoint image.now p → IsUnwanted image.now wanted.now p) }
+    ensures { IfOk result (λ p. IsPoint image.now p × IsWanted image.now wanted.now p) }
+{
+    if let Some(likely) = owner {
+        match search_owner(alloc, image, likely, wanted)? {
+            Outcome::Found(point) => return Ok(point),
+            Outcome::Nothing | Outcome::Split(_) => {}
+        }
+    }
+    point_wanted(alloc, image, wanted)
 }

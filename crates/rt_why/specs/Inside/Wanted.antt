@@ -1,5 +1,7 @@
 -- What is looked for at points, and that it is not there.
-use Rattle.std.specs.Prelude.{◌≡◌, ◌≢◌, ℕ, ◌<◌, ◌≤◌, List, length, slice_get, Option, Some}
+use Rattle.std.specs.Prelude.{◌≡◌, ◌≢◌, ℕ, ◌<◌, ◌≤◌, ◌&&◌, ◌||◌, ◌==◌, not, Bool, true, false, List, length, slice_get}
+use Rattle.std.specs.Prelude.{Option, Some}
+use Rattle.std.specs.List.{list_all}
 use Rattle.rt_ids.specs.Choice.{IsIn}
 use Rattle.rt_ids.specs.declared.ids.Section.{Section}
 use Rattle.rt_code.specs.Access.{Access, cell_of}
@@ -9,10 +11,13 @@ use Rattle.rt_code.specs.declared.instr.Note.{Note}
 use Rattle.rt_code.specs.declared.instr.Note.TheVariants as note
 use Rattle.rt_points.specs.ExecutionPriority.{owner_value}
 use Rattle.rt_points.specs.Point.{Point, sections}
+use Rattle.rt_points.specs.declared.point.Owner.{Owner}
 use Rattle.rt_points.specs.declared.point.Owner.TheVariants.{Starting}
 use Rattle.rt_points.specs.declared.point.Opened.{Opened}
 use Rattle.rt_points.specs.Rules.{IsOperable, IsNotedWell, priority_after, touched_cell, IsStore}
 use Rattle.rt_judge.specs.Inside.Kept.{HasLine, OperatesAt, NotesAt, EntersBy, FreeAt}
+use Rattle.rt_judge.specs.Inside.Touching.{is_open, is_stored}
+use Rattle.rt_judge.specs.declared.touching.Touching.{Touching}
 use Rattle.rt_why.specs.declared.wanted.Wanted.{Wanted}
 use Rattle.rt_why.specs.declared.wanted.Wanted.TheVariants as want
 
@@ -46,6 +51,14 @@ pub record TouchAt (img : Image) (p : Point) (cell : ℕ) (P : Access → Type 0
   pub touches : cell_of access ≡ cell
   pub is : P access
 
+-- a touch tells more than is known of those who touch the cell: a first store, a first other value, or a section of
+-- those that were open at each touch is not open
+abbrev pub tells_more : Image → Owner → List Opened → Option Access → Touching → Bool
+tells_more img owner inside access known =
+    (is_stored access && not known.stored)
+    || ((not (owner_value img owner == known.value) && not known.differ)
+    || not (list_all (is_open inside) known.sections.items))
+
 -- what is looked for is at a point
 abbrev pub IsWanted : Image → Wanted → Point → Type 0
 IsWanted img want.Nothing p = ⊥
@@ -60,6 +73,8 @@ IsWanted img (want.Store cell) p = TouchAt img p cell IsStore
 IsWanted img (want.Touch cell) p = TouchAt img p cell (λ a. Unit {0})
 IsWanted img (want.Other cell value) p = TouchAt img p cell (λ a. owner_value img p.owner ≢ value)
 IsWanted img (want.Outside cell x) p = TouchAt img p cell (λ a. ¬ IsIn (sections p.inside) x)
+IsWanted img (want.More cell known) p =
+    TouchAt img p cell (λ a. tells_more img p.owner p.inside (Some a) known ≡ true)
 
 -- each touch of a cell at a point outside `init` is by an access of which this is so
 abbrev pub EachTouchAt : Image → Point → ℕ → (Access → Type 0) → Type 0
@@ -81,3 +96,5 @@ IsUnwanted img (want.Store cell) p = EachTouchAt img p cell (λ a. ¬ IsStore a)
 IsUnwanted img (want.Touch cell) p = EachTouchAt img p cell (λ a. ⊥)
 IsUnwanted img (want.Other cell value) p = EachTouchAt img p cell (λ a. owner_value img p.owner ≡ value)
 IsUnwanted img (want.Outside cell x) p = EachTouchAt img p cell (λ a. IsIn (sections p.inside) x)
+IsUnwanted img (want.More cell known) p =
+    EachTouchAt img p cell (λ a. tells_more img p.owner p.inside (Some a) known ≡ false)

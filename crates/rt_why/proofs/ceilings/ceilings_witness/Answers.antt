@@ -8,18 +8,18 @@ use Rattle.rt_why.specs.Inside.Rows.{IsWeakRow}
 use Rattle.rt_why.proofs.Breaking.{again, weaker, enterer}
 use Rattle.rt_why.proofs.ceilings.ceilings_witness.Goals as goal
 
-pub point_wanted-requires-clause-there : goal.point_wanted-requires-clause-there
-point_wanted-requires-clause-there c =
+pub point_near-requires-clause-there : goal.point_near-requires-clause-there
+point_near-requires-clause-there c =
     again c.args.image.now c.args.findings.now c.requires.looked c.if-not-findings.true
 
-pub point_wanted-requires-in-Some-clause-there : goal.point_wanted-requires-in-Some-clause-there
-point_wanted-requires-in-Some-clause-there c =
+pub point_near-requires-in-Some-clause-there : goal.point_near-requires-in-Some-clause-there
+point_near-requires-in-Some-clause-there c =
     let weak = c.in-Some.weak in
     weaker c.args.image.now c.args.findings.now c.requires.looked weak.0 weak.1
     (subst (λ (rows : List Entering). IsWeakRow rows weak.0 weak.1) c.deref.ensures.value c.in-Some.ensures)
 
-pub point_wanted-requires-in-Some-2-clause-there : goal.point_wanted-requires-in-Some-2-clause-there
-point_wanted-requires-in-Some-2-clause-there c =
+pub point_near-requires-in-Some-2-clause-there : goal.point_near-requires-in-Some-2-clause-there
+point_near-requires-in-Some-2-clause-there c =
     let weak = c.in-Some.weak in
     enterer c.args.image.now c.args.findings.now c.requires.looked weak.0 weak.1
     (subst (λ (rows : List Entering). IsWeakRow rows weak.0 weak.1) c.deref.ensures.value c.in-Some.ensures)

@@ -18,7 +18,8 @@ returns c =
     ∙ ap (λ (p : Point). owner_value img p.owner) c.one.view_is in
     let differs : IsFound img (want.Other cell (owner_value img one.owner)) other = subst (λ v.
     IsFound img (want.Other cell v) other) value c.in_ok-other.ensures in
-    let inside : c.deref.result.now ≡ one.inside = c.deref.ensures.value ∙ ap (λ (p : Point). p.inside) c.one.view_is in
+    let inside : c.deref-5.result.now ≡ one.inside = c.deref-5.ensures.value
+    ∙ ap (λ (p : Point). p.inside) c.one.view_is in
     let outside : AreOutside img cell one.inside c.in_ok-outside.outside.items = subst (λ (os : List Opened).
     AreOutside img cell os c.in_ok-outside.outside.items) inside c.in_ok-outside.ensures in
     (makes_unguarded img _ c.in_ok-storer.ensures c.in_ok-one.ensures differs outside, refl)

@@ -1,5 +1,5 @@
 use Rattle.rt_why.proofs.Breaking.{misnoted}
 use Rattle.rt_why.proofs.parts.notes_witness.Goals as goal
 
-pub point_wanted-requires-clause-there : goal.point_wanted-requires-clause-there
-point_wanted-requires-clause-there c = misnoted c.args.image.now c.requires.broken
+pub point_near-requires-clause-there : goal.point_near-requires-clause-there
+point_near-requires-clause-there c = misnoted c.args.image.now c.requires.broken

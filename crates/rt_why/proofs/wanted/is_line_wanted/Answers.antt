@@ -1,6 +1,6 @@
 use Rattle.rt_judge.specs.Inside.Points.{point}
 use Rattle.rt_why.specs.declared.wanted.Wanted.TheVariants as want
-use Rattle.rt_why.proofs.Wanting.{inoperable, misnoted, again, enterer, touch, store, other, outside, named}
+use Rattle.rt_why.proofs.Wanting.{inoperable, misnoted, again, enterer, touch, store, other, outside, more, named}
 use Rattle.rt_why.proofs.wanted.is_line_wanted.Goals as goal
 
 pub returns-in-Inoperable : goal.returns-in-Inoperable
@@ -66,3 +66,12 @@ returns-then-touches-3 c address stands =
     named c.args.image.now p _ _ (want.Outside in_arm.cell in_arm.section) in_arm.is
     (outside c.args.image.now p line.0 line.1 stands in_arm.cell
     (c.touches-in-Outside.ensures.0 c.if-touches-3.true) in_arm.section c.is_inside.result c.is_inside.ensures)
+
+pub returns-then-touches-4 : goal.returns-then-touches-4
+returns-then-touches-4 c address stands =
+    let p = point address c.args.owner c.args.opened.now in
+    let line = c.args.line.now in
+    let in_arm = c.in-More in
+    named c.args.image.now p _ _ (want.More in_arm.cell in_arm.known) in_arm.is
+    (more c.args.image.now p line.0 line.1 stands in_arm.cell
+    (c.touches-in-More.ensures.0 c.if-touches-4.true) in_arm.known c.tells_more.result c.tells_more.ensures)
