@@ -23,24 +23,16 @@ use Rattle.rt_core.specs.Stepping.{step, go_on}
 use Rattle.rt_core.proofs.Happening.{steps_by_cause}
 use Rattle.rt_points.specs.declared.point.Opened.{Opened}
 use Rattle.rt_points.specs.Checked.{IsChecked}
-use Rattle.rt_points.specs.Leading.{Leads, LeadsOn, owner_after, inside_after}
+use Rattle.rt_points.specs.Leading.{Leads, LeadsOn, LeadsTo as LeadsToPoint, owner_after, inside_after}
 use Rattle.rt_points.specs.Point.{Point}
 use Rattle.rt_points.specs.Rules as rules
 use Rattle.rt_safe.specs.Inside.RunsAtPoints.{is_starting, base_under, KeepMasks, RunsAtPoints}
 use Rattle.rt_safe.specs.Inside.Lines.{is_simple}
+use Rattle.rt_safe.specs.Inside.Moved.{IsSilent, Gone}
 use Rattle.rt_safe.specs.Inside.Steps.{insides_of, insides_after, FindsNone, LeavesLastEntered, ReturnsInNone}
 use Rattle.rt_safe.specs.Inside.Steps.{IsNoTrapShown, Steps}
 use Rattle.rt_safe.proofs.Lines.{HasLine, slots_there, cells_there}
 use Rattle.rt_safe.proofs.Saving.{saves_kept, stacked_alike}
-
--- an item that tells of no section, job or trap
-abbrev pub IsSilent : Option What → Type 0
-IsSilent None = Unit {0}
-IsSilent (Some (what.Emit value)) = Unit {0}
-IsSilent (Some (what.Post irq)) = Unit {0}
-IsSilent (Some (what.Clock time)) = Unit {0}
-IsSilent (Some (what.End body.Idle)) = Unit {0}
-IsSilent shown = ⊥
 
 -- what an effect leads to on a core, where these sections are open
 pub record Advances (img : Image) (c : Core) (inside : List Opened) (i : Instr) (told : Option Note) (e : Effect)
@@ -214,19 +206,22 @@ module _ (img : Image) (checked : IsChecked img) (c : Core) (p : Point) (qs : Li
     abbrev behind : Point
     behind = record p { address = one.after.address }
 
+    leads_behind : LeadsToPoint img p behind
+    leads_behind = record {
+      line = (line.instr, line.told);
+      stands = line.stands.1;
+      address = subst (λ a. LeadsOn line.instr a one.after.address) fits.address one.address;
+      owner = sym owner;
+      inside = sym inside;
+    }
+
     abbrev core_behind : Core
     core_behind = record c { processor = one.after; pending = one.pending }
 
     fits_behind : RunsAtPoints img core_behind behind qs
     fits_behind = record {
       running = record {
-        point = Leads p behind fits.running.point (record {
-          line = (line.instr, line.told);
-          stands = line.stands.1;
-          address = subst (λ a. LeadsOn line.instr a one.after.address) fits.address one.address;
-          owner = sym owner;
-          inside = sym inside;
-        });
+        point = Leads p behind fits.running.point leads_behind;
         frame = one.frame ∙ fits.running.frame;
         saves = one.saves (base_under qs) (is_starting p.owner) fits.running.saves;
       };
@@ -255,4 +250,5 @@ module _ (img : Image) (checked : IsChecked img) (c : Core) (p : Point) (qs : Li
       no_trap = silent_untrapped one.shown one.silent;
       started = λ before. before;
       ended = λ end. absurd (no_end one.shown one.silent end);
+      how = Gone (record { none = picked; leads = leads_behind; owner = refl; below = refl }) refl one.silent;
     }

@@ -22,6 +22,7 @@ use Rattle.rt_points.specs.Checked.{IsChecked}
 use Rattle.rt_points.specs.Leading.{IsPoint, Leads, owner_after}
 use Rattle.rt_points.specs.ExecutionPriority.{owner_value, frame_of}
 use Rattle.rt_points.specs.Point.{Point, sections}
+use Rattle.rt_safe.specs.Inside.Moved.{Served, Back}
 use Rattle.rt_safe.specs.Inside.RunsAtPoints.{is_starting, base_inside, mask_inside, base_under, IsLowest, IsStacked}
 use Rattle.rt_safe.specs.Inside.RunsAtPoints.{RunsAtPoints}
 use Rattle.rt_safe.specs.Inside.Steps.{insides_of, Steps}
@@ -96,6 +97,14 @@ module _ (img : Image) (checked : IsChecked img) (c : Core) (p : Point) (qs : Li
       no_trap = tt;
       started = λ before. thread_differs;
       ended = λ end. thread_differs;
+      how = Served (record {
+        none = picked;
+        before = starting;
+        behind = refl;
+        empty = refl;
+        below = refl;
+        shows = refl;
+      });
     }
 
   module _ (index : ℕ) (is : line.instr ≡ instr.Ret) (untold : line.told ≡ None) (handles : p.owner ≡ Handling index)
@@ -151,6 +160,15 @@ module _ (img : Image) (checked : IsChecked img) (c : Core) (p : Point) (qs : Li
               let zero : owner_value img q.owner ≡ 0 = ap (owner_value img) starting in
               absurd (omega (arith, on.above, within, zero));
           ended = λ end. absurd (no_end x.irq end);
+          how = Back (record {
+            none = picked;
+            index = index;
+            irq = x.irq;
+            handles = handles;
+            empty = none;
+            back = points;
+            shows = refl;
+          });
         }
 
     pub returns : Steps img c p qs

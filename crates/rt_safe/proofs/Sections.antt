@@ -28,13 +28,14 @@ use Rattle.rt_points.specs.declared.point.SectionKind.{SectionKind}
 use Rattle.rt_points.specs.declared.point.SectionKind.TheVariants.{Mark, Raise, Mask}
 use Rattle.rt_points.specs.declared.point.Opened.{Opened}
 use Rattle.rt_points.specs.Checked.{IsChecked}
-use Rattle.rt_points.specs.Leading.{IsPoint, Leads, LeadsOn}
+use Rattle.rt_points.specs.Leading.{Leads, LeadsOn, LeadsTo as LeadsToPoint, kind_of}
 use Rattle.rt_points.specs.ExecutionPriority.{frame_of}
 use Rattle.rt_points.specs.Point.{Point, sections}
 use Rattle.rt_points.specs.Rules as rules
 use Rattle.rt_safe.specs.Inside.RunsAtPoints.{is_starting, base_by, mask_by, base_inside, mask_inside, base_under}
 use Rattle.rt_safe.specs.Inside.RunsAtPoints.{KeepsMask, KeepMasks, RunsAtPoints}
 use Rattle.rt_safe.specs.Inside.Lines.{opening_instr}
+use Rattle.rt_safe.specs.Inside.Moved.{Opened_one, Closed_one}
 use Rattle.rt_safe.specs.Inside.Steps.{insides_of, FindsNone, Steps}
 use Rattle.rt_safe.proofs.Advancing.{line_steps}
 use Rattle.rt_safe.proofs.Keeping.{owner_of_opening, owner_of_closing, kind_of_opening}
@@ -176,14 +177,20 @@ module _ (img : Image) (checked : IsChecked img) (c : Core) (p : Point) (qs : Li
     same_line : ◌≡◌ {A = Instr × Option Note} (line.instr, line.told) (opening_instr kind, Some (note.Enter x))
     same_line k = (is k, tells k)
 
-    enters : IsPoint img inner
-    enters = Leads p inner fits.running.point (record {
+    stands_inside : slice_get img.code p.address ≡ Some (opening_instr kind, Some (note.Enter x))
+    stands_inside = line.stands.1 ∙ ap (λ (l : Instr × Option Note). Some l) same_line
+
+    opened_inside : inner.inside ≡ record { section = x; kind = kind_of (opening_instr kind) } ∷ p.inside
+    opened_inside = ap (λ k. record { section = x; kind = k } ∷ p.inside) (sym (kind_of_opening kind))
+
+    leads_inside : LeadsToPoint img p inner
+    leads_inside = record {
       line = (opening_instr kind, Some (note.Enter x));
-      stands = line.stands.1 ∙ ap (λ (l : Instr × Option Note). Some l) same_line;
+      stands = stands_inside;
       address = opening_on kind p.address;
       owner = sym (owner_of_opening kind p.owner);
-      inside = ap (λ k. record { section = x; kind = k } ∷ p.inside) (sym (kind_of_opening kind));
-    })
+      inside = opened_inside;
+    }
 
     after_opening : IsOpened c.processor kind p.inside (base_under qs) (is_starting p.owner)
     after_opening = is_opened c.processor kind p.inside (base_under qs) (is_starting p.owner) (frame_of img p.owner)
@@ -194,7 +201,7 @@ module _ (img : Image) (checked : IsChecked img) (c : Core) (p : Point) (qs : Li
     fits_inside : RunsAtPoints img (with_processor c (opened c.processor kind)) inner qs
     fits_inside = record {
       running = record {
-        point = enters;
+        point = Leads p inner fits.running.point leads_inside;
         frame = after_opening.frame ∙ fits.running.frame;
         saves = (after_opening.saves, after_opening.kept);
       };
@@ -226,6 +233,14 @@ module _ (img : Image) (checked : IsChecked img) (c : Core) (p : Point) (qs : Li
       no_trap = tt;
       started = λ before. before;
       ended = λ end. absurd (no_init_end x end);
+      how = Opened_one (record {
+        goes = record { none = picked; leads = leads_inside; owner = refl; below = refl };
+        section = x;
+        instr = opening_instr kind;
+        enters = (fits.running.point, stands_inside);
+        inside = opened_inside;
+        shows = refl;
+      });
     }
 
   module _ (x : Section) (kind : SectionKind) (outer : List Opened)
@@ -237,14 +252,14 @@ module _ (img : Image) (checked : IsChecked img) (c : Core) (p : Point) (qs : Li
     same_closing : ◌≡◌ {A = Instr × Option Note} (line.instr, line.told) (rules.closing_instr kind, Some (note.Leave x))
     same_closing k = (is k, tells k)
 
-    leaves : IsPoint img outside
-    leaves = Leads p outside fits.running.point (record {
+    leads_outside : LeadsToPoint img p outside
+    leads_outside = record {
       line = (rules.closing_instr kind, Some (note.Leave x));
       stands = line.stands.1 ∙ ap (λ (l : Instr × Option Note). Some l) same_closing;
       address = closing_on kind p.address;
       owner = sym (owner_of_closing kind p.owner);
       inside = ap (drop 1) (sym inside);
-    })
+    }
 
     saved : KeepsMask c.processor.slots kind (base_inside outer (base_under qs))
         (mask_inside outer (is_starting p.owner))
@@ -261,7 +276,7 @@ module _ (img : Image) (checked : IsChecked img) (c : Core) (p : Point) (qs : Li
     fits_outside : RunsAtPoints img (with_processor c (closed c.processor kind)) outside qs
     fits_outside = record {
       running = record {
-        point = leaves;
+        point = Leads p outside fits.running.point leads_outside;
         frame = ap length after_closing.slots ∙ fits.running.frame;
         saves = subst (λ slots. KeepMasks slots outer (base_under qs) (is_starting p.owner))
             (sym after_closing.slots) saved.1;
@@ -295,4 +310,11 @@ module _ (img : Image) (checked : IsChecked img) (c : Core) (p : Point) (qs : Li
       no_trap = tt;
       started = λ before. before;
       ended = λ end. absurd (no_init_end_left x _ end);
+      how = Closed_one (record {
+        goes = record { none = picked; leads = leads_outside; owner = refl; below = refl };
+        opened = record { section = x; kind = kind };
+        value = left_value img (with_processor c (closed c.processor kind)) x;
+        inside = inside;
+        shows = refl;
+      });
     }

@@ -24,6 +24,7 @@ use Rattle.rt_points.specs.Checked.{IsChecked}
 use Rattle.rt_points.specs.Leading.{Enters, handler_at, starts_at}
 use Rattle.rt_points.specs.ExecutionPriority.{execution_priority}
 use Rattle.rt_points.specs.Point.{Point}
+use Rattle.rt_safe.specs.Inside.Moved.{Taken}
 use Rattle.rt_safe.specs.Inside.RunsAtPoints.{is_starting, RunsAtPoints}
 use Rattle.rt_safe.specs.Inside.Steps.{Steps}
 use Rattle.rt_safe.proofs.Depth.{frame_is, room_above}
@@ -34,7 +35,7 @@ pub handling_differs : (index : ℕ) → Handling index ≢ Starting
 handling_differs index same = false≢true (ap is_starting same)
 
 -- what can preempt is enabled, and above the execution priority
-preempts : (c : Core) (row : IrqRow) → can_preempt c row ≡ true → value_or_none row.handler < execution c
+pub preempts : (c : Core) (row : IrqRow) → can_preempt c row ≡ true → value_or_none row.handler < execution c
 preempts c row passes =
     let test = (and_parts (slice_index_or c.pending row.number false) (nat_lt (value_or_none row.handler) (execution c))
     passes).1 in grind (arith, nat_tests)
@@ -117,4 +118,17 @@ module _ (img : Image) (checked : IsChecked img) (c : Core) (p : Point) (qs : Li
             no_trap = tt;
             started = λ before. handling_differs found.0.0;
             ended = λ is. handling_differs found.0.0;
+            how = Taken (record {
+              row = row;
+              index = found.0.0;
+              handler = h;
+              depth = depth img after;
+              picked = picked;
+              at = found.0.1;
+              enabled = is;
+              above = above;
+              point = refl;
+              below = refl;
+              shows = refl;
+            });
           }

@@ -15,7 +15,7 @@ use Rattle.rt_core.specs.Priority.{value_or_none, execution, can_preempt, pick}
 use Rattle.rt_core.specs.Taken.{NoLater}
 use Rattle.rt_core.proofs.Picking.{taken}
 use Rattle.rt_timely.specs.Waiting.{IsPending}
-use Rattle.rt_timely.proofs.Turning.{preempts}
+use Rattle.rt_safe.proofs.Taking.{preempts}
 
 module _ (img : Image) (c : Core) (index : ℕ) (row : IrqRow) (h : Handler) (at : slice_get img.irqs index ≡ Some row)
     (enabled : row.handler ≡ Some h) (pending : IsPending c row.number) where

@@ -14,7 +14,7 @@ use Rattle.rt_points.specs.ExecutionPriority.{owner_value, execution_priority}
 use Rattle.rt_points.specs.Point.{Point}
 use Rattle.rt_points.specs.declared.point.Opened.{Opened}
 use Rattle.rt_points.specs.declared.point.Owner.{Owner}
-use Rattle.rt_safe.proofs.Advancing.{IsSilent}
+use Rattle.rt_safe.specs.Inside.Moved.{IsSilent}
 use Rattle.rt_timely.specs.Waiting.{stepper_by, lower, StayHoldsOff, IsHeldIn}
 use Rattle.rt_timely.specs.Watching.{Stay, SeenJob, longer, stepped, inside_too, outside_again, on_running}
 use Rattle.rt_timely.proofs.Holding.{IsStaying, IsFree, IsHeld}

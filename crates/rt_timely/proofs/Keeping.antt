@@ -19,15 +19,12 @@ use Rattle.rt_points.specs.Rules.{EntersAt}
 use Rattle.rt_points.specs.declared.point.Opened.{Opened}
 use Rattle.rt_bounds.specs.Ways.{Goes}
 use Rattle.rt_safe.specs.Inside.RunsAtPoints.{RunsAtPoints}
-use Rattle.rt_safe.proofs.Advancing.{IsSilent}
+use Rattle.rt_safe.specs.Inside.Moved.{IsSilent, IsTaken, GoesOn, IsOpened, IsClosed, IsServing, IsBack, Moved, Taken}
+use Rattle.rt_safe.specs.Inside.Moved.{Gone, Opened_one, Closed_one, Served, Back}
 use Rattle.rt_safe.proofs.Execution.{execution_is}
 use Rattle.rt_timely.specs.Watching.{Whose, Thread, Handler, Stay, SeenJob, LeftStay, Watch, begun, longer, stepped}
-use Rattle.rt_timely.specs.Watching.{inside_too, outside_again, on_running, ending, leaving, entered, seen_by}
-use Rattle.rt_timely.specs.Watching.{after_step}
+use Rattle.rt_timely.specs.Watching.{inside_too, outside_again, on_running, ending, leaving, entered, seen_by, after_step}
 use Rattle.rt_timely.proofs.Came.{Came, came_on, came_owner, came_way}
-use Rattle.rt_timely.proofs.Moved.{IsTaken, GoesOn, IsOpened, IsClosed, IsServing, IsBack, Moved, Taken, Gone}
-use Rattle.rt_timely.proofs.Moved.{Opened_one}
-use Rattle.rt_timely.proofs.Moved.{Closed_one, Served, Back}
 use Rattle.rt_timely.proofs.Tied.{BeginsAt, IsStay, AreStays, IsJobAt, AreJobsAt, IsWholeJob, IsWholeStay, IsTied}
 
 -- a step that tells of no job and no section is a step of the job that runs, and no more

@@ -1,9 +1,5 @@
 -- The lemmas of this crate, a file each. The folder beside them has the proof of the law.
 pub mod Came
-pub mod Moved
-pub mod Turning
-pub mod Opening
-pub mod Moving
 pub mod Tied
 pub mod Keeping
 pub mod Quiet

@@ -14,8 +14,8 @@ use Rattle.rt_points.specs.declared.point.Owner.TheVariants.{Starting}
 use Rattle.rt_safe.specs.Inside.RunsAtPoints.{RunsAtPoints}
 use Rattle.rt_timely.specs.Watching.{Watch, after_event, after_events, after_step, first_watch, watched}
 use Rattle.rt_timely.proofs.Keeping.{step_kept}
-use Rattle.rt_timely.proofs.Moved.{Moves}
-use Rattle.rt_timely.proofs.Moving.{moves}
+use Rattle.rt_safe.specs.Inside.Steps.{Steps as Moves}
+use Rattle.rt_safe.proofs.Stepping.{steps as moves}
 use Rattle.rt_timely.proofs.Quiet.{arrived, ticked, stepped_to, arrival_fits, tick_fits}
 use Rattle.rt_timely.proofs.Tied.{IsTied}
 

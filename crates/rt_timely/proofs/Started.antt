@@ -41,8 +41,7 @@ module _ (img : Image) where
   runs_highest p qs below stacked (job ∷ jobs) at =
       let mine = at.0.value in
       all_weaker (λ (other : SeenJob). owner_value img p.owner < other.value)
-      (λ (other : SeenJob). job.value < other.value) (λ other less. omega (arith, mine, less)) jobs
-      (above_all p qs below stacked jobs at.1)
+      (λ (other : SeenJob). job.value < other.value) (λ other less. omega (arith, mine, less)) jobs (above_all p qs below stacked jobs at.1)
 
 pub none_waits_once_started : NoneWaitsOnceStarted
 none_waits_once_started img events checked =

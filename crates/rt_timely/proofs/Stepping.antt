@@ -16,7 +16,8 @@ use Rattle.rt_points.specs.ExecutionPriority.{owner_value, execution_priority}
 use Rattle.rt_points.specs.Leading.{handler_at}
 use Rattle.rt_points.specs.Point.{Point}
 use Rattle.rt_safe.specs.Inside.RunsAtPoints.{RunsAtPoints}
-use Rattle.rt_safe.proofs.Advancing.{IsSilent}
+use Rattle.rt_safe.specs.Inside.Moved.{IsSilent, IsTaken, GoesOn, IsOpened, IsClosed, IsServing, IsBack, Moved, Taken}
+use Rattle.rt_safe.specs.Inside.Moved.{Gone, Opened_one, Closed_one, Served, Back}
 use Rattle.rt_safe.proofs.Apart.{alone_in_init}
 use Rattle.rt_safe.proofs.Depth.{value_is}
 use Rattle.rt_safe.proofs.Execution.{execution_is}
@@ -28,9 +29,6 @@ use Rattle.rt_timely.proofs.Holding.{IsFree, IsHeld}
 use Rattle.rt_timely.proofs.HoldingOn.{silent_stepper, stays_on, stays_inside, IsHeldBy, held_nowhere, first_high}
 use Rattle.rt_timely.proofs.HoldingOn.{runs_held, closed_stays, back_held}
 use Rattle.rt_timely.proofs.Keeping.{silent_seen}
-use Rattle.rt_timely.proofs.Moved.{IsTaken, GoesOn, IsOpened, IsClosed, IsServing, IsBack, Moved, Taken, Gone}
-use Rattle.rt_timely.proofs.Moved.{Opened_one}
-use Rattle.rt_timely.proofs.Moved.{Closed_one, Served, Back}
 use Rattle.rt_timely.proofs.Tied.{AreJobsAt}
 
 module _ (img : Image) (checked : IsChecked img) (index : ℕ) (row : IrqRow) (h : Handler)

@@ -32,8 +32,9 @@ use Rattle.rt_timely.specs.Watching.{SeenJob, Watch, after_step, watched}
 use Rattle.rt_timely.proofs.Holding.{AreWithin, IsFree, IsHeld, held_within, either}
 use Rattle.rt_timely.proofs.HoldingOn.{IsHeldBy}
 use Rattle.rt_timely.proofs.Keeping.{step_kept}
-use Rattle.rt_timely.proofs.Moved.{Moved, Taken, Gone, Opened_one, Closed_one, Served, Back, Moves}
-use Rattle.rt_timely.proofs.Moving.{moves}
+use Rattle.rt_safe.specs.Inside.Moved.{Moved, Taken, Gone, Opened_one, Closed_one, Served, Back}
+use Rattle.rt_safe.specs.Inside.Steps.{Steps as Moves}
+use Rattle.rt_safe.proofs.Stepping.{steps as moves}
 use Rattle.rt_timely.proofs.Pending.{pending_by_line, pending_by_take}
 use Rattle.rt_timely.proofs.Quiet.{arrived, later, ticked, stepped_to, arrival_fits, tick_fits}
 use Rattle.rt_timely.proofs.Reaching.{reached}

@@ -1,6 +1,6 @@
 // What is looked for at the points of an image.
 
-ghost use Rattle.std.specs.Prelude.{◌≡◌, ◌≢◌, ◌↔◌, ◌<◌, ◌≤◌, ℕ, IsTrue, MatchBool, slice_get, option_map, Some, true};
+ghost use Rattle.std.specs.Prelude.{◌≡◌, ◌≢◌, ◌↔◌, ◌<◌, ◌≤◌, ℕ, IsTrue, MatchBool, slice_get, option_map, Some};
 ghost use Rattle.std.specs.List.{list_all};
 ghost use Rattle.rt_code.specs.Access.{cell_of};
 ghost use Rattle.rt_points.specs.ExecutionPriority.{owner_value, lowered_value, execution_priority};

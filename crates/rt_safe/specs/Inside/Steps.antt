@@ -13,6 +13,7 @@ use Rattle.rt_core.specs.Core.{Core}
 use Rattle.rt_core.specs.Stepping.{step}
 use Rattle.rt_points.specs.declared.point.Owner.TheVariants.{Starting}
 use Rattle.rt_points.specs.Point.{Point, sections}
+use Rattle.rt_safe.specs.Inside.Moved.{Moved}
 use Rattle.rt_safe.specs.Inside.RunsAtPoints.{RunsAtPoints}
 
 -- the open sections at each of these points
@@ -70,3 +71,4 @@ pub record Steps (img : Image) (c : Core) (p : Point) (qs : List Point) : Type 0
   -- a step leads to `init` only from `init`, and not by its end
   pub started : p.owner ≢ Starting → point.owner ≢ Starting
   pub ended : shown ≡ Some (what.End body.Init) → point.owner ≢ Starting
+  pub how : Moved img c p qs shown point below

@@ -1,6 +1,6 @@
 -- How a core that fits at a point steps to one that fits at another: an interrupt is taken, a line leads on, where a
 -- section opens or closes or neither does, `init` ends, or a handler returns.
-use Rattle.std.proofs.Common.{◌≡◌, ℕ, ◌<◌, List, [], ◌∷◌, slice_get, Option, Some, None}
+use Rattle.std.specs.Prelude.{◌≡◌, ℕ, ◌<◌, List, [], ◌∷◌, slice_get, Option, Some, None}
 use Rattle.rt_ids.specs.declared.ids.BodyId.TheVariants as body
 use Rattle.rt_ids.specs.declared.ids.Section.{Section}
 use Rattle.rt_trace.specs.declared.item.What.{What}
@@ -11,15 +11,21 @@ use Rattle.rt_code.specs.declared.image.IrqRow.{IrqRow}
 use Rattle.rt_code.specs.declared.instr.Instr.{Instr}
 use Rattle.rt_core.specs.Core.{Core}
 use Rattle.rt_core.specs.Priority.{pick}
-use Rattle.rt_core.specs.Stepping.{step}
+use Rattle.rt_points.specs.declared.point.Opened.{Opened}
+use Rattle.rt_points.specs.declared.point.Owner.TheVariants.{Starting, Thread, Handling}
 use Rattle.rt_points.specs.ExecutionPriority.{execution_priority}
 use Rattle.rt_points.specs.Leading.{LeadsTo, kind_of, starts_at}
 use Rattle.rt_points.specs.Point.{Point}
 use Rattle.rt_points.specs.Rules.{EntersAt}
-use Rattle.rt_points.specs.declared.point.Opened.{Opened}
-use Rattle.rt_points.specs.declared.point.Owner.TheVariants.{Starting, Thread, Handling}
-use Rattle.rt_safe.specs.Inside.RunsAtPoints.{RunsAtPoints}
-use Rattle.rt_safe.proofs.Advancing.{IsSilent}
+
+-- an item that tells of no section, job or trap
+abbrev pub IsSilent : Option What → Type 0
+IsSilent None = Unit {0}
+IsSilent (Some (what.Emit value)) = Unit {0}
+IsSilent (Some (what.Post irq)) = Unit {0}
+IsSilent (Some (what.Clock time)) = Unit {0}
+IsSilent (Some (what.End body.Idle)) = Unit {0}
+IsSilent shown = ⊥
 
 module _ (img : Image) (c : Core) (p : Point) (qs : List Point) (shown : Option What) (q : Point)
     (rest : List Point) where
@@ -80,7 +86,7 @@ module _ (img : Image) (c : Core) (p : Point) (qs : List Point) (shown : Option 
     pub back : qs ≡ q ∷ rest
     pub shows : shown ≡ Some (what.Ret irq)
 
--- what happens in a core step
+-- what happens in a core step of a core that fits
 pub data Moved (img : Image) (c : Core) (p : Point) (qs : List Point) (shown : Option What) (q : Point)
     (rest : List Point) : Type 0 where
   Taken : IsTaken img c p qs shown q rest → Moved img c p qs shown q rest
@@ -90,13 +96,3 @@ pub data Moved (img : Image) (c : Core) (p : Point) (qs : List Point) (shown : O
   Closed_one : IsClosed img c p qs shown q rest → Moved img c p qs shown q rest
   Served : IsServing img c p qs shown q rest → Moved img c p qs shown q rest
   Back : IsBack img c p qs shown q rest → Moved img c p qs shown q rest
-
--- where a core steps to, and how
-pub record Moves (img : Image) (c : Core) (p : Point) (qs : List Point) : Type 0 where
-  pub core : Core
-  pub shown : Option What
-  pub is : step img c ≡ (core, shown)
-  pub point : Point
-  pub below : List Point
-  pub fits : RunsAtPoints img core point below
-  pub how : Moved img c p qs shown point below
