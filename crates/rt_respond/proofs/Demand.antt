@@ -2,7 +2,7 @@
 use Rattle.std.proofs.Common.{◌≡◌, ℕ, ◌+◌, ◌-◌, ◌≤◌, ◌<◌, ◌==◌, Bool, true, false, if◌then◌else◌, List, [], ◌∷◌}
 use Rattle.std.proofs.Common.{◌++◌, map, take, get_or, length, find, position, slice_get, option_and_then, Option, Some}
 use Rattle.std.proofs.Common.{None, IsSome, IfSome, refl, sym, ap, subst, ◌∙◌, arith}
-use Rattle.std.proofs.Math.Nat.{mul-le-mul_right, div-mul-le_self}
+use Rattle.std.proofs.Math.Nat.{mul-le-mul_right}
 use Rattle.std.proofs.lemmas.Bool.{eqb-true}
 use Rattle.std.proofs.lemmas.Nat.{le-div}
 use Rattle.std.proofs.lemmas.List.{map_more, get_or-map}
@@ -12,6 +12,7 @@ use Rattle.rt_ids.proofs.Lists.{find_by_position}
 use Rattle.rt_app.specs.Tree.{App}
 use Rattle.rt_rta.specs.Response.{most_requests}
 use Rattle.rt_rta.specs.declared.limits.Limit.{Limit}
+use Rattle.rt_rta.proofs.Least.{begun_more}
 use Rattle.rt_respond.specs.Number.{plus, times, total_of}
 use Rattle.rt_respond.specs.Handlers.{handlers, is_at}
 use Rattle.rt_respond.specs.Work.{work}
@@ -54,12 +55,6 @@ times_rises n m (Some w) some less = let most = mul-le-mul_right w less in omega
 some_request : (steps every : ℕ) → 1 ≤ every → 1 ≤ steps → 1 ≤ most_requests steps every
 some_request steps every some steps_some = le-div 1 (steps + (every - 1)) every some (omega arith)
 
-more_requests : (steps more every : ℕ) → 1 ≤ every → steps ≤ more
-    → most_requests steps every ≤ most_requests more every
-more_requests steps more every some less =
-    let below = div-mul-le_self (steps + (every - 1)) every in
-    le-div (most_requests steps every) (more + (every - 1)) every some (omega (arith, below, less))
-
 module _ (app : App) (limits : List Limit) (i : Handler) (steps more : ℕ) (some : 1 ≤ steps) (less : steps ≤ more) where
   ask_rises : (n m : ℕ) (o : Option Handler) → 1 ≤ n → n ≤ m
       → Rises (requests_ask app limits i n o) (requests_ask app limits i m o)
@@ -76,7 +71,7 @@ module _ (app : App) (limits : List Limit) (i : Handler) (steps more : ℕ) (som
   limit_rises limit every =
       ask_rises (most_requests steps limit.every) (most_requests more limit.every)
       (find (λ h. h.number == limit.irq) (handlers app)) (some_request steps limit.every every some)
-      (more_requests steps more limit.every every less)
+      (begun_more steps more limit.every every less)
 
   all_rise : (ls : List Limit) → ArePositive ls
       → Rises (total_of (map (limit_demand app limits i steps) ls)) (total_of (map (limit_demand app limits i more) ls))

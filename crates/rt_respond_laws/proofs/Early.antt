@@ -1,7 +1,7 @@
 -- How a run begins: while `init` runs nothing preempts it, and nothing comes from outside; as it ends, what is pending
 -- is
 -- what it has released.
-use Rattle.std.proofs.Common.{◌≡◌, ℕ, zero, suc, ◌+◌, ◌≤◌, ◌<◌, ◌^◌, ◌⊎◌, inl, inr, Bool, true, false, if◌then◌else◌}
+use Rattle.std.proofs.Common.{◌≡◌, ℕ, suc, ◌+◌, ◌≤◌, ◌<◌, ◌^◌, ◌⊎◌, inl, inr, Bool, true, false, if◌then◌else◌}
 use Rattle.std.proofs.Common.{List, [], ◌∷◌, ◌++◌, Contains, length, replicate, slice_index_or, Option}
 use Rattle.std.proofs.Common.{Some}
 use Rattle.std.proofs.Common.{None, IsSome, refl, sym, ap, subst, ◌∙◌, arith}
@@ -13,11 +13,8 @@ use Rattle.rt_lemmas.proofs.Membership.{contains_cases, contains_none, contains_
 use Rattle.rt_ids.specs.Choice.{IsIn}
 use Rattle.rt_ids.specs.Lists.{or_zero}
 use Rattle.rt_ids.specs.declared.ids.BodyId.TheVariants as body
-use Rattle.rt_ids.specs.declared.ids.Section.{Section}
 use Rattle.rt_ids.specs.declared.limits.TheConstants.{IRQ_NUMBERS}
-use Rattle.rt_actions.specs.Action.{Action, Ends, SetsAlarm, Returns}
-use Rattle.rt_actions.specs.Content.{Values}
-use Rattle.rt_actions.specs.Doing.{Doing, over, does}
+use Rattle.rt_actions.specs.Doing.{over}
 use Rattle.rt_trace.specs.Label.{Label, Arrived, Ticked, Rang, Stepped}
 use Rattle.rt_trace.specs.declared.item.What.{What}
 use Rattle.rt_trace.specs.declared.item.What.TheVariants as what
@@ -27,13 +24,12 @@ use Rattle.rt_app.specs.Handlers.{Service, services}
 use Rattle.rt_app.proofs.Sound.{accepted_are_sound}
 use Rattle.rt_laws.specs.State.{Role, Init, Idle, Waiting, Serving, Job, State, first_values, first}
 use Rattle.rt_laws.specs.Preemption.{system_ceiling}
-use Rattle.rt_laws.specs.Giving.{return_item, item_of, next_item, item_given, next_instant, is_due}
+use Rattle.rt_laws.specs.Giving.{return_item, next_item, item_given, is_due}
 use Rattle.rt_laws.specs.Allowed.{May, after}
 use Rattle.rt_laws.specs.Run.{RunsOn}
 use Rattle.rt_laws.specs.ByItems.{after_all}
 use Rattle.rt_laws.specs.Observer.{Seen, Observer, first_sight, sees}
 use Rattle.rt_laws.specs.Unspent.{NoneIsSpent}
-use Rattle.rt_laws.proofs.Fine.{ActsFine, IsFine}
 use Rattle.rt_laws.specs.Waiting.{is_pending}
 use Rattle.rt_laws.proofs.Waiting.{pending_stays}
 use Rattle.rt_laws.proofs.Well.{StackWell, StateWell}
@@ -42,8 +38,8 @@ use Rattle.rt_laws.proofs.Happens.{first_well}
 use Rattle.rt_rta.specs.Limits as rta
 use Rattle.rt_rta.specs.Kept.{end_of_init, Kept}
 use Rattle.rt_rta.specs.declared.limits.Limit.{Limit}
-use Rattle.rt_rta.proofs.Beginning.{Unspent, long_stays, positive_row, next_well}
-use Rattle.rt_rta.proofs.Spacing.{Waits, Spaced}
+use Rattle.rt_rta.proofs.Beginning.{Unspent, idle_ends, long_stays, positive_row, next_well}
+use Rattle.rt_rta.proofs.Spacing.{Waits, Spaced, none_set}
 use Rattle.rt_respond.specs.Form.{is_of_form}
 use Rattle.rt_respond.specs.Handlers.{handlers}
 use Rattle.rt_respond.specs.Work.{pend_work, work}
@@ -58,36 +54,6 @@ use Rattle.rt_respond_laws.proofs.Owed.{owed_pending}
 use Rattle.rt_respond_laws.proofs.Lowering.{Owes, anew, posted_raises, posted_numbers}
 use Rattle.rt_respond_laws.proofs.Stretch.{Bounded, fits_start, asks_now, HaveNumbers, Short, Stretch}
 use Rattle.rt_respond_laws.proofs.Stretch.{is_served}
-
--- a job whose next action ends `idle` runs it
-module _ (app : App) (s : State) (role : Role) (q : ℕ) where
-  idle_ends : (n : ℕ) (held : List Section) (base : Values) (rest : Doing Values) → IsFine app role q n held base rest
-      → next_item s role rest ≡ Some (what.End body.Idle) → role ≡ Idle
-  idle_ends n held base over fine is = absurd (none-some (what.End body.Idle) is)
-  idle_ends n held base (does action made next) fine is = of_action action fine.1 is
-    where
-      no_return : (r : Role) → ¬ (return_item r ≡ Some (what.End body.Idle))
-      no_return Init same = cc
-      no_return Idle same = cc
-      no_return Waiting same = cc
-      no_return (Serving irq) same = cc
-
-      not_alarm : (b : Bool) → ¬ (Some (if b then what.Alarm else what.AlarmSet) ≡ Some (what.End body.Idle))
-      not_alarm true same = cc
-      not_alarm false same = cc
-
-      of_action : (a : Action) → ActsFine app role q held a → item_of s role a ≡ Some (what.End body.Idle)
-          → role ≡ Idle
-      of_action (Ends body.Idle) acts same = acts.0
-      of_action SetsAlarm acts same = absurd (not_alarm (is_due s.time (next_instant s)) same)
-      of_action Returns acts same = absurd (no_return role same)
-      of_action a acts same = cc
-
--- at reset nothing is pending
-pub none_set : (n k : ℕ) → slice_index_or (replicate n false) k false ≡ false
-none_set zero k = refl
-none_set (suc n) zero = refl
-none_set (suc n) (suc k) = none_set n k
 
 owed_none : (app : App) (i : Handler) (n : ℕ) (hs : List Handler) → owed_pending app i (replicate n false) hs ≡ 0
 owed_none app i n [] = refl

@@ -39,7 +39,8 @@ use Rattle.rt_respond_laws.specs.Served.{pend_of, IsServedWithin}
 use Rattle.rt_respond_laws.specs.Laws.{RunsRespondEach}
 use Rattle.rt_respond_laws.proofs.Asking.{number_of}
 use Rattle.rt_respond_laws.proofs.Stretch.{bounded}
-use Rattle.rt_respond_laws.proofs.Early.{none_set, pended_until}
+use Rattle.rt_rta.proofs.Spacing.{none_set}
+use Rattle.rt_respond_laws.proofs.Early.{pended_until}
 use Rattle.rt_respond_laws.proofs.Coming.{runs_come_to_nothing}
 use Rattle.rt_respond_laws.proofs.Serving.{first_end_in, reach, small, itself, served_at, set_behind}
 use Rattle.rt_respond_laws.proofs.Unpended.{Unposted, calm_first, stays_unposted, stays_clear}

@@ -107,7 +107,7 @@ module _ (app : App) (s : State) (role : Role) (q : ℕ) where
   of_action held Returns fine is = absurd (no_return role is)
   of_action held action fine is = cc
 
-  idle_ends : (n : ℕ) (held : List Section) (base : Values) (rest : Doing Values) → IsFine app role q n held base rest
+  pub idle_ends : (n : ℕ) (held : List Section) (base : Values) (rest : Doing Values) → IsFine app role q n held base rest
       → next_item s role rest ≡ Some (what.End body.Idle) → role ≡ Idle
   idle_ends n held base over fine is = absurd (none-some (what.End body.Idle) is)
   idle_ends n held base (does action made next) fine is = of_action held action fine.1 is

@@ -33,7 +33,7 @@ pub if_ok_weaker : {A E : Type 0} (r : Result A E) (P Q : A → Type 0) → ((x 
 if_ok_weaker (Ok x) P Q weaker h = weaker x h
 if_ok_weaker (Err e) P Q weaker h = tt
 
-begun_more : (steps more every : ℕ) → 1 ≤ every → steps ≤ more → most_requests steps every ≤ most_requests more every
+pub begun_more : (steps more every : ℕ) → 1 ≤ every → steps ≤ more → most_requests steps every ≤ most_requests more every
 begun_more steps more every some less =
     let below = div-mul-le_self (steps + (every - 1)) every in
     le-div (most_requests steps every) (more + (every - 1)) every some (omega (arith, below, less))

@@ -178,7 +178,7 @@ module _ (limits : List Limit) where
           of None row = omega arith
           of (Some every) row = since.near between rest irq every row (inl set) e
 
-none_set : (n k : ℕ) → slice_index_or (replicate n false) k false ≡ false
+pub none_set : (n k : ℕ) → slice_index_or (replicate n false) k false ≡ false
 none_set zero k = refl
 none_set (suc n) zero = refl
 none_set (suc n) (suc k) = none_set n k
