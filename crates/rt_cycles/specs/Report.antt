@@ -28,10 +28,11 @@ abbrev pub found_line : List ℕ → Option ℕ → List ℕ
 found_line kind None = []
 found_line kind (Some n) = line (codes "cycles") kind n
 
--- the cost of a body, and the waiting bound of a priority, with so many cycles for each step
+-- the cost of a body, with so many cycles for each step
 abbrev pub cost_line : ℕ → List Task → BodyBound → List ℕ
 cost_line step tasks b = line (codes "cost") (body_name tasks b.body) (b.cost * step)
 
+-- the waiting bound of a priority, with so many cycles for each step
 abbrev pub wait_line : ℕ → Wait → List ℕ
 wait_line step w = line (codes "wait") (decimal w.priority) (w.steps * step)
 

@@ -94,10 +94,11 @@ module _ (app : App) (p : ℕ) where
   started (what.Start t args) = of_level t
   started w = []
 
-  -- the tasks of the `ready` items of the level, in order, and of its `start` items
+  -- the tasks of the `ready` items of the level, in order
   abbrev pub ready_tasks : List What → List ℕ
   ready_tasks ws = flat_map readied ws
 
+  -- the tasks of the `start` items of the level, in order
   abbrev pub start_tasks : List What → List ℕ
   start_tasks ws = flat_map started ws
 

@@ -10,6 +10,7 @@ use Rattle.rt_native.specs.Symbols.{executable}
 use Rattle.rt_native.specs.Target.{Target}
 
 module _ (img : Image) (target : Target) where
+  -- the bytes of the file: an executable, and an object to be linked where handlers call functions from elsewhere
   abbrev pub file : List ℕ
   file =
       if length target.calls == 0 then elf_of (executable img target) else object_of (object img target)

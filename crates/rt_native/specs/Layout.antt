@@ -40,10 +40,11 @@ line_of irq (Some h) = irq + 1
 abbrev pub line_count : List IrqRow → ℕ
 line_count rows = fold (λ lines row. max lines (line_of row.number row.handler)) 0 rows
 
--- a multiple of 8, or of 4, that is no less
+-- the least multiple of 8 that is no less
 abbrev pub in_eights : ℕ → ℕ
 in_eights n = (n + 7) / 8 * 8
 
+-- the least multiple of 4 that is no less
 abbrev pub in_words : ℕ → ℕ
 in_words n = (n + 3) / 4 * 4
 
@@ -52,6 +53,7 @@ module _ (img : Image) (target : Target) where
   abbrev pub stack_room : ℕ
   stack_room = in_eights (img.stack_bytes + TICK_BYTES)
 
+  -- the address past the stack, which grows down from it
   abbrev pub stack_top : ℕ
   stack_top = target.ram.address + stack_room
 

@@ -49,6 +49,7 @@ wanted name = record {
   part = part.Elsewhere;
 }
 
+-- the symbol that a row of the table wants from elsewhere, where its handler calls a function first
 abbrev pub row_wanted : List ℕ → IrqRow → List Symbol
 row_wanted calls row = if calls_first calls row.number row.handler then wanted row.name ∷ [] else []
 

@@ -82,9 +82,11 @@ pend irq =
 unfoldable pub due : ℕ → List Instruction
 due irq = instruction.MoveNot 2 0 ∷ instruction.Store 2 1 4 ∷ pend irq
 
+-- slot d comes to hold v
 unfoldable pub set_slot : ℕ → ℕ → List Instruction
 set_slot d v = number 0 v ++ write_slot 0 d
 
+-- slot d comes to hold what slot s holds
 unfoldable pub copy_slot : ℕ → ℕ → List Instruction
 copy_slot d s = read_slot 0 s ++ write_slot 0 d
 

@@ -21,11 +21,11 @@ use Rattle.rt_native.specs.Target.{Target}
 use Rattle.rt_native.specs.declared.outside.Outside.{Outside}
 use Rattle.rt_native.specs.declared.target.Input.{Input}
 
--- NVIC_ISER0, whose bits enable interrupts 0 to 31 (section B3.4.4), and NVIC_IPR0, whose bytes are the priority values
--- of interrupts (section B3.4.9)
+-- NVIC_ISER0, whose bits enable interrupts 0 to 31 (section B3.4.4)
 abbrev pub ISER : ℕ
 ISER = 0xE000_E100
 
+-- NVIC_IPR0, whose bytes are the priority values of interrupts (section B3.4.9)
 abbrev pub IPR : ℕ
 IPR = 0xE000_E400
 
@@ -61,6 +61,7 @@ pend_timer (Some irq) = instruction.MoveWide 1 irq ∷ address 0 STIR ++ instruc
 unfoldable pub due_at_tick : Option ℕ → List Instruction
 due_at_tick irq = instruction.MoveNot 2 0 ∷ instruction.Store 2 0 4 ∷ pend_timer irq
 
+-- how many bytes that takes
 unfoldable pub due_size_at_tick : Option ℕ → ℕ
 due_size_at_tick irq = bytes_of (due_at_tick irq)
 

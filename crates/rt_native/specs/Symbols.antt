@@ -31,11 +31,13 @@ part_of kind.Mark = part.Text
 part_of kind.Object = part.Data
 part_of kind.Function = part.Text
 
+-- the bytes that a symbol stands for: a word of data has 4, and of code no size is said
 abbrev pub size_of : Kind → ℕ
 size_of kind.Mark = 0
 size_of kind.Object = 4
 size_of kind.Function = 0
 
+-- a symbol of a kind at a value; its name is the front and what is named, with `_` for each dot
 abbrev pub symbol : List ℕ → List ℕ → ℕ → Kind → Symbol
 symbol front name value kind = record {
   name = front ++ map symbol_byte name;

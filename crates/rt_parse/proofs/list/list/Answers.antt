@@ -28,8 +28,8 @@ returns-in_err-rest g c =
     c.args.closing.now open_ (ap (λ n. g.T.ListItem.reads n c.loop-alloc.rest) (sym count) ∙ c.in_ok-item.ensures.given)
     in
     rw (p.1, p.2) (comma_stops c.args.closing.now (adds_at g.T.ListItem.reads) c.loop-alloc.items.items
-    c.loop-alloc.rest [] c.args.tokens c.in_err-rest.field-0.0 _ c.in_ok-item.behind c.in_ok-item.ensures.shorter open_ got
-    c.in_err-rest.ensures c.loop-alloc.invariant)
+    c.loop-alloc.rest [] c.args.tokens c.in_err-rest.field-0.0 _ c.in_ok-item.behind c.in_ok-item.ensures.shorter
+    open_ got c.in_err-rest.ensures c.loop-alloc.invariant)
 
 pub loop-alloc-smaller : goal.loop-alloc-smaller
 loop-alloc-smaller g c = item_shortens c.args.closing.now c.loop-alloc.rest c.in_ok-item.behind c.in_ok-rest.rest
