@@ -1,10 +1,13 @@
-"""The bounds of a listing that keeps the rules, found by peeling its graph of addresses from the ends.
+"""The bounds of a listing that keeps the rules, found by trying all situations: addresses, with the turns that loops which
+count have left.
 
 It reads the listing itself and shares no text with the program or with bench/witness. A bound is a number, or the set
 of the addresses at which a loop can be told.
 """
 
 import collections
+
+from counting import Code, counting_loops, longest
 
 Line = collections.namedtuple("Line", "word numbers note")
 Row = collections.namedtuple("Row", "name value entry frame")
@@ -63,24 +66,9 @@ def explore(code, starts, is_init):
     return inside, ended
 
 
-def peel(code, inside, depth, is_init):
-    """The longest ways from the addresses of a region; an address from which a loop can be come to has none."""
-    onward, back, left = {}, collections.defaultdict(list), {}
-    for address in inside:
-        stop = is_init and code[address].word == "serve"
-        tos = [] if stop else {to for to in exits(code, address) if len(inside[to]) >= depth}
-        onward[address], left[address] = tos, len(tos)
-        for to in tos:
-            back[to].append(address)
-    longest, ready = {}, [address for address in inside if left[address] == 0]
-    while ready:
-        address = ready.pop()
-        longest[address] = 1 + max((longest[to] for to in onward[address]), default=0)
-        for source in back[address]:
-            left[source] -= 1
-            if left[source] == 0:
-                ready.append(source)
-    return longest, onward
+def region(code, depth):
+    """What each address leads to, where at least so many sections are open."""
+    return {address: [to for to in tos if len(code.inside[to]) >= depth] for address, tos in code.onward.items()}
 
 
 def reachable(onward, starts):
@@ -93,10 +81,12 @@ def reachable(onward, starts):
     return seen
 
 
-def bound(longest, onward, address):
+def bound(code, loops, depth, address):
     """The longest way from an address, or the addresses that are come to and from there come to again."""
-    if address in longest:
-        return longest[address]
+    found = longest(code, loops, depth, address)
+    if found is not None:
+        return found
+    onward = region(code, depth)
     return {place for place in reachable(onward, [address]) if place in reachable(onward, onward[place])}
 
 
@@ -125,33 +115,31 @@ class Bounds:
         self.values = sorted({row.value for row in self.rows if row}, reverse=True)
         self.waits = {value: None for value in self.values}
         inside, ended = explore(self.code, {0: ()}, True)
-        self.init = bound(*peel(self.code, inside, 0, True), 0)
-        self.take(("init",), 0, inside, True)
+        self.init = self.take(("init",), 0, Code(self.code, inside, [0], True, exits), 0)
         if ended:
-            self.take(("thread",), 256, explore(self.code, dict(ended), False)[0], False)
+            inside, _ = explore(self.code, dict(ended), False)
+            self.take(("thread",), 256, Code(self.code, inside, dict(ended), False, exits), None)
         for row in self.rows:
             if row:
                 inside, _ = explore(self.code, {row.entry: ()}, False)
-                self.handlers.append((row.name, bound(*peel(self.code, inside, 0, False), row.entry)))
-                self.take(("handler", row.name), row.value, inside, False)
+                code = Code(self.code, inside, [row.entry], False, exits)
+                self.handlers.append((row.name, self.take(("handler", row.name), row.value, code, row.entry)))
 
-    def take(self, owner, value, inside, is_init):
-        """The sections of an owner."""
-        regions = {}
+    def take(self, owner, value, code, entry):
+        """The sections of an owner, and its bound where it has one."""
+        loops, inside = counting_loops(code), code.inside
         for address in sorted(inside, key=lambda place: (len(inside[place]), place)):
             line, here = self.code[address], inside[address]
             if line.note[0] != "enter":
                 continue
-            depth = len(here) + 1
-            if depth not in regions:
-                regions[depth] = peel(self.code, inside, depth, is_init)
-            found = bound(*regions[depth], address)
+            found = bound(code, loops, len(here) + 1, address)
             key = (*owner, line.note[1])
             self.sections[key] = worse(self.sections.get(key), found)
             before, after = value_inside(value, here), value_inside(value, behind(line, here))
             for held in self.values:
                 if after <= held < before:
                     self.waits[held] = worse(self.waits[held], found)
+        return None if entry is None else bound(code, loops, 0, entry)
 
     def stack(self):
         entry = ENTRY_WORDS[self.head[0]]

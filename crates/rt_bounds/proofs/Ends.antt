@@ -1,5 +1,5 @@
 -- A longest way goes to the end of what it is a bound of.
-use Rattle.std.proofs.Common.{◌≡◌, ◌⊎◌, ◌≤◌, ◌<◌, ℕ, suc, true, List, [], ◌∷◌, ◌++◌, length, drop, slice_get}
+use Rattle.std.proofs.Common.{◌≡◌, ◌⊎◌, ◌≤◌, ◌<◌, ℕ, zero, suc, true, List, [], ◌∷◌, ◌++◌, length, drop, slice_get}
 use Rattle.std.proofs.Common.{Option, Some, refl, sym, ap, subst, ◌∙◌, inl, inr, ⊎_elim, arith, length-append}
 use Rattle.std.proofs.lemmas.Bool.{cases_lt}
 use Rattle.rt_lemmas.proofs.Indices.{there_is}
@@ -21,9 +21,13 @@ use Rattle.rt_points.specs.declared.point.Owner.TheVariants.{Starting, Handling}
 use Rattle.rt_points.specs.declared.rule.Rule.TheVariants as rule
 use Rattle.rt_judge.specs.Inside.Points.{point}
 use Rattle.rt_bounds.specs.Bounds.{IsLongestFrom, IsOwnersBound, depth_inside}
+use Rattle.rt_bounds.specs.Counting.{CountingLoop, IsCounting, IsInside as IsInLoop}
+use Rattle.rt_bounds.specs.CountedWays.{CountedWay, Stops, Goes_on, Left, MayGo, all_left, left_after}
 use Rattle.rt_bounds.specs.Laws.{BoundsReachEnds, LeadsToEnd, WayTo, Ends, Passes, ServesAt, ReturnsAt, LeavesAt}
-use Rattle.rt_bounds.specs.Ways.{Goes, Way, Stops, Goes_on}
+use Rattle.rt_bounds.specs.Ways.{Goes}
 use Rattle.rt_bounds.specs.declared.longest.Longest.TheVariants.{Steps}
+use Rattle.rt_bounds.proofs.Nesting.{jump_out, one_jump}
+use Rattle.rt_bounds.proofs.Setting.{same_line as one_line}
 
 abbrev Line : Type 0
 Line = Instr × Option Note
@@ -76,17 +80,43 @@ module _ (img : Image) (checked : IsChecked img) (depth : ℕ) where
             (returns_or_leads line.0 p.address fits.supported),
       )
 
-  -- a way has a last point
-  way_to : (p : Point) (n : ℕ) → Way img depth p n → (r : Point) × WayTo img depth p n r
-  way_to p n (Stops same) = (same, Ends same)
-  way_to p n (Goes_on same q m goes way) =
-      let on = way_to q m way in
-      (on.0, Passes same q on.0 m goes on.1)
+  -- a way has a last point, from where it may go on
+  way_to : (left : Left) (p : Point) (n : ℕ) → CountedWay img depth left p n → (r : Point) × (l : Left)
+      × WayTo img depth p n r
+      × ((q : Point) → Goes img depth r q → MayGo img l r q → CountedWay img depth left p (suc n))
+  way_to left p n (Stops l same) =
+      (same, l, Ends same, (λ q goes may. Goes_on l same q 1 goes may (Stops (left_after l same q) q)))
+  way_to left p n (Goes_on l same q m goes may way) =
+      let on = way_to (left_after l same q) q m way in (
+        on.0,
+        on.1,
+        Passes same q on.0 m goes on.2,
+        (λ r step too. Goes_on l same q (suc m) goes may (on.3 r step too)),
+      )
 
-  -- from where it may go on
-  one_more : (p r q : Point) (n : ℕ) → WayTo img depth p n r → Goes img depth r q → Way img depth p (suc n)
-  one_more p r q n (Ends same) goes = Goes_on same q 1 goes (Stops q)
-  one_more p r q n (Passes same s t m first way) goes = Goes_on same s (suc m) first (one_more s t q m way goes)
+  -- where a loop that counts does not go on it leads out
+  no_step : (l : Left) (r : Point) → ((q : Point) → Goes img depth r q → MayGo img l r q → ⊥) → (q : Point)
+      → Goes img depth r q → ⊥
+  no_step l r none q goes = none q goes (λ c counts at to. some c counts at to (l c) refl)
+    where
+      some : (c : CountingLoop) → IsCounting img r.owner c → r.address ≡ c.place.jump → q.address ≡ c.place.stay → (k : ℕ)
+          → l c ≡ k → 0 < l c
+      some c counts at to (suc k) is = omega (arith, is)
+      some c counts at to zero is = absurd (
+          let out = jump_out img r.owner c counts r at in
+          let same = one_line img c.place.jump goes.leads.line out.1.line
+          (ap (slice_get img.code) (sym at) ∙ goes.leads.stands) (ap (slice_get img.code) (sym at) ∙ out.1.stands) in
+          let wide : q.inside ≡ out.0.inside =
+          goes.leads.inside ∙ ap (λ (k : Line). inside_after k.0 k.1 r.inside) same ∙ sym out.1.inside in
+          let enough = goes.inside in
+          let long = ap length wide in
+          let mine : out.0.owner ≡ r.owner =
+          out.1.owner ∙ ap (λ (k : Line). owner_after k.0 r.owner) (sym same) ∙ sym goes.leads.owner ∙ goes.owner in
+          none out.0 (record { leads = out.1; owner = mine; inside = omega (arith, enough, long) })
+          (λ d other here stays. absurd (
+          let one = one_jump img r.owner d c other counts (sym here ∙ at) in
+          counts.loop.out (subst (IsInLoop c.place)
+          (sym (sym out.2 ∙ stays ∙ ap (λ (x : CountingLoop). x.place.stay) one)) counts.loop.stay))))
 
   -- what is handed on from point to point is so at the last
   along : (P : Point → Type 0) → ((p q : Point) → P p → Goes img depth p q → P q) → (p r : Point) (n : ℕ)
@@ -98,11 +128,11 @@ module _ (img : Image) (checked : IsChecked img) (depth : ℕ) where
   longest_to : (p : Point) (n : ℕ) → IsLongestFrom img depth p n
       → (r : Point) × WayTo img depth p n r × ((q : Point) → Goes img depth r q → ⊥)
   longest_to p n longest =
-      let to = way_to p n longest.way in (
+      let to = way_to all_left p n longest.way in (
         to.0,
-        to.1,
-        λ q goes. let more = longest.most (suc n) (one_more p to.0 q n to.1 goes) in
-            absurd (omega (arith, more)),
+        to.2,
+        no_step to.1 to.0 (λ q goes may. let more = longest.most (suc n) (to.3 q goes may) in
+            omega (arith, more)),
       )
 
   -- a point of an owner

@@ -2,8 +2,9 @@
 use Rattle.std.proofs.Common.{◌≤◌, ℕ, zero, suc, arith}
 use Rattle.rt_code.specs.Image.{Image}
 use Rattle.rt_points.specs.Point.{Point}
-use Rattle.rt_bounds.specs.Bounds.{IsLongestFrom}
+use Rattle.rt_bounds.specs.Bounds.{IsEndless, IsLongestFrom}
 use Rattle.rt_bounds.specs.Laws.{LoopsHaveNoBound}
+use Rattle.rt_bounds.specs.declared.longest.TheConstants.{MOST_STEPS}
 use Rattle.rt_bounds.specs.Ways.{Goes, Way, Stops, Goes_on, Comes, Here, Further, ComesToLoop}
 
 module _ (img : Image) (depth : ℕ) where
@@ -31,12 +32,11 @@ module _ (img : Image) (depth : ℕ) where
   way_any : (p : Point) (address : ℕ) → ComesToLoop img depth p address → (n : ℕ) → WayOf p n
   way_any p address loop n = way_from p loop.turn n loop.comes (way_round loop.turn loop.next loop.goes loop.again n)
 
-  no_longest : (p : Point) (address steps : ℕ) → ComesToLoop img depth p address → IsLongestFrom img depth p steps → ⊥
-  no_longest p address steps loop longest =
-      let more = way_any p address loop (suc steps) in
-      let most = longest.most more.0 more.2 in
-      let long = more.1 in
-      absurd (omega (arith, most, long))
+  no_longest : (p : Point) (address steps : ℕ) → steps ≤ MOST_STEPS → IsEndless img depth p address
+      → IsLongestFrom img depth p steps → ⊥
+  no_longest p address steps few endless longest =
+      let most = longest.most (suc MOST_STEPS) endless.long in
+      absurd (omega (arith, most, few))
 
 pub loops_have_no_bound : LoopsHaveNoBound
 loops_have_no_bound = record { any = way_any; none = no_longest }

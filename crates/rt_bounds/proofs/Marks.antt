@@ -8,12 +8,13 @@ use Rattle.rt_bounds.specs.declared.survey.Mark.TheVariants as mark
 abbrev Marks : Type 0
 Marks = List Mark
 
-pub set_here : (marks : Marks) (i : ℕ) (m : Mark) → i < length marks → slice_get (slice_set marks i m) i ≡ Some m
+-- an element of a list that is set is there, and all others are as they were
+pub set_here : {X : Type 0} (marks : List X) (i : ℕ) (m : X) → i < length marks → slice_get (slice_set marks i m) i ≡ Some m
 set_here [] i m within = absurd (omega (arith, within))
 set_here (x ∷ marks) zero m within = refl
 set_here (x ∷ marks) (suc i) m within = set_here marks i m (omega (arith, within))
 
-pub set_apart : (marks : Marks) (i j : ℕ) (m : Mark) → i ≢ j → slice_get (slice_set marks i m) j ≡ slice_get marks j
+pub set_apart : {X : Type 0} (marks : List X) (i j : ℕ) (m : X) → i ≢ j → slice_get (slice_set marks i m) j ≡ slice_get marks j
 set_apart [] i j m apart = refl
 set_apart (x ∷ marks) zero zero m apart = absurd (apart refl)
 set_apart (x ∷ marks) zero (suc j) m apart = refl

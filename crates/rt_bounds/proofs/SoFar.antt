@@ -6,7 +6,7 @@ use Rattle.rt_points.specs.Point.{Point}
 use Rattle.rt_bounds.specs.Bounds.{IsBoundFrom, IsSectionBound, IsLongestFrom}
 use Rattle.rt_bounds.specs.Bounds.{depth_inside}
 use Rattle.rt_bounds.specs.Inside.Gathered.{IsSoFar, worst}
-use Rattle.rt_bounds.specs.Ways.{Way}
+use Rattle.rt_bounds.specs.CountedWays.{FreshWay}
 use Rattle.rt_bounds.specs.declared.longest.Longest.{Longest}
 use Rattle.rt_bounds.specs.declared.longest.Longest.TheVariants.{Steps, Loop}
 
@@ -16,7 +16,7 @@ pub same_bound : (img : Image) (P Q : Point → Type 0) → ((p : Point) → P p
 same_bound img P Q to from (Loop a) bound = record {
   point = bound.point;
   entered = to bound.point bound.entered;
-  loop = bound.loop;
+  endless = bound.endless;
 }
 same_bound img P Q to from (Steps n) bound = record {
   point = bound.point;
@@ -43,7 +43,7 @@ module _ (img : Image) (Seen New Entered : Point → Type 0) (c : Point) (keeps 
   past (Some (Loop a)) other some = record {
     point = some.point;
     entered = (keeps some.point some.entered.0, some.entered.1);
-    loop = some.loop;
+    endless = some.endless;
   }
   past (Some (Steps n)) other some = record {
     point = some.point;
@@ -61,43 +61,43 @@ module _ (img : Image) (Seen New Entered : Point → Type 0) (c : Point) (keeps 
 
     -- a way from the point, or one from before
     each : (m n : ℕ) → IsLongestFrom img (depth_inside c) c n
-        → ((p : Point) (k : ℕ) → Seen p × Entered p → Way img (depth_inside p) p k → k ≤ m)
-        → (p : Point) (k : ℕ) → Both p → Way img (depth_inside p) p k → k ≤ max m n
+        → ((p : Point) (k : ℕ) → Seen p × Entered p → FreshWay img (depth_inside p) p k → k ≤ m)
+        → (p : Point) (k : ℕ) → Both p → FreshWay img (depth_inside p) p k → k ≤ max m n
     each m n bound before p k both way = ⊎_elim
         (λ seen. let h = before p k (seen, both.1) way in omega (arith, h))
-        (λ same. let h = bound.most k (subst (λ (q : Point). Way img (depth_inside q) q k) (sym same) way) in
+        (λ same. let h = bound.most k (subst (λ (q : Point). FreshWay img (depth_inside q) q k) (sym same) way) in
         omega (arith, h))
         (splits p both.0 both.1)
 
     pub more : (o : Option Longest) (longest : Longest) → IsBoundFrom img (depth_inside c) c longest
         → IsSoFar img Seen Entered o → IsSectionBound img Both (worst o longest)
-    more None (Loop a) bound none = record { point = c; entered = (now, entered); loop = bound }
+    more None (Loop a) bound none = record { point = c; entered = (now, entered); endless = bound }
     more None (Steps n) bound none = record {
       point = c;
       entered = (now, entered);
       way = bound.way;
       most = λ p k both way. ⊎_elim
           (λ seen. absurd (none p seen both.1))
-          (λ same. bound.most k (subst (λ (q : Point). Way img (depth_inside q) q k) (sym same) way))
+          (λ same. bound.most k (subst (λ (q : Point). FreshWay img (depth_inside q) q k) (sym same) way))
           (splits p both.0 both.1);
     }
     more (Some (Loop b)) longest bound some = record {
       point = some.point;
       entered = (keeps some.point some.entered.0, some.entered.1);
-      loop = some.loop;
+      endless = some.endless;
     }
-    more (Some (Steps m)) (Loop a) bound some = record { point = c; entered = (now, entered); loop = bound }
+    more (Some (Steps m)) (Loop a) bound some = record { point = c; entered = (now, entered); endless = bound }
     more (Some (Steps m)) (Steps n) bound some = ⊎_elim
         (λ lt. record {
           point = c;
           entered = (now, entered);
-          way = subst (Way img (depth_inside c) c) (second lt) bound.way;
+          way = subst (FreshWay img (depth_inside c) c) (second lt) bound.way;
           most = each m n bound some.most;
         })
         (λ le. record {
           point = some.point;
           entered = (keeps some.point some.entered.0, some.entered.1);
-          way = subst (Way img (depth_inside some.point) some.point) (first le) some.way;
+          way = subst (FreshWay img (depth_inside some.point) some.point) (first le) some.way;
           most = each m n bound some.most;
         })
         (cases_lt m n)

@@ -1,36 +1,41 @@
 -- A step of a survey, by what a look at the top of its trail tells.
-use Rattle.std.proofs.Common.{◌≡◌, ◌<◌, ◌+◌, ◌*◌, ◌^◌, ℕ, List, [], ◌∷◌, ◌++◌, length, slice_set, sym}
-use Rattle.std.proofs.Common.{ap}
-use Rattle.std.proofs.Common.{subst, arith, length-append}
+use Rattle.std.proofs.Common.{◌≡◌, ◌≢◌, ◌⊎◌, ◌≤◌, ◌<◌, ◌+◌, ◌*◌, ◌^◌, ℕ, List, [], ◌∷◌, ◌++◌, length, slice_get, slice_set}
+use Rattle.std.proofs.Common.{Option, Some, refl, sym, ap, subst, ◌∙◌, inl, inr, ⊎_elim, arith, length-append, length-set}
+use Rattle.std.specs.List.{AllByRecursion}
+use Rattle.std.proofs.lemmas.Bool.{cases_eq}
 use Rattle.std.proofs.lemmas.List.{length-replicate}
+use Rattle.rt_lemmas.proofs.Membership.{all_append}
 use Rattle.rt_code.specs.Image.{Image}
 use Rattle.rt_points.specs.Checked.{IsChecked}
 use Rattle.rt_points.specs.Limits.{IsWithinLimits}
 use Rattle.rt_points.specs.declared.point.Owner.{Owner}
-use Rattle.rt_judge.specs.Inside.Walks.{reached_by}
+use Rattle.rt_judge.specs.Inside.Walks.{Reached, reached_by}
 use Rattle.rt_judge.specs.declared.walk.Walk.{Walk}
-use Rattle.rt_judge.proofs.Seen.{all_last}
+use Rattle.rt_judge.proofs.Seen.{all_front, all_last}
+use Rattle.rt_bounds.specs.Inside.Aheads.{AreFolds, IsFree}
 use Rattle.rt_bounds.specs.Inside.Ground.{IsMapped}
-use Rattle.rt_bounds.specs.Inside.Surveys.{IsThere, IsSurveying, IsSurveyed, IsNewSurvey, IsSeen}
-use Rattle.rt_bounds.specs.Inside.Surveys.{point_at, mark_at, look_from, unseen}
+use Rattle.rt_bounds.specs.Inside.Surveys.{IsThere, IsSurveying, IsSurveyed, IsNewSurvey, IsSeen, IsBlank}
+use Rattle.rt_bounds.specs.Inside.Surveys.{mark_at, look_from, unseen}
+use Rattle.rt_bounds.specs.declared.folds.Fold.{Fold}
 use Rattle.rt_bounds.specs.declared.survey.Mark.{Mark}
 use Rattle.rt_bounds.specs.declared.survey.Mark.TheVariants as mark
 use Rattle.rt_bounds.specs.declared.survey.Survey.{Survey}
 use Rattle.rt_bounds.specs.declared.survey.Look.{Look}
 use Rattle.rt_bounds.specs.declared.survey.Look.TheVariants as look
+use Rattle.rt_bounds.proofs.Found.{Found, look_found}
 use Rattle.rt_bounds.proofs.Grounds.{HasAll, at_within}
-use Rattle.rt_bounds.proofs.Looking.{Tells, look_tells}
 use Rattle.rt_bounds.proofs.Mapped.{has_all}
+use Rattle.rt_bounds.proofs.Marks.{new_marks, set_apart, set_here}
 use Rattle.rt_bounds.proofs.Surveying.{IsClosing, closed_steps, closed_loop, goes_on_to, next_within, nearer_on}
-use Rattle.rt_bounds.proofs.Surveying.{nearer_back, begun, new_survey}
+use Rattle.rt_bounds.proofs.Surveying.{nearer_back, begun, blank_survey}
 
 module _ (img : Image) (owner : Owner) (walk : Walk) (checked : IsChecked img) (mapped : IsMapped img owner walk)
-    (depth : ℕ) (marks : List Mark) where
+    (depth : ℕ) (goal : Option ℕ) (marks : List Mark) where
   all : HasAll img owner (reached_by walk)
   all = has_all img owner walk checked mapped
 
   -- where nothing is on the trail
-  pub start_within : (start : ℕ) → IsSurveying img owner (reached_by walk) depth marks []
+  pub start_within : (start : ℕ) → IsSurveying img owner (reached_by walk) depth goal marks []
       → IsThere (reached_by walk) start
       → start < length marks
   start_within start before there =
@@ -38,72 +43,97 @@ module _ (img : Image) (owner : Owner) (walk : Walk) (checked : IsChecked img) (
       let size = before.size in
       omega (arith, w, size)
 
-  pub started : (start : ℕ) (trail : List ℕ) → trail ≡ [] → IsSurveying img owner (reached_by walk) depth marks []
-      → IsThere (reached_by walk) start → mark_at marks start ≡ mark.Unseen
-      → IsSurveying img owner (reached_by walk) depth (slice_set marks start mark.Open) (trail ++ start ∷ [])
-  started start trail empty before there is =
-      subst (λ (xs : List ℕ). IsSurveying img owner (reached_by walk) depth (slice_set marks start mark.Open)
+  pub started : (start : ℕ) (trail : List ℕ) → trail ≡ [] → IsSurveying img owner (reached_by walk) depth goal marks []
+      → IsThere (reached_by walk) start → goal ≢ Some start → mark_at marks start ≡ mark.Unseen
+      → IsSurveying img owner (reached_by walk) depth goal (slice_set marks start mark.Open) (trail ++ start ∷ [])
+  started start trail empty before there apart is =
+      subst (λ (xs : List ℕ). IsSurveying img owner (reached_by walk) depth goal (slice_set marks start mark.Open)
       (xs ++ start ∷ [])) (sym empty)
-      (begun img owner (reached_by walk) depth marks start before (start_within start before there) is there)
+      (begun img owner (reached_by walk) depth goal marks start before (start_within start before there) is there apart)
 
-  module _ (trail rest : List ℕ) (top : ℕ) (pop : trail ≡ rest ++ top ∷ [])
-      (on : IsSurveying img owner (reached_by walk) depth marks trail) where
-    before : IsSurveying img owner (reached_by walk) depth marks (rest ++ top ∷ [])
-    before = subst (IsSurveying img owner (reached_by walk) depth marks) pop on
+  module _ (last : ℕ) (folds : List (Option Fold)) (folded : AreFolds img owner (reached_by walk) last folds)
+      (trail rest : List ℕ) (top : ℕ) (pop : trail ≡ rest ++ top ∷ [])
+      (on : IsSurveying img owner (reached_by walk) depth goal marks trail)
+      (every : AllByRecursion (IsFree img owner (reached_by walk) depth goal last) trail) where
+    abbrev Free : ℕ → Type 0
+    Free a = IsFree img owner (reached_by walk) depth goal last a
+
+    before : IsSurveying img owner (reached_by walk) depth goal marks (rest ++ top ∷ [])
+    before = subst (IsSurveying img owner (reached_by walk) depth goal marks) pop on
+
+    every_one : AllByRecursion Free (rest ++ top ∷ [])
+    every_one = subst (AllByRecursion Free) pop every
+
+    free : Free top
+    free = all_last Free rest top every_one
 
     long : length trail ≡ length (rest ++ top ∷ [])
     long = ap length pop
 
-    there : IsThere (reached_by walk) top
-    there = all_last (IsThere (reached_by walk)) rest top before.there
-
     pub top_within : top < length marks
     top_within = all_last (λ a. a < length marks) rest top before.within
 
+    pub top_free : Free top
+    top_free = free
+
+    pub rest_free : AllByRecursion Free rest
+    rest_free = all_front Free rest top every_one
+
     abbrev Says : Look → Type 0
-    Says l = Tells img depth owner (reached_by walk) marks (length (rest ++ top ∷ []) + unseen marks)
-        (point_at owner (reached_by walk) top) (λ a. Unit {0}) l
+    Says l = Found img owner (reached_by walk) all last folds folded depth goal marks rest top before free l
 
-    told : (l : Look) → l ≡ look_from img (reached_by walk) depth marks owner top → Says l
-    told l is = subst Says (sym is) (look_tells img owner (reached_by walk) all depth marks rest top there before)
+    told : (l : Look) → l ≡ look_from img folds (reached_by walk) depth goal marks owner top → Says l
+    told l is = subst Says (sym is)
+        (look_found img owner (reached_by walk) all last folds folded depth goal marks rest top before free)
 
-    pub step_steps : (n : ℕ) → look.Steps n ≡ look_from img (reached_by walk) depth marks owner top
-        → IsSurveying img owner (reached_by walk) depth (slice_set marks top (mark.Steps (n + 1))) rest
-    step_steps n is = closed_steps img owner (reached_by walk) depth all marks rest top before n (told
-        (look.Steps n) is)
+    pub step_steps : (n : ℕ) → look.Steps n ≡ look_from img folds (reached_by walk) depth goal marks owner top
+        → IsSurveying img owner (reached_by walk) depth goal (slice_set marks top (mark.Steps (n + 1))) rest
+    step_steps n is = closed_steps img owner (reached_by walk) depth goal all marks rest top before n
+        (told (look.Steps n) is).0 (told (look.Steps n) is).1
 
-    pub step_loop : (a : ℕ) → look.Loop a ≡ look_from img (reached_by walk) depth marks owner top
-        → IsSurveying img owner (reached_by walk) depth (slice_set marks top (mark.Loop a)) rest
-    step_loop a is = closed_loop img owner (reached_by walk) depth all marks rest top before a (told (look.Loop a) is)
+    pub step_loop : (a : ℕ) → look.Loop a ≡ look_from img folds (reached_by walk) depth goal marks owner top
+        → IsSurveying img owner (reached_by walk) depth goal (slice_set marks top (mark.Loop a)) rest
+    step_loop a is = closed_loop img owner (reached_by walk) depth goal all marks rest top before a
+        (told (look.Loop a) is)
 
-    pub step_on : (next : ℕ) → look.Unseen next ≡ look_from img (reached_by walk) depth marks owner top
-        → IsSurveying img owner (reached_by walk) depth (slice_set marks next mark.Open)
+    pub step_on : (next : ℕ) → look.Unseen next ≡ look_from img folds (reached_by walk) depth goal marks owner top
+        → IsSurveying img owner (reached_by walk) depth goal (slice_set marks next mark.Open)
         ((rest ++ top ∷ []) ++ next ∷ [])
     step_on next is =
-        goes_on_to img owner (reached_by walk) depth all marks rest top before next (told (look.Unseen next) is)
+        goes_on_to img owner (reached_by walk) depth goal all marks rest top before next (told (look.Unseen next) is).0
 
-    pub step_within : (next : ℕ) → look.Unseen next ≡ look_from img (reached_by walk) depth marks owner top
+    pub step_free : (next : ℕ) → look.Unseen next ≡ look_from img folds (reached_by walk) depth goal marks owner top
+        → AllByRecursion Free ((rest ++ top ∷ []) ++ next ∷ [])
+    step_free next is =
+        all_append Free (rest ++ top ∷ []) (next ∷ []) every_one ((told (look.Unseen next) is).1, tt)
+
+    pub next_free : (next : ℕ) → look.Unseen next ≡ look_from img folds (reached_by walk) depth goal marks owner top
+        → Free next
+    next_free next is = (told (look.Unseen next) is).1
+
+    pub step_within : (next : ℕ) → look.Unseen next ≡ look_from img folds (reached_by walk) depth goal marks owner top
         → next < length marks
     step_within next is =
-        next_within img owner (reached_by walk) depth all marks rest top before next (told (look.Unseen next) is)
+        next_within img owner (reached_by walk) depth goal all marks rest top before next
+        (told (look.Unseen next) is).0
 
-    pub step_nearer : (next : ℕ) → look.Unseen next ≡ look_from img (reached_by walk) depth marks owner top
+    pub step_nearer : (next : ℕ) → look.Unseen next ≡ look_from img folds (reached_by walk) depth goal marks owner top
         → 2 * unseen (slice_set marks next mark.Open) + length ((rest ++ top ∷ []) ++ next ∷ [])
         < 2 * unseen marks + length trail
     step_nearer next is =
-        let less = nearer_on img owner (reached_by walk) depth all marks rest top before next
-        (told (look.Unseen next) is) in
+        let less = nearer_on img owner (reached_by walk) depth goal all marks rest top before next
+        (told (look.Unseen next) is).0 in
         omega (arith, less, long)
 
     pub back_nearer : (m : Mark) → IsClosing m
         → 2 * unseen (slice_set marks top m) + length rest < 2 * unseen marks + length trail
     back_nearer m closing =
-        let less = nearer_back img owner (reached_by walk) depth all marks rest top before m closing in
+        let less = nearer_back img owner (reached_by walk) depth goal all marks rest top before m closing in
         omega (arith, less, long)
 
     -- no number of steps wraps
     pub steps_fit : IsWithinLimits img → (n : ℕ)
-        → look.Steps n ≡ look_from img (reached_by walk) depth marks owner top → n + 1 < 2 ^ 32
+        → look.Steps n ≡ look_from img folds (reached_by walk) depth goal marks owner top → n + 1 < 2 ^ 32
     steps_fit limits n is =
         let room = (told (look.Steps n) is).1 in
         let size = before.size in
@@ -118,12 +148,14 @@ pub loop_closes : (a : ℕ) → IsClosing (mark.Loop a)
 loop_closes a = ((λ e. cc), (λ e. cc))
 
 -- a survey by its parts
-pub same_survey : (img : Image) (owner : Owner) (walk : Walk) (d e : ℕ) (m n : List Mark) (t u : List ℕ) → e ≡ d
-    → n ≡ m → u ≡ t → IsSurveying img owner (reached_by walk) d m t → IsSurveying img owner (reached_by walk) e n u
-same_survey img owner walk d e m n t u same_d same_m same_t on =
-    subst (λ k. IsSurveying img owner (reached_by walk) k n u) (sym same_d)
-    (subst (λ (ms : List Mark). IsSurveying img owner (reached_by walk) d ms u) (sym same_m)
-    (subst (IsSurveying img owner (reached_by walk) d m) (sym same_t) on))
+pub same_survey : (img : Image) (owner : Owner) (walk : Walk) (d e : ℕ) (g h : Option ℕ) (m n : List Mark) (t u : List ℕ)
+    → e ≡ d → h ≡ g → n ≡ m → u ≡ t → IsSurveying img owner (reached_by walk) d g m t
+    → IsSurveying img owner (reached_by walk) e h n u
+same_survey img owner walk d e g h m n t u same_d same_g same_m same_t on =
+    subst (λ k. IsSurveying img owner (reached_by walk) k h n u) (sym same_d)
+    (subst (λ (k : Option ℕ). IsSurveying img owner (reached_by walk) d k n u) (sym same_g)
+    (subst (λ (ms : List Mark). IsSurveying img owner (reached_by walk) d g ms u) (sym same_m)
+    (subst (IsSurveying img owner (reached_by walk) d g m) (sym same_t) on)))
 
 pub same_measure : (m n : List Mark) (t u : List ℕ) (k : ℕ) → n ≡ m → u ≡ t → 2 * unseen m + length t < k
     → 2 * unseen n + length u < k
@@ -135,11 +167,73 @@ same_measure m n t u k same_m same_t less =
 pub same_seen : (m n : List Mark) (a : ℕ) → n ≡ m → IsSeen m a → IsSeen n a
 same_seen m n a same seen = subst (λ (ms : List Mark). IsSeen ms a) (sym same) seen
 
--- a new survey has nothing on its trail
+-- all that is on a trail may be looked at, where it is the same trail
+pub moved_free : (img : Image) (owner : Owner) (reached : Reached) (last d e : ℕ) (g h : Option ℕ) (t u : List ℕ)
+    → e ≡ d → h ≡ g → u ≡ t → AllByRecursion (IsFree img owner reached d g last) t
+    → AllByRecursion (IsFree img owner reached e h last) u
+moved_free img owner reached last d e g h t u same_d same_g same all =
+    subst (AllByRecursion (IsFree img owner reached e h last)) (sym same)
+    (subst (λ n. AllByRecursion (IsFree img owner reached n h last) t) (sym same_d)
+    (subst (λ (o : Option ℕ). AllByRecursion (IsFree img owner reached d o last) t) (sym same_g) all))
+
+-- where it is the start alone
+pub free_on : (img : Image) (owner : Owner) (reached : Reached) (last d e : ℕ) (g h : Option ℕ) (start : ℕ)
+    (t u : List ℕ) → e ≡ d → h ≡ g → t ≡ [] → u ≡ t ++ start ∷ [] → IsFree img owner reached d g last start
+    → AllByRecursion (IsFree img owner reached e h last) u
+free_on img owner reached last d e g h start t u same_d same_g empty same free =
+    moved_free img owner reached last d e g h (start ∷ []) u same_d same_g
+    (same ∙ ap (λ (xs : List ℕ). xs ++ start ∷ []) empty) (free, tt)
+
+-- marks that keep all but some, with one set of those
+abbrev pub KeepsBut : (ℕ → Type 0) → List Mark → List Mark → Type 0
+KeepsBut P old new = (a : ℕ) → (slice_get new a ≡ slice_get old a) ⊎ P a
+
+pub keeps_set : (P : ℕ → Type 0) (old new changed : List Mark) (i : ℕ) (m : Mark) → changed ≡ slice_set new i m → P i
+    → KeepsBut P old new → KeepsBut P old changed
+keeps_set P old new changed i m is here kept a = ⊎_elim
+    (λ same. inr (subst P same here))
+    (λ apart. ⊎_elim
+    (λ keeps. inl (ap (λ (ms : List Mark). slice_get ms a) is ∙ set_apart new i a m apart ∙ keeps))
+    (λ free. inr free)
+    (kept a))
+    (cases_eq i a)
+
+pub keeps_all : (P : ℕ → Type 0) (marks : List Mark) → KeepsBut P marks marks
+keeps_all P marks a = inl refl
+
+-- a survey of which nothing is known has nothing on its trail
+pub blank_surveyed : (img : Image) (owner : Owner) (walk : Walk) (s : Survey) → IsBlank img s → IsSurveyed img owner walk s
+blank_surveyed img owner walk s blank = record {
+  empty = blank.trail;
+  surveying = blank_survey img owner (reached_by walk) s.depth s.goal s.marks.items blank.size blank.unseen;
+}
+
+pub new_blank : (img : Image) (count depth : ℕ) (s : Survey) → count ≡ length img.code → IsNewSurvey count depth s
+    → IsBlank img s
+new_blank img count depth s size new = record {
+  trail = new.trail;
+  size = ap length new.marks ∙ length-replicate count mark.Unseen ∙ size;
+  unseen = λ a m is. new_marks count a m (ap (λ (ms : List Mark). slice_get ms a) (sym new.marks) ∙ is);
+}
+
 pub new_surveyed : (img : Image) (owner : Owner) (walk : Walk) (count depth : ℕ) (s : Survey)
     → count ≡ length img.code → IsNewSurvey count depth s → IsSurveyed img owner walk s
-new_surveyed img owner walk count depth s size new = record {
-  empty = new.trail;
-  surveying = subst (λ (ms : List Mark). IsSurveying img owner (reached_by walk) s.depth ms []) (sym new.marks)
-      (new_survey img owner (reached_by walk) s.depth count size (length-replicate count mark.Unseen));
-}
+new_surveyed img owner walk count depth s size new = blank_surveyed img owner walk s (new_blank img count depth s size new)
+
+-- marks with one forgotten
+pub same_length : (old new : List Mark) (i : ℕ) (m : Mark) → new ≡ slice_set old i m → length new ≡ length old
+same_length old new i m is = ap length is ∙ length-set old i m
+
+pub gone_more : (old new : List Mark) (first k : ℕ) → new ≡ slice_set old k mark.Unseen → k < length old
+    → ((a : ℕ) → first ≤ a → a < k → slice_get old a ≡ Some mark.Unseen) → (a : ℕ) → first ≤ a → a < k + 1
+    → slice_get new a ≡ Some mark.Unseen
+gone_more old new first k is within before a low less = ⊎_elim
+    (λ same. ap (λ (ms : List Mark). slice_get ms a) is ∙ ap (slice_get (slice_set old k mark.Unseen)) (sym same)
+    ∙ set_here old k mark.Unseen within)
+    (λ apart. ap (λ (ms : List Mark). slice_get ms a) is ∙ set_apart old k a mark.Unseen apart
+    ∙ before a low (omega (arith, less, apart)))
+    (cases_eq k a)
+
+pub kept_more : (old new : List Mark) (k : ℕ) → new ≡ slice_set old k mark.Unseen → (a : ℕ) → k ≢ a
+    → slice_get new a ≡ slice_get old a
+kept_more old new k is a apart = ap (λ (ms : List Mark). slice_get ms a) is ∙ set_apart old k a mark.Unseen apart

@@ -1,6 +1,6 @@
 -- A survey, from one step to the next.
-use Rattle.std.proofs.Common.{◌≡◌, ◌≢◌, ◌⊎◌, ◌≤◌, ◌<◌, ◌+◌, ◌*◌, ℕ, suc, List, [], ◌∷◌, ◌++◌, length, slice_get}
-use Rattle.std.proofs.Common.{slice_set, replicate, Option, Some, unwrap_or, sym, ap, subst, ◌∙◌, inl, inr}
+use Rattle.std.proofs.Common.{◌≡◌, ◌≢◌, ◌⊎◌, ◌≤◌, ◌<◌, ◌+◌, ◌*◌, ℕ, List, [], ◌∷◌, ◌++◌, length, slice_get}
+use Rattle.std.proofs.Common.{slice_set, Option, Some, unwrap_or, sym, ap, subst, ◌∙◌, inl, inr}
 use Rattle.std.proofs.Common.{⊎_elim, arith, length-append, length-set}
 use Rattle.std.specs.List.{Contains}
 use Rattle.std.proofs.lemmas.Bool.{cases_eq}
@@ -11,16 +11,14 @@ use Rattle.rt_points.specs.Point.{Point}
 use Rattle.rt_points.specs.declared.point.Owner.{Owner}
 use Rattle.rt_judge.specs.Inside.Walks.{Reached}
 use Rattle.rt_judge.proofs.Seen.{all_front, all_last}
-use Rattle.rt_bounds.specs.Bounds.{IsLongestFrom}
-use Rattle.rt_bounds.specs.Inside.Surveys.{IsThere, IsRight, HasRoom, IsSurveying, IsTrail, point_at, mark_at, unseen}
-use Rattle.rt_bounds.specs.Inside.Surveys.{IsSeen}
-use Rattle.rt_bounds.specs.Ways.{Way, Stops, Goes_on, ComesToLoop}
+use Rattle.rt_bounds.specs.Inside.Aheads.{IsMostAhead, IsEndlessAhead}
+use Rattle.rt_bounds.specs.Inside.Surveys.{IsHop, IsThere, IsRight, HasRoom, IsSurveying, IsTrail, point_at, mark_at}
+use Rattle.rt_bounds.specs.Inside.Surveys.{IsSeen, unseen}
+use Rattle.rt_bounds.specs.declared.longest.TheConstants.{MOST_STEPS}
 use Rattle.rt_bounds.specs.declared.survey.Mark.{Mark}
 use Rattle.rt_bounds.specs.declared.survey.Mark.TheVariants as mark
-use Rattle.rt_bounds.specs.declared.survey.Look.TheVariants as look
 use Rattle.rt_bounds.proofs.Grounds.{HasAll, at_within}
-use Rattle.rt_bounds.proofs.Looking.{IsMost, Tells}
-use Rattle.rt_bounds.proofs.Marks.{set_here, set_apart, no_more_unseen, one_fewer, new_marks, few_unseen}
+use Rattle.rt_bounds.proofs.Marks.{set_here, set_apart, no_more_unseen, one_fewer, few_unseen}
 use Rattle.rt_bounds.proofs.Trails.{trail_front, trail_more}
 
 abbrev Marks : Type 0
@@ -53,15 +51,15 @@ room_more marks new trail less (mark.Loop a) size fewer room = tt
 abbrev pub IsClosing : Mark → Type 0
 IsClosing m = (m ≢ mark.Unseen) × (m ≢ mark.Open)
 
-module _ (img : Image) (owner : Owner) (reached : Reached) (depth : ℕ) where
+module _ (img : Image) (owner : Owner) (reached : Reached) (depth : ℕ) (goal : Option ℕ) where
   abbrev at : ℕ → Point
   at a = point_at owner reached a
 
   -- an address is looked at to the end
   pub closed : (marks : Marks) (rest : List ℕ) (top : ℕ) (m : Mark)
-      → IsSurveying img owner reached depth marks (rest ++ top ∷ []) → IsClosing m → IsRight img depth (at top) m
+      → IsSurveying img owner reached depth goal marks (rest ++ top ∷ []) → IsClosing m → IsRight img depth goal (at top) m
       → HasRoom (slice_set marks top m) rest m
-      → IsSurveying img owner reached depth (slice_set marks top m) rest
+      → IsSurveying img owner reached depth goal (slice_set marks top m) rest
   closed marks rest top m before closing right room =
       let within : top < length marks = all_last (λ a. a < length marks) rest top before.within in
       let size = length-set marks top m in
@@ -73,7 +71,7 @@ module _ (img : Image) (owner : Owner) (reached : Reached) (depth : ℕ) where
       record {
         size = size ∙ before.size;
         right = λ a n is. ⊎_elim
-            (λ here. subst (λ k. IsRight img depth (at k) n) here.0 (subst (IsRight img depth (at top)) here.1 right))
+            (λ here. subst (λ k. IsRight img depth goal (at k) n) here.0 (subst (IsRight img depth goal (at top)) here.1 right))
             (λ there. before.right a n there.1)
             (set_cases marks top a m n within is);
         room = λ a n is. ⊎_elim
@@ -87,18 +85,19 @@ module _ (img : Image) (owner : Owner) (reached : Reached) (depth : ℕ) where
             (λ there. ⊎_elim (λ front. front) (λ same. absurd (there.0 same))
             (Contains-push_cases rest top a (before.opened a there.1)))
             (set_cases marks top a m mark.Open within is);
-        leads = trail_front img depth owner reached rest top before.leads;
+        leads = trail_front img depth goal owner reached rest top before.leads;
         there = all_front (IsThere reached) rest top before.there;
+        aside = all_front (λ a. goal ≢ Some a) rest top before.aside;
         within = all_weaker (λ a. a < length marks) (λ a. a < length (slice_set marks top m))
             (λ a h. omega (arith, h, size)) rest (all_front (λ a. a < length marks) rest top before.within);
       }
 
   -- an address is put on the trail
-  pub put_on : (marks : Marks) (trail : List ℕ) (next : ℕ) → IsSurveying img owner reached depth marks trail
+  pub put_on : (marks : Marks) (trail : List ℕ) (next : ℕ) → IsSurveying img owner reached depth goal marks trail
       → next < length marks → mark_at marks next ≡ mark.Unseen → IsThere reached next
-      → IsTrail img depth owner reached (trail ++ next ∷ [])
-      → IsSurveying img owner reached depth (slice_set marks next mark.Open) (trail ++ next ∷ [])
-  put_on marks trail next before within is here leads =
+      → goal ≢ Some next → IsTrail img depth goal owner reached (trail ++ next ∷ [])
+      → IsSurveying img owner reached depth goal (slice_set marks next mark.Open) (trail ++ next ∷ [])
+  put_on marks trail next before within is here apart leads =
       let size = length-set marks next mark.Open in
       let fewer = one_fewer marks next within is in
       let long = length-append trail (next ∷ []) in
@@ -108,7 +107,7 @@ module _ (img : Image) (owner : Owner) (reached : Reached) (depth : ℕ) where
       record {
         size = size ∙ before.size;
         right = λ a n got. ⊎_elim
-            (λ here_now. subst (IsRight img depth (at a)) here_now.1 tt)
+            (λ here_now. subst (IsRight img depth goal (at a)) here_now.1 tt)
             (λ there. before.right a n there.1)
             (set_cases marks next a mark.Open n within got);
         room = λ a n got. ⊎_elim
@@ -123,70 +122,57 @@ module _ (img : Image) (owner : Owner) (reached : Reached) (depth : ℕ) where
             (set_cases marks next a mark.Open mark.Open within got);
         leads = leads;
         there = all_append (IsThere reached) trail (next ∷ []) before.there (here, tt);
+        aside = all_append (λ a. goal ≢ Some a) trail (next ∷ []) before.aside (apart, tt);
         within = all_append (λ a. a < length (slice_set marks next mark.Open)) trail (next ∷ [])
             (all_weaker (λ a. a < length marks) (λ a. a < length (slice_set marks next mark.Open))
             (λ a h. omega (arith, h, size)) trail before.within)
             (omega (arith, within, size), tt);
       }
 
-  -- the longest way, from the longest of those behind
-  pub longest_here : (p : Point) (n : ℕ) → IsMost img depth p (λ a. Unit {0}) n → IsLongestFrom img depth p (suc n)
-  longest_here p n most = record {
-    way = ⊎_elim
-        (λ none. subst (λ k. Way img depth p (suc k)) (sym none) (Stops p))
-        (λ one. Goes_on p one.0 n one.1 one.2)
-        most.some;
-    most = longest p n most;
-  }
-    where
-      longest : (p : Point) (n : ℕ) → IsMost img depth p (λ a. Unit {0}) n → (m : ℕ) → Way img depth p m → m ≤ suc n
-      longest p n most one (Stops same) = omega arith
-      longest p n most more (Goes_on same q m goes way) = let h = most.all q m tt goes way in omega (arith, h)
-
-  -- what a look tells, as a mark
+  -- what was found of the top of the trail
   module _ (mapped : HasAll img owner reached) (marks : Marks) (rest : List ℕ) (top : ℕ)
-      (before : IsSurveying img owner reached depth marks (rest ++ top ∷ [])) where
+      (before : IsSurveying img owner reached depth goal marks (rest ++ top ∷ [])) where
     abbrev used : ℕ
     used = length (rest ++ top ∷ []) + unseen marks
 
-    pub closed_steps : (n : ℕ) → Tells img depth owner reached marks used (at top) (λ a. Unit {0}) (look.Steps n)
-        → IsSurveying img owner reached depth (slice_set marks top (mark.Steps (n + 1))) rest
-    closed_steps n tells =
-        let one : suc n ≡ n + 1 = omega arith in
+    pub closed_steps : (n : ℕ) → IsMostAhead img depth goal (at top) (n + 1) → n + used ≤ MOST_STEPS + length marks
+        → IsSurveying img owner reached depth goal (slice_set marks top (mark.Steps (n + 1))) rest
+    closed_steps n most room =
         let size = length-set marks top (mark.Steps (n + 1)) in
         let other : IsClosing (mark.Steps (n + 1)) = ((λ e. cc), (λ e. cc)) in
         let less = no_more_unseen marks top (mark.Steps (n + 1)) other.0 in
         let long = length-append rest (top ∷ []) in
-        let room = tells.1 in
-        closed marks rest top (mark.Steps (n + 1)) before other
-        (subst (IsLongestFrom img depth (at top)) one (longest_here (at top) n tells.0))
-        (omega (arith, size, less, long, room))
+        closed marks rest top (mark.Steps (n + 1)) before other most (omega (arith, size, less, long, room))
 
-    pub closed_loop : (a : ℕ) → ComesToLoop img depth (at top) a
-        → IsSurveying img owner reached depth (slice_set marks top (mark.Loop a)) rest
+    pub closed_loop : (a : ℕ) → IsEndlessAhead img depth goal (at top) a
+        → IsSurveying img owner reached depth goal (slice_set marks top (mark.Loop a)) rest
     closed_loop a loop = closed marks rest top (mark.Loop a) before ((λ e. cc), (λ e. cc)) loop tt
 
-    pub goes_on_to : (next : ℕ)
-        → Tells img depth owner reached marks used (at top) (λ a. Unit {0}) (look.Unseen next)
-        → IsSurveying img owner reached depth (slice_set marks next mark.Open) ((rest ++ top ∷ []) ++ next ∷ [])
-    goes_on_to next tells =
-        put_on marks (rest ++ top ∷ []) next before
-        (let w = at_within img owner reached mapped next tells.1 in let size = before.size in omega (arith, w, size))
-        tells.2 tells.1 (trail_more img depth owner reached rest top next before.leads tells.0)
+    -- what is to be looked at first
+    pub record IsNext (next : ℕ) : Type 0 where
+      pub hop : IsHop img depth goal (at top) (at next)
+      pub there : IsThere reached next
+      pub unseen : mark_at marks next ≡ mark.Unseen
+      pub apart : goal ≢ Some next
 
-    pub next_within : (next : ℕ)
-        → Tells img depth owner reached marks used (at top) (λ a. Unit {0}) (look.Unseen next)
-        → next < length marks
-    next_within next tells =
-        let w = at_within img owner reached mapped next tells.1 in let size = before.size in omega (arith, w, size)
+    pub goes_on_to : (next : ℕ) → IsNext next
+        → IsSurveying img owner reached depth goal (slice_set marks next mark.Open) ((rest ++ top ∷ []) ++ next ∷ [])
+    goes_on_to next is =
+        put_on marks (rest ++ top ∷ []) next before
+        (let w = at_within img owner reached mapped next is.there in
+        let size = before.size in omega (arith, w, size))
+        is.unseen is.there is.apart (trail_more img depth goal owner reached rest top next before.leads is.hop)
+
+    pub next_within : (next : ℕ) → IsNext next → next < length marks
+    next_within next is =
+        let w = at_within img owner reached mapped next is.there in let size = before.size in omega (arith, w, size)
 
     -- each step is nearer to the end
-    pub nearer_on : (next : ℕ)
-        → Tells img depth owner reached marks used (at top) (λ a. Unit {0}) (look.Unseen next)
+    pub nearer_on : (next : ℕ) → IsNext next
         → 2 * unseen (slice_set marks next mark.Open) + length ((rest ++ top ∷ []) ++ next ∷ [])
         < 2 * unseen marks + length (rest ++ top ∷ [])
-    nearer_on next tells =
-        let fewer = one_fewer marks next (next_within next tells) tells.2 in
+    nearer_on next is =
+        let fewer = one_fewer marks next (next_within next is) is.unseen in
         let long = length-append (rest ++ top ∷ []) (next ∷ []) in
         omega (arith, fewer, long)
 
@@ -198,21 +184,23 @@ module _ (img : Image) (owner : Owner) (reached : Reached) (depth : ℕ) where
         omega (arith, less, long)
 
   -- with nothing on the trail
-  pub begun : (marks : Marks) (start : ℕ) → IsSurveying img owner reached depth marks [] → start < length marks
-      → mark_at marks start ≡ mark.Unseen → IsThere reached start
-      → IsSurveying img owner reached depth (slice_set marks start mark.Open) (start ∷ [])
-  begun marks start before within is here = put_on marks [] start before within is here tt
+  pub begun : (marks : Marks) (start : ℕ) → IsSurveying img owner reached depth goal marks [] → start < length marks
+      → mark_at marks start ≡ mark.Unseen → IsThere reached start → goal ≢ Some start
+      → IsSurveying img owner reached depth goal (slice_set marks start mark.Open) (start ∷ [])
+  begun marks start before within is here apart = put_on marks [] start before within is here apart tt
 
-  pub new_survey : (count : ℕ) → count ≡ length img.code → length (replicate count mark.Unseen) ≡ count
-      → IsSurveying img owner reached depth (replicate count mark.Unseen) []
-  new_survey count size long = record {
-    size = long ∙ size;
-    right = λ a m is. subst (IsRight img depth (at a)) (sym (new_marks count a m is)) tt;
-    room = λ a m is. subst (HasRoom (replicate count mark.Unseen) []) (sym (new_marks count a m is)) tt;
-    room_left = let few = few_unseen (replicate count mark.Unseen) in omega (arith, few);
-    opened = λ a is. absurd (let e = new_marks count a mark.Open is in cc);
+  -- where nothing was looked at
+  pub blank_survey : (marks : Marks) → length marks ≡ length img.code
+      → ((a : ℕ) (m : Mark) → slice_get marks a ≡ Some m → m ≡ mark.Unseen) → IsSurveying img owner reached depth goal marks []
+  blank_survey marks size none = record {
+    size = size;
+    right = λ a m is. subst (IsRight img depth goal (at a)) (sym (none a m is)) tt;
+    room = λ a m is. subst (HasRoom marks []) (sym (none a m is)) tt;
+    room_left = let few = few_unseen marks in omega (arith, few);
+    opened = λ a is. absurd (let e = none a mark.Open is in cc);
     leads = tt;
     there = tt;
+    aside = tt;
     within = tt;
   }
 

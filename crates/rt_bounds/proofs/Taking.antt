@@ -1,6 +1,6 @@
 -- One address more, at which an owner enters a section or not.
 use Rattle.std.proofs.Common.{◌≡◌, ◌≤◌, ◌+◌, ◌^◌, ℕ, List, [], ◌∷◌, map, length, slice_get, if◌then◌else◌, Bool}
-use Rattle.std.proofs.Common.{true, false, Option, Some, unwrap_or, refl, sym, ap, subst, ◌∙◌, arith}
+use Rattle.std.proofs.Common.{true, false, Option, Some, None, unwrap_or, refl, sym, ap, subst, ◌∙◌, arith}
 use Rattle.std.specs.List.{AllByRecursion}
 use Rattle.rt_ids.specs.Priority.{hardware}
 use Rattle.rt_code.specs.Image.{Image}
@@ -16,12 +16,14 @@ use Rattle.rt_judge.specs.declared.walk.Walk.{Walk}
 use Rattle.rt_bounds.specs.Bounds.{IsBoundFrom, IsOwnersBound, depth_inside}
 use Rattle.rt_bounds.specs.Inside.Gathered.{EntersAt, EntersNoneAt, EntersNothing, IsGatheredTo, ArePriorities}
 use Rattle.rt_bounds.specs.Inside.Gathered.{rows_with, held, holds_off, worst, AreOwn, AreWaitsSoFar}
+use Rattle.rt_bounds.specs.Inside.Aheads.{IsAhead}
 use Rattle.rt_bounds.specs.Inside.Ground.{IsMapped}
 use Rattle.rt_bounds.specs.Inside.Surveys.{IsThere, point_at}
 use Rattle.rt_bounds.specs.declared.bound.WaitBound.{WaitBound}
 use Rattle.rt_bounds.specs.declared.gathered.Entry.{Entry}
 use Rattle.rt_bounds.specs.declared.gathered.Gathered.{Gathered}
 use Rattle.rt_bounds.specs.declared.longest.Longest.{Longest}
+use Rattle.rt_bounds.proofs.Aheads.{bound_of}
 use Rattle.rt_bounds.proofs.Grounds.{at_is, at_point, is_at}
 use Rattle.rt_bounds.proofs.Mapped.{has_all}
 use Rattle.rt_bounds.proofs.Rows.{own_more, own_skip, waits_more, waits_skip}
@@ -104,16 +106,18 @@ pub priorities_stay : (bits : ℕ) (old new : List WaitBound)
 priorities_stay bits old new same all =
     are_numbers bits new (subst (AllByRecursion (IsPriorityNumber bits)) (sym same) (numbers_are bits old all))
 
-pub at_depth : (img : Image) (p : Point) (longest : Longest) (d e : ℕ) → d ≡ e → IsBoundFrom img d p longest
-    → IsBoundFrom img e p longest
-at_depth img p longest d e same bound = subst (λ k. IsBoundFrom img k p longest) same bound
+-- what is found of ways to no goal is a bound
+pub bound_at : (img : Image) (p : Point) (longest : Longest) (d e : ℕ) (goal : Option ℕ) → d ≡ e → goal ≡ None
+    → IsAhead img d goal p longest → IsBoundFrom img e p longest
+bound_at img p longest d e goal same none ahead = bound_of img e p longest
+    (subst (λ (g : Option ℕ). IsAhead img e g p longest) none (subst (λ k. IsAhead img k goal p longest) same ahead))
 
 -- a bound from where an owner begins
-pub begins_at : (img : Image) (owner : Owner) (walk : Walk) (entry depth : ℕ) → depth ≡ 0
-    → reached_by walk entry ≡ Some [] → (longest : Longest)
-    → IsBoundFrom img depth (point_at owner (reached_by walk) entry) longest
+pub begins_at : (img : Image) (owner : Owner) (walk : Walk) (entry depth : ℕ) (goal : Option ℕ) → depth ≡ 0
+    → goal ≡ None → reached_by walk entry ≡ Some [] → (longest : Longest)
+    → IsAhead img depth goal (point_at owner (reached_by walk) entry) longest
     → IsOwnersBound img entry owner longest
-begins_at img owner walk entry depth none begins longest bound =
+begins_at img owner walk entry depth goal none no_goal begins longest ahead =
     subst (λ (p : Point). IsBoundFrom img 0 p longest)
     (ap (λ (o : Option (List Opened)). point entry owner (unwrap_or o [])) begins)
-    (at_depth img (point_at owner (reached_by walk) entry) longest depth 0 none bound)
+    (bound_at img (point_at owner (reached_by walk) entry) longest depth 0 goal none no_goal ahead)

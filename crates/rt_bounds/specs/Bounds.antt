@@ -1,7 +1,8 @@
 -- Bounds of an image that keeps the seven rules, in core steps, and the stack that it needs: the longest way of `init`
 -- and of each handler, and from the entering to the leaving of each section; and for each priority value the longest
 -- section that may hold it off, which is worst-case blocking (Baker, Stack-Based Scheduling of Realtime Processes,
--- 1991), read off the code. Where a way comes to a loop there is no longest way.
+-- 1991), read off the code. On a way loops that count turn no more often than they do. Where it comes to another loop
+-- there is no longest way.
 use Rattle.std.specs.Prelude.{◌≡◌, ◌⊎◌, ℕ, suc, ◌≤◌, ◌<◌, ◌^◌, ◌==◌, ◌&&◌, nat_le, Bool, List, [], ◌∷◌, map, length}
 use Rattle.std.specs.Prelude.{Option, Some, None, is_some}
 use Rattle.std.specs.List.{AllByRecursion, Contains, list_any}
@@ -18,7 +19,9 @@ use Rattle.rt_points.specs.declared.point.Owner.{Owner}
 use Rattle.rt_points.specs.declared.point.Owner.TheVariants.{Starting, Thread, Handling}
 use Rattle.rt_points.specs.Rules.{EntersAt, priority_after}
 use Rattle.rt_points.specs.Stack.{handlers, stack_need}
-use Rattle.rt_bounds.specs.Ways.{Way, ComesToLoop}
+use Rattle.rt_bounds.specs.CountedWays.{FreshWay}
+use Rattle.rt_bounds.specs.Ways.{ComesToLoop}
+use Rattle.rt_bounds.specs.declared.longest.TheConstants.{MOST_STEPS}
 use Rattle.rt_bounds.specs.declared.longest.Longest.{Longest}
 use Rattle.rt_bounds.specs.declared.longest.Longest.TheVariants.{Steps, Loop}
 use Rattle.rt_bounds.specs.declared.bound.HandlerBound.{HandlerBound}
@@ -28,13 +31,18 @@ use Rattle.rt_bounds.specs.declared.bound.Bounds.{Bounds}
 
 -- the longest way from a point on has so many steps
 pub record IsLongestFrom (img : Image) (depth : ℕ) (p : Point) (steps : ℕ) : Type 0 where
-  pub way : Way img depth p steps
-  pub most : (n : ℕ) → Way img depth p n → n ≤ steps
+  pub way : FreshWay img depth p steps
+  pub most : (n : ℕ) → FreshWay img depth p n → n ≤ steps
+
+-- from a point on there is no longest way, or one of more steps than are told, and a loop is come to at this address
+pub record IsEndless (img : Image) (depth : ℕ) (p : Point) (address : ℕ) : Type 0 where
+  pub loop : ComesToLoop img depth p address
+  pub long : FreshWay img depth p (suc MOST_STEPS)
 
 -- the bound of what begins at a point: the longest way, or the address of a loop that is come to
 abbrev pub IsBoundFrom : Image → ℕ → Point → Longest → Type 0
 IsBoundFrom img depth p (Steps n) = IsLongestFrom img depth p n
-IsBoundFrom img depth p (Loop a) = ComesToLoop img depth p a
+IsBoundFrom img depth p (Loop a) = IsEndless img depth p a
 
 -- what begins where an owner does, with nothing open
 abbrev pub IsOwnersBound : Image → ℕ → Owner → Longest → Type 0
@@ -54,14 +62,14 @@ depth_inside p = suc (length p.inside)
 pub record IsLongestSection (img : Image) (Entered : Point → Type 0) (steps : ℕ) : Type 0 where
   pub point : Point
   pub entered : Entered point
-  pub way : Way img (depth_inside point) point steps
-  pub most : (p : Point) (n : ℕ) → Entered p → Way img (depth_inside p) p n → n ≤ steps
+  pub way : FreshWay img (depth_inside point) point steps
+  pub most : (p : Point) (n : ℕ) → Entered p → FreshWay img (depth_inside p) p n → n ≤ steps
 
--- from a point at which such a section is entered a loop is come to before it is left
+-- from a point at which such a section is entered there is no longest way to where it is left
 pub record HasLoopInside (img : Image) (Entered : Point → Type 0) (address : ℕ) : Type 0 where
   pub point : Point
   pub entered : Entered point
-  pub loop : ComesToLoop img (depth_inside point) point address
+  pub endless : IsEndless img (depth_inside point) point address
 
 -- the bound of sections that are entered at these points
 abbrev pub IsSectionBound : Image → (Point → Type 0) → Longest → Type 0

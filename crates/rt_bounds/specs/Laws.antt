@@ -12,16 +12,28 @@ use Rattle.rt_points.specs.Leading.{StandsAt, handler_at, starts_at}
 use Rattle.rt_points.specs.Point.{Point}
 use Rattle.rt_points.specs.Rules.{EntersAt}
 use Rattle.rt_points.specs.declared.point.Owner.TheVariants.{Starting, Handling}
-use Rattle.rt_bounds.specs.Bounds.{IsLongestFrom, IsOwnersBound, depth_inside}
+use Rattle.rt_bounds.specs.Bounds.{IsEndless, IsLongestFrom, IsOwnersBound, depth_inside}
+use Rattle.rt_bounds.specs.Counting.{CountingLoop}
+use Rattle.rt_bounds.specs.CountedWays.{CountedWay, Left}
 use Rattle.rt_bounds.specs.Ways.{Goes, Way, ComesToLoop}
 use Rattle.rt_bounds.specs.declared.longest.Longest.TheVariants.{Steps}
+use Rattle.rt_bounds.specs.declared.longest.TheConstants.{MOST_STEPS}
 
--- where a loop is come to, there are ways of any number of steps, and none is the longest; a longest way is one
+-- where a loop is come to, there are ways of any number of steps, loops that count left aside; and where loops that
+-- count turn no more often than they do, no longest way of a number of steps that is told is one where there is none
 pub record LoopsHaveNoBound : Type 0 where
   pub any : (img : Image) (depth : ℕ) (p : Point) (address : ℕ) → ComesToLoop img depth p address → (n : ℕ)
       → (m : ℕ) × (n ≤ m) × Way img depth p m
-  pub none : (img : Image) (depth : ℕ) (p : Point) (address steps : ℕ) → ComesToLoop img depth p address
-      → ¬ IsLongestFrom img depth p steps
+  pub none : (img : Image) (depth : ℕ) (p : Point) (address steps : ℕ) → steps ≤ MOST_STEPS
+      → IsEndless img depth p address → ¬ IsLongestFrom img depth p steps
+
+-- A way on which loops that count turn no more often than they do is a way; and where they may turn more often, it is one
+-- on which they do not.
+pub record CountedWaysAreWays : Type 0 where
+  pub way : (img : Image) (depth : ℕ) (left : Left) (p : Point) (n : ℕ) → CountedWay img depth left p n
+      → Way img depth p n
+  pub more : (img : Image) (depth : ℕ) (left other : Left) (p : Point) (n : ℕ) → ((c : CountingLoop) → left c ≤ other c)
+      → CountedWay img depth left p n → CountedWay img depth other p n
 
 -- a way of so many steps from a point on, with the point of its last step
 pub data WayTo (img : Image) (depth : ℕ) : Point → ℕ → Point → Type 0 where

@@ -1,6 +1,6 @@
 // The one public call for images: their bounds.
 
-ghost use Rattle.std.specs.Prelude.{◌≡◌, ◌≤◌, ◌+◌, ◌^◌, ◌++◌, ◌∷◌, [], List, Some, map, IfOk, OnOk};
+ghost use Rattle.std.specs.Prelude.{◌≡◌, ◌≤◌, ◌+◌, ◌^◌, ◌++◌, ◌∷◌, [], List, Some, map, length, IfOk, OnOk};
 ghost use Rattle.std.specs.List.{list_any};
 ghost use Rattle.rt_points.specs.Checked.{IsChecked};
 ghost use Rattle.rt_points.specs.Leading.{handler_at};
@@ -8,40 +8,68 @@ ghost use Rattle.rt_points.specs.Limits.{IsWithinLimits};
 ghost use Rattle.rt_points.specs.declared.point.Owner.{Owner as OwnerView};
 ghost use Rattle.rt_judge.specs.Inside.Walks.{reached_by};
 ghost use Rattle.rt_bounds.specs.Bounds as spec;
+ghost use Rattle.rt_bounds.specs.Holding.{BeginsAt};
+ghost use Rattle.rt_bounds.specs.Inside.Aheads.{AreFolds};
 ghost use Rattle.rt_bounds.specs.Inside.Gathered.{AreEarlier, IsGathered, ArePriorities};
 ghost use Rattle.rt_bounds.specs.Inside.Ground.{IsMapped};
+ghost use Rattle.rt_bounds.specs.Inside.Sources.{AreStarts};
 ghost use Rattle.rt_bounds.specs.Inside.Whole as whole;
 
 use crate::bound::{Bounds, HandlerBound, WaitBound};
+use crate::folds::{Fold, folds_of};
 use crate::gathered::Gathered;
 use crate::ground::walk_from;
 use crate::longest::Longest;
+use crate::sources::{add_lines, begun, starts_at, thread_starts};
 use crate::survey::Survey;
 use rt_code::{Handler, Image, IrqRow};
 use rt_ids::{NoMemory, Prio};
 use rt_judge::execution_priority::handler_at;
 use rt_judge::numbers::stack_need;
 use rt_judge::verdict::start;
-use rt_judge::walk::{Visits, Walk};
+use rt_judge::walk::{Visit, Visits, Walk};
 use rt_points::Owner;
 use std::alloc::Global;
+
+/// The folds of all loops of an owner's code that count, which begins at these visits.
+fn folds_from(
+    alloc: Global,
+    image: &Image,
+    walk: &Walk,
+    owner: Owner,
+    starts: &[Visit],
+) -> Result<Vec<Option<Fold>>, NoMemory>
+    requires checked { IsChecked image.now }
+    requires limits { IsWithinLimits image.now }
+    requires mapped { IsMapped image.now owner walk.now }
+    requires starts { AreStarts image.now owner starts.now }
+    ensures { IfOk result (λ folds. AreFolds image.now owner (reached_by walk.now) (length image.now.code)
+        folds.items) }
+{
+    let mut sources = begun(alloc, image, starts)?;
+    add_lines(&mut sources, image, walk, owner);
+    folds_of(alloc, image, walk, owner, &sources)
+}
 
 /// The bound of an owner's code from where it begins.
 fn owners_bound(
     alloc: Global,
     image: &Image,
     walk: &Walk,
+    folds: &[Option<Fold>],
     owner: Owner,
     entry: u32,
 ) -> Result<Longest, NoMemory>
     requires checked { IsChecked image.now }
     requires limits { IsWithinLimits image.now }
     requires mapped { IsMapped image.now owner walk.now }
-    requires begins { reached_by walk.now entry ≡ Some [] }
+    requires folded { AreFolds image.now owner (reached_by walk.now) (length image.now.code) folds.now }
+    requires begins { BeginsAt image.now owner entry }
+    requires there { reached_by walk.now entry ≡ Some [] }
     ensures { IfOk result (spec.IsOwnersBound image.now entry owner) }
 {
     let mut survey = Survey::new(alloc, image.code.len(), 0)?;
-    survey.longest_from(image, walk, owner, entry)
+    survey.longest_from(image, walk, folds, owner, entry)
 }
 
 /// Whether a row is enabled with this priority value.
@@ -130,15 +158,20 @@ fn look_at_thread(
     ensures priorities { OnOk result (map (λ row. row.priority) gathered.new.waits.items
         ≡ map (λ row. row.priority) gathered.old.waits.items) }
 {
-    let walk = walk_from(alloc, image, Owner::Starting, start(alloc, 0)?)?;
-    let longest = owners_bound(alloc, image, &walk, Owner::Starting, 0)?;
-    gathered.take_owner(alloc, image, &walk, Owner::Starting)?;
-    let behind = Visits {
+    let starts = start(alloc, 0)?;
+    let walk = walk_from(alloc, image, Owner::Starting, starts)?;
+    let begins = starts_at(alloc, 0)?;
+    let folds = folds_from(alloc, image, &walk, Owner::Starting, &begins)?;
+    let longest = owners_bound(alloc, image, &walk, &folds, Owner::Starting, 0)?;
+    gathered.take_owner(alloc, image, &walk, &folds, Owner::Starting)?;
+    let behind = thread_starts(alloc, image, &walk)?;
+    let visits = Visits {
         nestings: walk.nestings,
         list: walk.behind,
     };
-    let other = walk_from(alloc, image, Owner::Thread, behind)?;
-    gathered.take_owner(alloc, image, &other, Owner::Thread)?;
+    let other = walk_from(alloc, image, Owner::Thread, visits)?;
+    let loops = folds_from(alloc, image, &other, Owner::Thread, &behind)?;
+    gathered.take_owner(alloc, image, &other, &loops, Owner::Thread)?;
     Ok(longest)
 }
 
@@ -162,9 +195,12 @@ fn look_at_handler(
         ≡ map (λ row. row.priority) gathered.old.waits.items) }
 {
     let owner = Owner::Handling(index);
-    let walk = walk_from(alloc, image, owner, start(alloc, handler.entry)?)?;
-    let longest = owners_bound(alloc, image, &walk, owner, handler.entry)?;
-    gathered.take_owner(alloc, image, &walk, owner)?;
+    let starts = start(alloc, handler.entry)?;
+    let walk = walk_from(alloc, image, owner, starts)?;
+    let begins = starts_at(alloc, handler.entry)?;
+    let folds = folds_from(alloc, image, &walk, owner, &begins)?;
+    let longest = owners_bound(alloc, image, &walk, &folds, owner, handler.entry)?;
+    gathered.take_owner(alloc, image, &walk, &folds, owner)?;
     Ok(longest)
 }
 

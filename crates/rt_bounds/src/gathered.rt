@@ -1,17 +1,20 @@
 // What was found of the sections of owners so far.
 
-ghost use Rattle.std.specs.Prelude.{◌≡◌, ◌≤◌, ◌<◌, ◌+◌, ◌^◌, ◌++◌, ◌∷◌, [], suc, map, OnOk, MatchOption, List, Some};
+ghost use Rattle.std.specs.Prelude.{◌≡◌, ◌≤◌, ◌<◌, ◌+◌, ◌^◌, ◌++◌, ◌∷◌, [], suc, map, length, OnOk, MatchOption, List, Some};
+ghost use Rattle.std.specs.Prelude.{None};
 ghost use Rattle.std.specs.Prelude.{slice_get};
 ghost use Rattle.rt_points.specs.Checked.{IsChecked};
 ghost use Rattle.rt_points.specs.Limits.{IsWithinLimits};
 ghost use Rattle.rt_points.specs.declared.point.Owner.{Owner as OwnerView};
 ghost use Rattle.rt_judge.specs.Inside.Points.{point};
 ghost use Rattle.rt_judge.specs.Inside.Walks.{reached_by};
+ghost use Rattle.rt_bounds.specs.Inside.Aheads.{AreFolds};
 ghost use Rattle.rt_bounds.specs.Inside.Ground.{IsMapped};
 ghost use Rattle.rt_bounds.specs.Inside.Surveys.{IsSurveyed};
 ghost use Rattle.rt_bounds.specs.Inside.Gathered as spec;
 
 use crate::bound::{SectionBound, WaitBound};
+use crate::folds::Fold;
 use crate::ground::most_open;
 use crate::longest::{Longest, worse, worst};
 use crate::survey::Survey;
@@ -188,6 +191,7 @@ impl Gathered {
         survey: &mut Survey,
         image: &Image,
         walk: &Walk,
+        folds: &[Option<Fold>],
         owner: Owner,
         depth: usize,
         address: u32,
@@ -195,11 +199,14 @@ impl Gathered {
         requires checked { IsChecked image.now }
         requires limits { IsWithinLimits image.now }
         requires mapped { IsMapped image.now owner walk.now }
+        requires folded { AreFolds image.now owner (reached_by walk.now) (length image.now.code) folds.now }
         requires surveyed { IsSurveyed image.now owner walk.now survey.old }
         requires depth { survey.old.depth ≡ depth + 1 }
+        requires goal { survey.old.goal ≡ None }
         requires priorities { spec.ArePriorities image.now.bits self.old.waits.items }
         ensures surveyed { OnOk result (IsSurveyed image.now owner walk.now survey.new) }
         ensures depth { OnOk result (survey.new.depth ≡ depth + 1) }
+        ensures goal { OnOk result (survey.new.goal ≡ None) }
         ensures gathered { OnOk result ((done : List OwnerView)
             → spec.IsGatheredTo image.now done owner depth address self.old
             → spec.IsGatheredTo image.now done owner depth (address + 1) self.new) }
@@ -209,7 +216,7 @@ impl Gathered {
     {
         match entry_at(image, walk, owner, depth, address) {
             Some(entry) => {
-                let longest = survey.longest_from(image, walk, owner, address)?;
+                let longest = survey.longest_from(image, walk, folds, owner, address)?;
                 self.take(image, owner, &entry, longest)?;
                 Ok(())
             }
@@ -223,12 +230,14 @@ impl Gathered {
         alloc: Global,
         image: &Image,
         walk: &Walk,
+        folds: &[Option<Fold>],
         owner: Owner,
         depth: usize,
     ) -> Result<(), NoMemory>
         requires checked { IsChecked image.now }
         requires limits { IsWithinLimits image.now }
         requires mapped { IsMapped image.now owner walk.now }
+        requires folded { AreFolds image.now owner (reached_by walk.now) (length image.now.code) folds.now }
         requires room { depth + 1 < 2 ^ 64 }
         requires priorities { spec.ArePriorities image.now.bits self.old.waits.items }
         ensures gathered { OnOk result ((done : List OwnerView)
@@ -240,7 +249,7 @@ impl Gathered {
     {
         let mut survey = Survey::new(alloc, image.code.len(), depth + 1)?;
         for address in 0..image.code.len() as u32 {
-            self.take_address(&mut survey, image, walk, owner, depth, address)?;
+            self.take_address(&mut survey, image, walk, folds, owner, depth, address)?;
         }
         Ok(())
     }
@@ -261,11 +270,13 @@ impl Gathered {
         alloc: Global,
         image: &Image,
         walk: &Walk,
+        folds: &[Option<Fold>],
         owner: Owner,
     ) -> Result<(), NoMemory>
         requires checked { IsChecked image.now }
         requires limits { IsWithinLimits image.now }
         requires mapped { IsMapped image.now owner walk.now }
+        requires folded { AreFolds image.now owner (reached_by walk.now) (length image.now.code) folds.now }
         requires priorities { spec.ArePriorities image.now.bits self.old.waits.items }
         ensures gathered { OnOk result ((done : List OwnerView) → spec.AreEarlier owner done
             → spec.IsGathered image.now done self.old → spec.IsGathered image.now (done ++ owner ∷ []) self.new) }
@@ -273,7 +284,7 @@ impl Gathered {
             ≡ map (λ row. row.priority) self.old.waits.items) }
     {
         for depth in 0..most_open(walk) {
-            self.take_depth(alloc, image, walk, owner, depth)?;
+            self.take_depth(alloc, image, walk, folds, owner, depth)?;
         }
         self.close_owner()?;
         Ok(())

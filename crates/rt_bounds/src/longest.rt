@@ -3,6 +3,9 @@
 ghost use Rattle.std.specs.Prelude.{◌≡◌};
 ghost use Rattle.rt_bounds.specs.Inside.Gathered as spec;
 
+/// More core steps than these are not told: the time of the model's core stays below them.
+pub const MOST_STEPS: u32 = 2_147_483_648;
+
 /// How many steps the longest way has, or why there is none.
 #[derive(Clone, Copy, Debug, PartialEq, Eq)]
 pub enum Longest {

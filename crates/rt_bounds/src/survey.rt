@@ -1,15 +1,16 @@
 // The longest ways from addresses of one owner, among those where at least so many sections are open.
 
-ghost use Rattle.std.specs.Prelude.{◌≡◌, ◌<◌, ◌+◌, ◌^◌, IfOk, OnOk, length, slice_set};
+ghost use Rattle.std.specs.Prelude.{◌≡◌, ◌≤◌, ◌<◌, ◌+◌, ◌^◌, IfOk, OnOk, length, slice_get, slice_set};
 ghost use Rattle.rt_points.specs.Limits.{IsWithinLimits};
 ghost use Rattle.rt_points.specs.Checked.{IsChecked};
 ghost use Rattle.rt_judge.specs.Inside.Walks.{reached_by, IsSoundWalk};
-ghost use Rattle.rt_bounds.specs.Bounds as bounds;
+ghost use Rattle.rt_bounds.specs.Inside.Aheads.{IsAhead};
 ghost use Rattle.rt_bounds.specs.Inside.Ground.{IsMapped};
 ghost use Rattle.rt_bounds.specs.Inside.Surveys as spec;
 
+use crate::folds::Fold;
 use crate::ground::depth_at;
-use crate::longest::Longest;
+use crate::longest::{Longest, MOST_STEPS};
 use rt_code::{Image, Line};
 use rt_ids::NoMemory;
 use rt_judge::exits::{Exits, ends_init, exits_of, line_at};
@@ -46,6 +47,8 @@ pub enum Look {
 pub struct Survey {
     /// How many sections are open at least, at all points but those where ways begin.
     pub depth: usize,
+    /// Where ways end, if they end before.
+    pub goal: Option<u32>,
     pub marks: Vec<Mark>,
     pub trail: Vec<u32>,
 }
@@ -80,6 +83,34 @@ fn both(one: Look, other: Look) -> Look
     }
 }
 
+/// So many steps more, the last one of them left aside; too many are told as a loop.
+fn passed(look: Look, steps: u32, address: u32) -> Look
+    ensures { result ≡ spec.passed look steps address }
+{
+    match look {
+        Look::Unseen(next) => Look::Unseen(next),
+        Look::Loop(inner) => Look::Loop(inner),
+        Look::Steps(behind) => {
+            let all = u64::from(behind) + u64::from(steps);
+            if all <= u64::from(MOST_STEPS) {
+                Look::Steps(all.saturating_sub(1) as u32)
+            } else {
+                Look::Loop(address)
+            }
+        }
+    }
+}
+
+/// The fold of the loop of which an address is the head.
+fn fold_at(folds: &[Option<Fold>], address: u32) -> Option<Fold>
+    ensures { result ≡ spec.fold_by (slice_get folds.now address) }
+{
+    match folds.get(address as usize) {
+        Some(fold) => *fold,
+        None => None,
+    }
+}
+
 impl Survey {
     /// Of an owner's code of this length, with nothing looked at.
     pub fn new(alloc: Global, length: usize, depth: usize) -> Result<Survey, NoMemory>
@@ -87,15 +118,40 @@ impl Survey {
     {
         Ok(Survey {
             depth,
+            goal: None,
             marks: Vec::from_elem(alloc, Mark::Unseen, length)?,
             trail: Vec::new(alloc),
         })
     }
 
+    /// Whether ways end at an address.
+    fn is_goal(&self, address: u32) -> bool
+        ensures { result ≡ spec.is_goal self.now.goal address }
+    {
+        match self.goal {
+            Some(goal) => goal == address,
+            None => false,
+        }
+    }
+
     /// What is known of the ways from an address, where enough sections are open.
     fn look_at(&self, walk: &Walk, address: u32) -> Look
         requires sound { IsSoundWalk walk.now }
-        ensures { result ≡ spec.look_at (reached_by walk.now) self.now.depth self.now.marks.items address }
+        ensures { result ≡ spec.look_at (reached_by walk.now) self.now.depth self.now.goal self.now.marks.items
+            address }
+    {
+        if self.is_goal(address) {
+            Look::Steps(0)
+        } else {
+            self.look_where(walk, address)
+        }
+    }
+
+    /// The same, where ways do not end there.
+    fn look_where(&self, walk: &Walk, address: u32) -> Look
+        requires sound { IsSoundWalk walk.now }
+        ensures { result ≡ spec.look_where self.now.depth self.now.marks.items address
+            (reached_by walk.now address) }
     {
         match depth_at(walk, address) {
             Some(depth) if self.depth <= depth => look_of(self.mark(address), address),
@@ -117,8 +173,8 @@ impl Survey {
     fn look_behind(&self, walk: &Walk, owner: Owner, line: &Line, address: u32) -> Look
         requires bound { address + 1 < 2 ^ 32 }
         requires sound { IsSoundWalk walk.now }
-        ensures { result ≡ spec.look_behind (reached_by walk.now) self.now.depth self.now.marks.items owner line.now
-            address }
+        ensures { result ≡ spec.look_behind (reached_by walk.now) self.now.depth self.now.goal self.now.marks.items
+            owner line.now address }
     {
         if ends_init(&line.0, owner) {
             return Look::Steps(0);
@@ -130,16 +186,54 @@ impl Survey {
         }
     }
 
-    /// What is known of the ways behind the instruction at an address.
-    fn look(&self, image: &Image, walk: &Walk, owner: Owner, address: u32) -> Look
+    /// What is known of the ways behind an address, where a loop that begins there is one step of many.
+    fn look(
+        &self,
+        image: &Image,
+        walk: &Walk,
+        folds: &[Option<Fold>],
+        owner: Owner,
+        address: u32,
+    ) -> Look
         requires limits { IsWithinLimits image.now }
         requires sound { IsSoundWalk walk.now }
-        ensures { result ≡ spec.look_from image.now (reached_by walk.now) self.now.depth self.now.marks.items owner
-            address }
+        ensures { result ≡ spec.look_from image.now folds.now (reached_by walk.now) self.now.depth self.now.goal
+            self.now.marks.items owner address }
+    {
+        match fold_at(folds, address) {
+            Some(fold) => {
+                if self.depth <= fold.depth {
+                    self.look_over(walk, &fold)
+                } else {
+                    self.look_on(image, walk, owner, address)
+                }
+            }
+            None => self.look_on(image, walk, owner, address),
+        }
+    }
+
+    /// What is known of the ways behind the line at an address.
+    fn look_on(&self, image: &Image, walk: &Walk, owner: Owner, address: u32) -> Look
+        requires limits { IsWithinLimits image.now }
+        requires sound { IsSoundWalk walk.now }
+        ensures { result ≡ spec.look_by (reached_by walk.now) self.now.depth self.now.goal self.now.marks.items owner
+            address (slice_get image.now.code address) }
     {
         match line_at(image, address) {
             Some(line) => self.look_behind(walk, owner, &line, address),
             None => Look::Steps(0),
+        }
+    }
+
+    /// What is known of the ways behind the head of a folded loop.
+    fn look_over(&self, walk: &Walk, fold: &Fold) -> Look
+        requires sound { IsSoundWalk walk.now }
+        ensures { result ≡ spec.look_over (reached_by walk.now) self.now.depth self.now.goal self.now.marks.items
+            fold.now fold.now.longest }
+    {
+        match fold.longest {
+            Longest::Steps(steps) => passed(self.look_at(walk, fold.out), steps, fold.again),
+            Longest::Loop(address) => Look::Loop(address),
         }
     }
 
@@ -157,6 +251,7 @@ impl Survey {
     fn close(&mut self, address: u32, mark: Mark)
         requires { address < length self.old.marks.items }
         ensures depth { self.new.depth ≡ self.old.depth }
+        ensures goal { self.new.goal ≡ self.old.goal }
         ensures marks { self.new.marks.items ≡ slice_set self.old.marks.items address mark }
         ensures trail { self.new.trail ≡ self.old.trail }
     {
@@ -177,6 +272,7 @@ impl Survey {
         &mut self,
         image: &Image,
         walk: &Walk,
+        folds: &[Option<Fold>],
         owner: Owner,
         start: u32,
     ) -> Result<(), NoMemory>
@@ -184,19 +280,40 @@ impl Survey {
         requires limits { IsWithinLimits image.now }
         requires mapped { IsMapped image.now owner walk.now }
         requires surveyed { spec.IsSurveyed image.now owner walk.now self.old }
-        requires there { spec.IsThere (reached_by walk.now) start }
+        requires free { spec.IsOpenTo image.now owner (reached_by walk.now) folds.now self.old.depth self.old.goal
+            start }
         requires unseen { spec.mark_at self.old.marks.items start ≡ Mark.Unseen }
         ensures { OnOk result (spec.IsSurveyedFrom image.now owner walk.now self.old self.new start) }
     {
         self.open(start)?;
         while let Some(top) = self.trail.pop() {
-            match self.look(image, walk, owner, top) {
+            match self.look(image, walk, folds, owner, top) {
                 Look::Unseen(next) => self.go_on(top, next)?,
                 Look::Steps(steps) => self.close(top, Mark::Steps(steps + 1)),
                 Look::Loop(address) => self.close(top, Mark::Loop(address)),
             }
         }
         Ok(())
+    }
+
+    /// Ways end at an address from now on, and so many sections are open; what was known is forgotten for lines.
+    pub fn begin(&mut self, goal: u32, depth: usize)
+        ensures { spec.IsBegun self.old self.new goal depth }
+    {
+        self.goal = Some(goal);
+        self.depth = depth;
+    }
+
+    /// Forgets what is known of lines.
+    pub fn forget(&mut self, first: u32, last: u32)
+        requires lines { first ≤ last }
+        requires within { last < length self.old.marks.items }
+        requires small { last + 1 < 2 ^ 32 }
+        ensures { spec.IsForgotten self.old self.new first last }
+    {
+        for address in first..last + 1 {
+            self.close(address, Mark::Unseen);
+        }
     }
 
     /// What was found of an address that was looked at to the end.
@@ -216,6 +333,7 @@ impl Survey {
         &mut self,
         image: &Image,
         walk: &Walk,
+        folds: &[Option<Fold>],
         owner: Owner,
         start: u32,
     ) -> Result<Longest, NoMemory>
@@ -223,15 +341,18 @@ impl Survey {
         requires limits { IsWithinLimits image.now }
         requires mapped { IsMapped image.now owner walk.now }
         requires surveyed { spec.IsSurveyed image.now owner walk.now self.old }
-        requires there { spec.IsThere (reached_by walk.now) start }
+        requires free { spec.IsOpenTo image.now owner (reached_by walk.now) folds.now self.old.depth self.old.goal
+            start }
         ensures surveyed { OnOk result (spec.IsSurveyed image.now owner walk.now self.new) }
         ensures depth { OnOk result (self.new.depth ≡ self.old.depth) }
-        ensures longest { IfOk result (bounds.IsBoundFrom image.now self.old.depth
+        ensures goal { OnOk result (self.new.goal ≡ self.old.goal) }
+        ensures kept { OnOk result (spec.KeepsElse image.now owner (reached_by walk.now) self.old self.new) }
+        ensures longest { IfOk result (IsAhead image.now self.old.depth self.old.goal
             (spec.point_at owner (reached_by walk.now) start)) }
     {
         match self.mark(start) {
             Mark::Unseen => {
-                self.survey(image, walk, owner, start)?;
+                self.survey(image, walk, folds, owner, start)?;
                 Ok(self.found(start))
             }
             _ => Ok(self.found(start)),

@@ -12,7 +12,7 @@ use Rattle.rt_points.specs.Leading.{inside_after, kind_of}
 use Rattle.rt_points.specs.Point.{Point}
 use Rattle.rt_points.specs.declared.point.Opened.{Opened}
 use Rattle.rt_bounds.specs.Bounds.{IsWait, HoldsOff as HoldsOffAt, depth_inside}
-use Rattle.rt_bounds.specs.Ways.{Way}
+use Rattle.rt_bounds.specs.CountedWays.{FreshWay, Left}
 use Rattle.rt_bounds.specs.declared.longest.Longest.{Longest}
 use Rattle.rt_bounds.specs.declared.longest.Longest.TheVariants.{Steps, Loop}
 use Rattle.rt_timely.specs.InTime.{IsNoMore}
@@ -49,23 +49,24 @@ module _ (img : Image) (value : ℕ) where
   IsHeld since steps jobs ps = ⊥
 
   -- a stay among those of a job, with its open section
-  pub record IsAmong (p : Point) (stay : Stay) : Type 0 where
+  pub record IsAmong (now : Left) (p : Point) (stay : Stay) : Type 0 where
     pub o : Opened
     pub outer : List Opened
-    pub is : IsStay img p stay o outer
+    pub is : IsStay img now p stay o outer
 
-  pub stay_at : (p : Point) (stays : List Stay) (opened : List Opened) (i : ℕ) (stay : Stay)
-      → AreStays img p stays opened → slice_get stays i ≡ Some stay → IsAmong p stay
-  stay_at p [] opened i stay are at = absurd (none-some stay at)
-  stay_at p (s ∷ stays) [] i stay are at = absurd are
-  stay_at p (s ∷ stays) (o ∷ outer) zero stay are at =
-      record { o = o; outer = outer; is = subst (λ t. IsStay img p t o outer) (same_Some s stay at) are.0 }
-  stay_at p (s ∷ stays) (o ∷ outer) (suc i) stay are at = stay_at p stays outer i stay are.1 at
+  pub stay_at : (now : Left) (p : Point) (stays : List Stay) (opened : List Opened) (i : ℕ) (stay : Stay)
+      → AreStays img now p stays opened → slice_get stays i ≡ Some stay → IsAmong now p stay
+  stay_at now p [] opened i stay are at = absurd (none-some stay at)
+  stay_at now p (s ∷ stays) [] i stay are at = absurd are
+  stay_at now p (s ∷ stays) (o ∷ outer) zero stay are at =
+      record { o = o; outer = outer; is = subst (λ t. IsStay img now p t o outer) (same_Some s stay at) are.0 }
+  stay_at now p (s ∷ stays) (o ∷ outer) (suc i) stay are at = stay_at now p stays outer i stay are.1 at
 
   -- the section of a stay that holds the value off does so where it was entered
-  held_at : (p : Point) (stay : Stay) (o : Opened) (outer : List Opened) → (is : IsStay img p stay o outer)
+  held_at : (now : Left) (p : Point) (stay : Stay) (o : Opened) (outer : List Opened)
+      → (is : IsStay img now p stay o outer)
       → StayHoldsOff value stay → HoldsOffAt img value is.entry
-  held_at p stay o outer is holds =
+  held_at now p stay o outer is holds =
       let before : stay.outside ≡ execution_priority img is.entry.owner is.entry.inside =
       is.outside ∙ ap (λ who. execution_priority img who outer) is.owner
       ∙ ap (execution_priority img is.entry.owner) (sym is.around) in
@@ -85,7 +86,7 @@ module _ (img : Image) (value : ℕ) where
 
   -- a way from where it was entered is within what is told of the wait
   wait_within : (longest : Option Longest) (entry : Point) (n : ℕ) → IsWait img value longest
-      → HoldsOffAt img value entry → Way img (depth_inside entry) entry n → AreWithin longest n
+      → HoldsOffAt img value entry → FreshWay img (depth_inside entry) entry n → AreWithin longest n
   wait_within None entry n none holds way = none entry holds
   wait_within (Some (Steps most)) entry n bound holds way = bound.most entry n holds way
   wait_within (Some (Loop address)) entry n bound holds way = tt
@@ -93,17 +94,17 @@ module _ (img : Image) (value : ℕ) where
   pub staying_within : (longest : Option Longest) → IsWait img value longest → (since steps : ℕ) (job : SeenJob)
       (p : Point) → IsJobAt img job p → IsStaying value since steps job → AreWithin longest (suc steps)
   staying_within longest wait since steps job p at staying =
-      let among = stay_at p job.inside p.inside staying.among.0 staying.stay at.stays staying.among.1 in
+      let among = stay_at at.now p job.inside p.inside staying.among.0 staying.stay at.stays staying.among.1 in
       let is = among.is in
       subst (λ n. AreWithin longest (suc n)) staying.long
       (wait_within longest is.entry (suc staying.stay.steps) wait
-      (held_at p staying.stay among.o among.outer is staying.holds)
-      (came_way img (depth_inside is.entry) is.entry staying.stay.steps p is.came))
+      (held_at at.now p staying.stay among.o among.outer is staying.holds)
+      (came_way img (depth_inside is.entry) is.from is.entry staying.stay.steps at.now p is.few is.came))
 
   staying_some : (since steps : ℕ) (job : SeenJob) (p : Point) → IsJobAt img job p → IsStaying value since steps job
       → 0 < steps
   staying_some since steps job p at staying =
-      let among = stay_at p job.inside p.inside staying.among.0 staying.stay at.stays staying.among.1 in
+      let among = stay_at at.now p job.inside p.inside staying.among.0 staying.stay at.stays staying.among.1 in
       let some = among.is.some in
       let long = staying.long in
       omega (arith, some, long)
@@ -122,17 +123,17 @@ module _ (img : Image) (value : ℕ) where
       held
 
   -- where the open sections of a lower job hold the value off, one of them does
-  holder : (p : Point) (stays : List Stay) (opened : List Opened) → AreStays img p stays opened
+  holder : (now : Left) (p : Point) (stays : List Stay) (opened : List Opened) → AreStays img now p stays opened
       → value < owner_value img p.owner → execution_priority img p.owner opened ≤ value
       → (stay : Stay) × IsIn stays stay × StayHoldsOff value stay
-  holder p [] [] are less most = absurd (omega (arith, less, most))
-  holder p [] (o ∷ outer) are less most = absurd are
-  holder p (stay ∷ stays) [] are less most = absurd are
-  holder p (stay ∷ stays) (o ∷ outer) are less most =
+  holder now p [] [] are less most = absurd (omega (arith, less, most))
+  holder now p [] (o ∷ outer) are less most = absurd are
+  holder now p (stay ∷ stays) [] are less most = absurd are
+  holder now p (stay ∷ stays) (o ∷ outer) are less most =
       ⊎_elim
       (λ above. let before = are.0.outside in let behind = are.0.within in
       (stay, (zero, refl), (omega (arith, above, before), omega (arith, most, behind))))
-      (λ off. let found = holder p stays outer are.1 less off in
+      (λ off. let found = holder now p stays outer are.1 less off in
       (found.0, (suc found.1.0, found.1.1), found.2))
       (cases_lt value (execution_priority img p.owner outer))
 
@@ -148,7 +149,7 @@ module _ (img : Image) (value : ℕ) where
       ⊎_elim
       (λ low. ⊎_elim (λ above. inl (inr above))
       (λ off.
-      let found = holder p job.inside p.inside at.0.stays low off in
+      let found = holder at.0.now p job.inside p.inside at.0.stays low off in
       inr (
         found.0.since,
         found.0.steps,

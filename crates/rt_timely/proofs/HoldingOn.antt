@@ -14,6 +14,7 @@ use Rattle.rt_points.specs.ExecutionPriority.{owner_value, execution_priority}
 use Rattle.rt_points.specs.Point.{Point}
 use Rattle.rt_points.specs.declared.point.Opened.{Opened}
 use Rattle.rt_points.specs.declared.point.Owner.{Owner}
+use Rattle.rt_bounds.specs.CountedWays.{Left}
 use Rattle.rt_safe.specs.Inside.Moved.{IsSilent}
 use Rattle.rt_timely.specs.Waiting.{stepper_by, lower, StayHoldsOff, IsHeldIn}
 use Rattle.rt_timely.specs.Watching.{Stay, SeenJob, longer, stepped, inside_too, outside_again, on_running}
@@ -110,19 +111,19 @@ module _ (img : Image) (value : ℕ) where
 
   -- where the innermost section is left, a stay in it is over, and the job is free; else it goes on
   module _ (p q : Point) (o : Opened) (inside : p.inside ≡ o ∷ q.inside) (owner : q.owner ≡ p.owner) where
-    closing : (stays : List Stay) → AreStays img p stays (o ∷ q.inside) → (i : ℕ) (stay : Stay)
+    closing : (now : Left) (stays : List Stay) → AreStays img now p stays (o ∷ q.inside) → (i : ℕ) (stay : Stay)
         → slice_get stays i ≡ Some stay → StayHoldsOff value stay
         → ((k : ℕ) × (slice_get (drop 1 (map longer stays)) k ≡ Some (longer stay)))
         ⊎ (value < execution_priority img q.owner q.inside)
-    closing [] are i stay at holds = absurd are
-    closing (s ∷ stays) are zero stay at holds =
+    closing now [] are i stay at holds = absurd are
+    closing now (s ∷ stays) are zero stay at holds =
         let same : s.outside ≡ stay.outside = ap (λ (t : Stay). t.outside) (same_Some s stay at) in
         let before = are.0.outside in
         let who : execution_priority img q.owner q.inside ≡ execution_priority img p.owner q.inside =
         ap (λ (w : Owner). execution_priority img w q.inside) owner in
         let above = holds.0 in
         inr (omega (arith, above, same, before, who))
-    closing (s ∷ stays) are (suc i) stay at holds = inl (i, mapped_at longer stays i stay at)
+    closing now (s ∷ stays) are (suc i) stay at holds = inl (i, mapped_at longer stays i stay at)
 
     pub closed_stays : (since steps : ℕ) (job : SeenJob) → IsJobAt img job p → IsStaying value since steps job
         → IsStaying value since (suc steps) (outside_again (stepped job))
@@ -137,13 +138,14 @@ module _ (img : Image) (value : ℕ) where
           holds = is.holds;
         }))
         (λ free. inr free)
-        (closing job.inside (subst (AreStays img p job.inside) inside at.stays) is.among.0 is.stay is.among.1 is.holds)
+        (closing at.now job.inside (subst (AreStays img at.now p job.inside) inside at.stays) is.among.0 is.stay
+        is.among.1 is.holds)
 
   -- nothing is open where a job returns
-  none_open : (p : Point) (stays : List Stay) (i : ℕ) (stay : Stay) → AreStays img p stays []
+  none_open : (now : Left) (p : Point) (stays : List Stay) (i : ℕ) (stay : Stay) → AreStays img now p stays []
       → slice_get stays i ≡ Some stay → ⊥
-  none_open p [] i stay are at = none-some stay at
-  none_open p (s ∷ stays) i stay are at = are
+  none_open now p [] i stay are at = none-some stay at
+  none_open now p (s ∷ stays) i stay are at = are
 
   pub back_held : (p : Point) (qs : List Point) (since steps : ℕ) → p.inside ≡ [] → (jobs : List SeenJob)
       → AreJobsAt img jobs (p ∷ qs) → IsHeld img value since steps jobs (p ∷ qs)
@@ -153,6 +155,6 @@ module _ (img : Image) (value : ℕ) where
       ⊎_elim
       (λ high. let most = high.0 in let same = at.0.value in
       (none_lower value job (omega (arith, most, same)), high.1))
-      (λ low. absurd (none_open p job.inside low.1.among.0 low.1.stay
-      (subst (AreStays img p job.inside) empty at.0.stays) low.1.among.1))
+      (λ low. absurd (none_open at.0.now p job.inside low.1.among.0 low.1.stay
+      (subst (AreStays img at.0.now p job.inside) empty at.0.stays) low.1.among.1))
       held

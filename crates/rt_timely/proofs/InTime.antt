@@ -20,7 +20,7 @@ use Rattle.rt_points.specs.declared.point.Owner.{Owner}
 use Rattle.rt_points.specs.declared.point.Owner.TheVariants as owner
 use Rattle.rt_points.specs.declared.rule.Rule.TheVariants as rule
 use Rattle.rt_bounds.specs.Bounds.{IsOwnersBound, IsHandlersBound, IsSectionBound, Enters, AreBounds, depth_inside}
-use Rattle.rt_bounds.specs.Ways.{Way}
+use Rattle.rt_bounds.specs.CountedWays.{FreshWay, all_left}
 use Rattle.rt_bounds.specs.declared.bound.Bounds.{Bounds}
 use Rattle.rt_bounds.specs.declared.bound.HandlerBound.{HandlerBound}
 use Rattle.rt_bounds.specs.declared.bound.SectionBound.{SectionBound}
@@ -32,9 +32,11 @@ use Rattle.rt_timely.specs.InTime.{KeepsSectionLines, AreLeftInTime, JobsEndInTi
 use Rattle.rt_timely.specs.Watching.{Whose, Init, Thread, Handler as HandlerOf, Stay, SeenJob, LeftStay, Watch}
 use Rattle.rt_timely.specs.Watching.{watched}
 use Rattle.rt_timely.proofs.Came.{came_owner, came_way}
+use Rattle.rt_timely.proofs.Counted.{all_few}
+use Rattle.rt_timely.proofs.Frames.{frames_of}
 use Rattle.rt_timely.proofs.Reaching.{reached}
 use Rattle.rt_timely.proofs.Tied.{BeginsAtEntry, BeginsAt, AreStays, IsJobAt, AreJobsAt, IsWholeJob, IsWholeStay}
-use Rattle.rt_timely.proofs.Tied.{IsTied}
+use Rattle.rt_timely.proofs.Tied.{IsTied, jobs_of}
 
 -- one step more than these is within a bound
 next_within : (longest : Longest) (steps : ℕ) → IsNoMore longest (suc steps) → IsBelow longest steps
@@ -66,19 +68,19 @@ module _ (img : Image) (checked : IsChecked img) where
 
   -- a way from where an owner begins is within its bound
   way_within : (entry : ℕ) (who : Owner) (longest : Longest) (n : ℕ) → IsOwnersBound img entry who longest
-      → Way img 0 (starts_at entry who) n → IsNoMore longest n
+      → FreshWay img 0 (starts_at entry who) n → IsNoMore longest n
   way_within entry who (Steps most) n bound way = bound.most n way
   way_within entry who (Loop address) n bound way = tt
 
   module _ (b : Bounds) (are : AreBounds img b) where
     init_within : (longest : Longest) (start : Point) (n : ℕ) → b.init ≡ longest → start ≡ starts_at 0 owner.Starting
-        → Way img 0 start n → IsNoMore longest n
+        → FreshWay img 0 start n → IsNoMore longest n
     init_within longest start n told begins way =
         way_within 0 owner.Starting longest n (subst (IsOwnersBound img 0 owner.Starting) told are.init)
-        (subst (λ p. Way img 0 p n) begins way)
+        (subst (λ p. FreshWay img 0 p n) begins way)
 
     handler_within : (irq index : ℕ) (longest : Longest) (start : Point) (n : ℕ) → BeginsAtEntry img irq start
-        → IsNumbered img index irq → IsToldOf b (owner.Handling index) longest → Way img 0 start n
+        → IsNumbered img index irq → IsToldOf b (owner.Handling index) longest → FreshWay img 0 start n
         → IsNoMore longest n
     handler_within irq index longest start n begins is told way =
         let row : HandlerBound = told.0 in
@@ -97,11 +99,11 @@ module _ (img : Image) (checked : IsChecked img) where
         ∙ ap (λ i. starts_at bound.handler.entry (owner.Handling i)) (sym same) in
         subst (λ l. IsNoMore l n) told.3
         (way_within bound.handler.entry (owner.Handling row.index) row.longest n bound.bound
-        (subst (λ p. Way img 0 p n) place way))
+        (subst (λ p. FreshWay img 0 p n) place way))
 
     -- a way of a job from where it begins is within the line of the job
-    job_within : (whose : Whose) (start : Point) (n : ℕ) → BeginsAt img whose start → Way img 0 start n → (who : Owner)
-        (longest : Longest) → IsOf img who whose → IsToldOf b who longest → IsNoMore longest n
+    job_within : (whose : Whose) (start : Point) (n : ℕ) → BeginsAt img whose start → FreshWay img 0 start n
+        → (who : Owner) (longest : Longest) → IsOf img who whose → IsToldOf b who longest → IsNoMore longest n
     job_within Init start n begins way owner.Starting longest is told = init_within longest start n told begins way
     job_within Init start n begins way owner.Thread longest is told = absurd is
     job_within Init start n begins way (owner.Handling index) longest is told = absurd is
@@ -121,13 +123,13 @@ module _ (img : Image) (checked : IsChecked img) where
       λ who longest is told.
           next_within longest job.steps
           (job_within job.whose at.0.start (suc job.steps) at.0.begins
-          (came_way img 0 at.0.start job.steps p at.0.came) who longest is told),
+          (came_way img 0 all_left at.0.start job.steps at.0.now p all_few at.0.came) who longest is told),
       jobs_below jobs ps at.1,
     )
 
-    pub in_time : (w : Watch) (ps : List Point) → IsTied img w ps → AreInTime img b w
-    in_time w ps tied = record {
-      going = jobs_below w.jobs ps tied.jobs;
+    pub in_time : (w : Watch) (ps : List Point) (frames : List (List ℕ)) → IsTied img w ps frames → AreInTime img b w
+    in_time w ps frames tied = record {
+      going = jobs_below w.jobs ps (jobs_of img w ps frames tied);
       ended = all_weaker (IsWholeJob img) (KeepsLines img b IsNoMore)
           (λ job whole who longest is told.
           job_within job.whose whole.start job.steps whole.begins whole.way who longest is told) w.ended tied.ended;
@@ -135,7 +137,7 @@ module _ (img : Image) (checked : IsChecked img) where
 
     -- a way from where a section is entered is within the section's line
     section_way_within : (entered : Point → Type 0) (longest : Longest) (p : Point) (n : ℕ)
-        → IsSectionBound img entered longest → entered p → Way img (depth_inside p) p n → IsNoMore longest n
+        → IsSectionBound img entered longest → entered p → FreshWay img (depth_inside p) p n → IsNoMore longest n
     section_way_within entered (Steps most) p n bound is way = bound.most p n is way
     section_way_within entered (Loop address) p n bound is way = tt
 
@@ -143,7 +145,7 @@ module _ (img : Image) (checked : IsChecked img) where
     KeepsRow row = IsSectionBound img (Enters img row.owner row.section) row.longest
 
     stay_within : (whose : Whose) (start entry : Point) (i : Instr) (x : Section) (n : ℕ) → BeginsAt img whose start
-        → entry.owner ≡ start.owner → EntersAt img entry i x → Way img (depth_inside entry) entry n
+        → entry.owner ≡ start.owner → EntersAt img entry i x → FreshWay img (depth_inside entry) entry n
         → (row : SectionBound) → Contains b.sections.items row → IsOf img row.owner whose → row.section ≡ x
         → IsNoMore row.longest n
     stay_within whose start entry i x n begins own enters way row has is same =
@@ -155,8 +157,8 @@ module _ (img : Image) (checked : IsChecked img) where
         } in
         section_way_within (Enters img row.owner row.section) row.longest entry n bound here way
 
-    stays_below : (job : SeenJob) (p : Point) → IsJobAt img job p → (stays : List Stay) (opened : List Opened)
-        → AreStays img p stays opened → AllByRecursion (KeepsSectionLines img b IsBelow job.whose) stays
+    stays_below : (job : SeenJob) (p : Point) → (at : IsJobAt img job p) → (stays : List Stay) (opened : List Opened)
+        → AreStays img at.now p stays opened → AllByRecursion (KeepsSectionLines img b IsBelow job.whose) stays
     stays_below job p at [] opened are = tt
     stays_below job p at (stay ∷ stays) [] are = absurd are
     stays_below job p at (stay ∷ stays) (o ∷ outer) are =
@@ -164,8 +166,9 @@ module _ (img : Image) (checked : IsChecked img) where
           λ row has is same.
               next_within row.longest stay.steps
               (stay_within job.whose at.start one.entry one.instr stay.section (suc stay.steps) at.begins
-              (sym one.owner ∙ came_owner img 0 at.start job.steps p at.came) one.enters
-              (came_way img (depth_inside one.entry) one.entry stay.steps p one.came) row has is same),
+              (sym one.owner ∙ came_owner img 0 all_left at.start job.steps at.now p at.came) one.enters
+              (came_way img (depth_inside one.entry) one.from one.entry stay.steps at.now p one.few one.came) row has is
+              same),
           stays_below job p at stays outer are.1,
         )
 
@@ -176,9 +179,10 @@ module _ (img : Image) (checked : IsChecked img) where
     all_stays_below (job ∷ jobs) (p ∷ ps) at =
         (stays_below job p at.0 job.inside p.inside at.0.stays, all_stays_below jobs ps at.1)
 
-    pub left_in_time : (w : Watch) (ps : List Point) → IsTied img w ps → AreLeftInTime img b w
-    left_in_time w ps tied = record {
-      inside = all_stays_below w.jobs ps tied.jobs;
+    pub left_in_time : (w : Watch) (ps : List Point) (frames : List (List ℕ)) → IsTied img w ps frames
+        → AreLeftInTime img b w
+    left_in_time w ps frames tied = record {
+      inside = all_stays_below w.jobs ps (jobs_of img w ps frames tied);
       left = all_weaker (λ (one : LeftStay). IsWholeStay img one.whose one.stay)
           (λ (one : LeftStay). KeepsSectionLines img b IsNoMore one.whose one.stay)
           (λ one whole row has is same.
@@ -190,12 +194,14 @@ module _ (img : Image) (checked : IsChecked img) where
 pub jobs_end_in_time : JobsEndInTime
 jobs_end_in_time img b events checked are =
     let at = reached img checked events in
-    in_time img checked b are (watched img events) (at.point ∷ at.below) at.tied
+    in_time img checked b are (watched img events) (at.point ∷ at.below)
+    (frames_of (core_after img (reset img) events)) at.tied
 
 pub sections_end_in_time : SectionsEndInTime
 sections_end_in_time img b events checked are =
     let at = reached img checked events in
-    left_in_time img checked b are (watched img events) (at.point ∷ at.below) at.tied
+    left_in_time img checked b are (watched img events) (at.point ∷ at.below)
+    (frames_of (core_after img (reset img) events)) at.tied
 
 -- what is in use is within what is needed
 pub stack_is_enough : StackIsEnough

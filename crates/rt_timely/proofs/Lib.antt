@@ -1,5 +1,11 @@
 -- The lemmas of this crate, a file each. The folder beside them has the proof of the law.
+pub mod Acting
+pub mod Constants
+pub mod Turning
+pub mod Counted
 pub mod Came
+pub mod Frames
+pub mod Ends
 pub mod Tied
 pub mod Keeping
 pub mod Quiet

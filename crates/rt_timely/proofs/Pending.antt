@@ -28,7 +28,7 @@ use Rattle.rt_laws.proofs.Pending.{still_set, still_beside}
 use Rattle.rt_timely.specs.Waiting.{IsPending}
 
 -- the core that an outcome leaves
-abbrev left_by : Outcome → Core
+abbrev pub left_by : Outcome → Core
 left_by (Trapped c t) = c
 left_by (Done c shown) = c
 

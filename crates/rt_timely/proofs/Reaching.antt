@@ -11,8 +11,12 @@ use Rattle.rt_points.specs.Checked.{IsChecked}
 use Rattle.rt_points.specs.Leading.{Begins, starts_at}
 use Rattle.rt_points.specs.Point.{Point}
 use Rattle.rt_points.specs.declared.point.Owner.TheVariants.{Starting}
+use Rattle.rt_bounds.specs.CountedWays.{all_left}
 use Rattle.rt_safe.specs.Inside.RunsAtPoints.{RunsAtPoints}
 use Rattle.rt_timely.specs.Watching.{Watch, after_event, after_events, after_step, first_watch, watched}
+use Rattle.rt_timely.proofs.Came.{Starts}
+use Rattle.rt_timely.proofs.Counted.{counted_first}
+use Rattle.rt_timely.proofs.Frames.{frames_of}
 use Rattle.rt_timely.proofs.Keeping.{step_kept}
 use Rattle.rt_safe.specs.Inside.Steps.{Steps as Moves}
 use Rattle.rt_safe.proofs.Stepping.{steps as moves}
@@ -33,9 +37,22 @@ reset_fits img = record {
   stopped = refl;
 }
 
-pub reset_tied : (img : Image) → IsTied img (first_watch img) (starts_at 0 Starting ∷ [])
+pub reset_tied : (img : Image) → IsTied img (first_watch img) (starts_at 0 Starting ∷ []) (frames_of (reset img))
 reset_tied img = record {
-  jobs = (record { start = starts_at 0 Starting; begins = refl; came = refl; value = refl; stays = tt }, tt);
+  running = (
+    record {
+      at = record {
+        start = starts_at 0 Starting;
+        begins = refl;
+        now = all_left;
+        came = Starts;
+        value = refl;
+        stays = tt;
+      };
+      counted = counted_first img Starting (starts_at 0 Starting) (reset img).processor.slots refl;
+    },
+    tt,
+  );
   ended = tt;
   left = tt;
 }
@@ -46,7 +63,7 @@ module _ (img : Image) where
     pub point : Point
     pub below : List Point
     pub fits : RunsAtPoints img c point below
-    pub tied : IsTied img w (point ∷ below)
+    pub tied : IsTied img w (point ∷ below) (frames_of c)
 
 module _ (img : Image) (checked : IsChecked img) where
   -- one event
@@ -68,7 +85,7 @@ module _ (img : Image) (checked : IsChecked img) where
   next c w at Step =
       let one : Moves img c at.point at.below = moves img checked c at.point at.below at.fits in
       let kept = step_kept img checked c at.point at.below at.fits w at.tied one.core one.point one.below one.fits
-      one.shown one.how in
+      one.shown one.is one.how in
       let here : IsAt img one.core (after_step c w (one.core, one.shown)) =
       record { point = one.point; below = one.below; fits = one.fits; tied = kept } in
       let steps : IsAt img (step img c).0 (after_step c w (step img c)) =

@@ -12,8 +12,9 @@ use Rattle.rt_safe.proofs.Execution.{handler_value}
 use Rattle.rt_safe.proofs.PointPriorities.{priority_within}
 use Rattle.rt_timely.specs.Waiting.{RunsTheHighest, NoneWaitsOnceStarted}
 use Rattle.rt_timely.specs.Watching.{SeenJob, watched}
+use Rattle.rt_timely.proofs.Frames.{frames_of}
 use Rattle.rt_timely.proofs.Reaching.{reached}
-use Rattle.rt_timely.proofs.Tied.{AreJobsAt}
+use Rattle.rt_timely.proofs.Tied.{AreJobsAt, jobs_of}
 
 module _ (img : Image) where
   -- the jobs under a point have greater values than its owner
@@ -41,10 +42,12 @@ module _ (img : Image) where
   runs_highest p qs below stacked (job ∷ jobs) at =
       let mine = at.0.value in
       all_weaker (λ (other : SeenJob). owner_value img p.owner < other.value)
-      (λ (other : SeenJob). job.value < other.value) (λ other less. omega (arith, mine, less)) jobs (above_all p qs below stacked jobs at.1)
+      (λ (other : SeenJob). job.value < other.value) (λ other less. omega (arith, mine, less)) jobs
+      (above_all p qs below stacked jobs at.1)
 
 pub none_waits_once_started : NoneWaitsOnceStarted
 none_waits_once_started img events checked =
     let at = reached img checked events in
     let c : Core = core_after img (reset img) events in
-    runs_highest img at.point at.below c.below at.fits.stack (watched img events).jobs at.tied.jobs
+    runs_highest img at.point at.below c.below at.fits.stack (watched img events).jobs
+    (jobs_of img (watched img events) (at.point ∷ at.below) (frames_of c) at.tied)

@@ -16,6 +16,8 @@ use Rattle.rt_code.specs.Image.{Image}
 use Rattle.rt_code.specs.declared.image.Handler.{Handler}
 use Rattle.rt_code.specs.declared.image.IrqRow.{IrqRow}
 use Rattle.rt_code.specs.declared.instr.Instr.{Instr}
+use Rattle.rt_core.specs.Core.{reset}
+use Rattle.rt_core.specs.Trace.{core_after}
 use Rattle.rt_points.specs.Leading.{handler_at}
 use Rattle.rt_points.specs.Point.{Point}
 use Rattle.rt_points.specs.Rules.{EntersAt}
@@ -28,14 +30,16 @@ use Rattle.rt_bounds.specs.Bounds.{Enters, AreBounds, is_enabled, is_used}
 use Rattle.rt_bounds.specs.declared.bound.Bounds.{Bounds}
 use Rattle.rt_bounds.specs.declared.bound.HandlerBound.{HandlerBound}
 use Rattle.rt_bounds.specs.declared.bound.WaitBound.{WaitBound}
+use Rattle.rt_bounds.specs.CountedWays.{all_left}
 use Rattle.rt_bounds.proofs.Covering.{those_have}
 use Rattle.rt_timely.specs.InTime.{IsOf}
 use Rattle.rt_timely.specs.Told.{HasJobLine, HasSectionLine, AreTold, RunsAreTold, WaitsAreTold}
 use Rattle.rt_timely.specs.Watching.{Whose, Init, Thread, Handler as HandlerOf, Stay, SeenJob, LeftStay, Watch, watched}
 use Rattle.rt_timely.proofs.Came.{came_owner}
+use Rattle.rt_timely.proofs.Frames.{frames_of}
 use Rattle.rt_timely.proofs.Reaching.{reached}
 use Rattle.rt_timely.proofs.Tied.{BeginsAtEntry, BeginsAt, AreStays, IsJobAt, AreJobsAt, IsWholeJob, IsWholeStay}
-use Rattle.rt_timely.proofs.Tied.{IsTied}
+use Rattle.rt_timely.proofs.Tied.{IsTied, jobs_of}
 
 -- what is among the images of a list is the image of one of it
 from_map : {X Y : Type 0} (f : X → Y) (xs : List X) (y : Y) → Contains (map f xs) y
@@ -89,14 +93,14 @@ module _ (img : Image) (b : Bounds) (are : AreBounds img b) where
   jobs_told (job ∷ jobs) [] at = absurd at
   jobs_told (job ∷ jobs) (p ∷ ps) at = (job_told job.whose at.0.start at.0.begins, jobs_told jobs ps at.1)
 
-  stays_told : (job : SeenJob) (p : Point) → IsJobAt img job p → (stays : List Stay) (opened : List Opened)
-      → AreStays img p stays opened → AllByRecursion (λ stay. HasSectionLine img b job.whose stay.section) stays
+  stays_told : (job : SeenJob) (p : Point) → (at : IsJobAt img job p) → (stays : List Stay) (opened : List Opened)
+      → AreStays img at.now p stays opened → AllByRecursion (λ stay. HasSectionLine img b job.whose stay.section) stays
   stays_told job p at [] opened are_in = tt
   stays_told job p at (stay ∷ stays) [] are_in = absurd are_in
   stays_told job p at (stay ∷ stays) (o ∷ outer) are_in =
       let one = are_in.0 in (
         section_told job.whose at.start one.entry one.instr stay.section at.begins
-            (sym one.owner ∙ came_owner img 0 at.start job.steps p at.came) one.enters,
+            (sym one.owner ∙ came_owner img 0 all_left at.start job.steps at.now p at.came) one.enters,
         stays_told job p at stays outer are_in.1,
       )
 
@@ -107,12 +111,12 @@ module _ (img : Image) (b : Bounds) (are : AreBounds img b) where
   all_stays_told (job ∷ jobs) (p ∷ ps) at =
       (stays_told job p at.0 job.inside p.inside at.0.stays, all_stays_told jobs ps at.1)
 
-  are_told : (w : Watch) (ps : List Point) → IsTied img w ps → AreTold img b w
-  are_told w ps tied = record {
-    jobs = jobs_told w.jobs ps tied.jobs;
+  are_told : (w : Watch) (ps : List Point) (frames : List (List ℕ)) → IsTied img w ps frames → AreTold img b w
+  are_told w ps frames tied = record {
+    jobs = jobs_told w.jobs ps (jobs_of img w ps frames tied);
     ended = all_weaker (IsWholeJob img) (λ (job : SeenJob). HasJobLine img b job.whose)
         (λ job whole. job_told job.whose whole.start whole.begins) w.ended tied.ended;
-    inside = all_stays_told w.jobs ps tied.jobs;
+    inside = all_stays_told w.jobs ps (jobs_of img w ps frames tied);
     left = all_weaker (λ (one : LeftStay). IsWholeStay img one.whose one.stay)
         (λ (one : LeftStay). HasSectionLine img b one.whose one.stay.section)
         (λ one whole.
@@ -124,7 +128,8 @@ module _ (img : Image) (b : Bounds) (are : AreBounds img b) where
 pub runs_are_told : RunsAreTold
 runs_are_told img b events checked are =
     let at = reached img checked events in
-    are_told img b are (watched img events) (at.point ∷ at.below) at.tied
+    are_told img b are (watched img events) (at.point ∷ at.below)
+    (frames_of (core_after img (reset img) events)) at.tied
 
 -- the priority of a value of implemented bits
 record IsLogical (bits value : ℕ) : Type 0 where

@@ -29,6 +29,7 @@ use Rattle.rt_safe.specs.Inside.RunsAtPoints.{RunsAtPoints}
 use Rattle.rt_timely.specs.Waiting.{stepper_by, shows_take, steppers, lower, IsHeldIn, AreFewer, LieInOneSection}
 use Rattle.rt_timely.specs.Waiting.{IsPending, WaitsAreShort}
 use Rattle.rt_timely.specs.Watching.{SeenJob, Watch, after_step, watched}
+use Rattle.rt_timely.proofs.Frames.{frames_of}
 use Rattle.rt_timely.proofs.Holding.{AreWithin, IsFree, IsHeld, held_within, either}
 use Rattle.rt_timely.proofs.HoldingOn.{IsHeldBy}
 use Rattle.rt_timely.proofs.Keeping.{step_kept}
@@ -39,7 +40,7 @@ use Rattle.rt_timely.proofs.Pending.{pending_by_line, pending_by_take}
 use Rattle.rt_timely.proofs.Quiet.{arrived, later, ticked, stepped_to, arrival_fits, tick_fits}
 use Rattle.rt_timely.proofs.Reaching.{reached}
 use Rattle.rt_timely.proofs.Stepping.{free_on, free_waits, held_on}
-use Rattle.rt_timely.proofs.Tied.{IsTied}
+use Rattle.rt_timely.proofs.Tied.{AreJobsAt, IsTied, jobs_of}
 
 -- fewer steps are within a bound too
 fewer_within : (longest : Option Longest) (m n : ℕ) → n ≤ m → AreWithin longest m → AreWithin longest n
@@ -123,8 +124,12 @@ module _ (img : Image) (checked : IsChecked img) (index : ℕ) (row : IrqRow) (h
   -- a core that fits, with what one knows, where the interrupt is pending
   pub record Waits (c : Core) (w : Watch) (p : Point) (qs : List Point) : Type 0 where
     pub fits : RunsAtPoints img c p qs
-    pub tied : IsTied img w (p ∷ qs)
+    pub tied : IsTied img w (p ∷ qs) (frames_of c)
     pub pending : IsPending c irq
+
+  -- the jobs are at the points
+  jobs_at : (c : Core) (w : Watch) (p : Point) (qs : List Point) → Waits c w p qs → AreJobsAt img w.jobs (p ∷ qs)
+  jobs_at c w p qs on = jobs_of img w (p ∷ qs) (frames_of c) on.tied
 
   module _ (c : Core) (w : Watch) (p : Point) (qs : List Point) (on : Waits c w p qs) where
     after_arrival : (n : ℕ) → Waits (core_after_pend c n) w p qs
@@ -144,7 +149,8 @@ module _ (img : Image) (checked : IsChecked img) (index : ℕ) (row : IrqRow) (h
         → Waits one.core (after_step c w (one.core, one.shown)) one.point one.below
     after_one other = record {
       fits = one.fits;
-      tied = step_kept img checked c p qs on.fits w on.tied one.core one.point one.below one.fits one.shown one.how;
+      tied = step_kept img checked c p qs on.fits w on.tied one.core one.point one.below one.fits one.shown
+          one.is one.how;
       pending = still c p qs on.fits on.pending one other;
     }
 
@@ -160,14 +166,14 @@ module _ (img : Image) (checked : IsChecked img) (index : ℕ) (row : IrqRow) (h
     one_waits : IsFree img value (p ∷ qs) → lower value (stepper_by one.shown w.jobs) ≡ []
     one_waits free =
         free_waits img checked index row h at enabled c p qs on.fits on.pending one.shown one.point one.below w
-        on.tied.jobs one.how free
+        (jobs_at c w p qs on) one.how free
 
     one_held : (since steps : ℕ) → IsHeld img value since steps w.jobs (p ∷ qs)
         → IsHeldBy img value since steps (stepper_by one.shown w.jobs)
         (after_step c w (one.core, one.shown)).jobs (one.point ∷ one.below)
     one_held since steps held =
         held_on img checked index row h at enabled c p qs on.fits on.pending one.shown one.point one.below w
-        on.tied.jobs one.core since steps held one.how
+        (jobs_at c w p qs on) one.core since steps held one.how
 
   -- while the first lower job is free, none takes a step
   frees : (events : List Event) (c : Core) (w : Watch) (p : Point) (qs : List Point) → Waits c w p qs
@@ -208,7 +214,7 @@ module _ (img : Image) (checked : IsChecked img) (index : ℕ) (row : IrqRow) (h
     -- what was taken so far is less than the longest stay
     so_far : (longest : Option Longest) → IsWait img value longest → AreWithin longest (suc steps)
     so_far longest wait =
-        (held_within img value longest wait since steps w.jobs (p ∷ qs) on.tied.jobs held).0
+        (held_within img value longest wait since steps w.jobs (p ∷ qs) (jobs_at c w p qs on) held).0
 
     no_steps : Lie img value since steps []
     no_steps = record {
@@ -309,7 +315,7 @@ module _ (img : Image) (checked : IsChecked img) (index : ℕ) (row : IrqRow) (h
   pub lie_in_one : (longest : Option Longest) → IsWait img value longest → (events : List Event) (c : Core) (w : Watch)
       (p : Point) (qs : List Point) → Waits c w p qs
       → LieInOneSection value longest (lower value (steppers img irq c w events))
-  lie_in_one longest wait events c w p qs on = ⊎_elim free held (either img value w.jobs (p ∷ qs) on.tied.jobs)
+  lie_in_one longest wait events c w p qs on = ⊎_elim free held (either img value w.jobs (p ∷ qs) (jobs_at c w p qs on))
     where
       free : IsFree img value (p ∷ qs) → LieInOneSection value longest (lower value (steppers img irq c w events))
       free is =
@@ -320,7 +326,7 @@ module _ (img : Image) (checked : IsChecked img) (index : ℕ) (row : IrqRow) (h
           → LieInOneSection value longest (lower value (steppers img irq c w events))
       held is =
           let lie = helds events c w p qs on is.0 is.1 is.2 in
-          let some = (held_within img value longest wait is.0 is.1 w.jobs (p ∷ qs) on.tied.jobs is.2).1 in
+          let some = (held_within img value longest wait is.0 is.1 w.jobs (p ∷ qs) (jobs_at c w p qs on) is.2).1 in
           record {
             since = is.0;
             inside = lie.inside;

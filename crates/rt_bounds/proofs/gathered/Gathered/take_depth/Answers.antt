@@ -16,6 +16,7 @@ loop-address-init c =
       survey = new_surveyed c.args.image.now c.args.owner c.args.walk.now c.len.result (c.args.depth + 1)
           c.in_ok-survey.survey size c.in_ok-survey.ensures;
       depth = c.in_ok-survey.ensures.depth;
+      goal = c.in_ok-survey.ensures.goal;
       gathered = λ done gathered. gathered;
       sections = refl;
       same = refl;
@@ -29,6 +30,7 @@ loop-address-preserved c =
     record {
       survey = taken.surveyed;
       depth = taken.depth;
+      goal = taken.goal;
       gathered = λ done gathered. taken.gathered done (before.gathered done gathered);
       sections = c.take_address.ensures.sections ∙ before.sections;
       same = taken.priorities ∙ before.same;

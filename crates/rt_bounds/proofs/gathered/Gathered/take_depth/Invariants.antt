@@ -1,4 +1,4 @@
-use Rattle.std.proofs.Common.{◌≡◌, ◌+◌, List, map}
+use Rattle.std.proofs.Common.{◌≡◌, ◌+◌, List, map, None}
 use Rattle.rt_points.specs.declared.point.Owner.{Owner}
 use Rattle.rt_bounds.specs.Inside.Gathered.{IsGatheredTo, ArePriorities}
 use Rattle.rt_bounds.specs.Inside.Surveys.{IsSurveyed}
@@ -8,6 +8,7 @@ abbrev pub invariant-loop-address : goal.invariant-loop-address
 invariant-loop-address l = record {
   survey : IsSurveyed l.image l.owner l.walk l.survey;
   depth : l.survey.depth ≡ l.depth + 1;
+  goal : l.survey.goal ≡ None;
   gathered : (done : List Owner) → IsGatheredTo l.image done l.owner l.depth 0 l.fn.self
       → IsGatheredTo l.image done l.owner l.depth l.address l.self;
   sections : l.self.sections ≡ l.fn.self.sections;

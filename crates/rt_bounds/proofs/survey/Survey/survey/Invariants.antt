@@ -1,12 +1,22 @@
-use Rattle.std.proofs.Common.{◌≡◌, ◌+◌, ◌*◌, length}
+use Rattle.std.proofs.Common.{◌≡◌, ◌+◌, ◌*◌, ℕ, length}
+use Rattle.std.specs.List.{AllByRecursion}
 use Rattle.rt_judge.specs.Inside.Walks.{reached_by}
+use Rattle.rt_bounds.specs.Inside.Aheads.{AreFolds, IsFree}
 use Rattle.rt_bounds.specs.Inside.Surveys.{IsSurveying, IsSeen, unseen}
+use Rattle.rt_bounds.proofs.Steps.{KeepsBut}
 use Rattle.rt_bounds.proofs.survey.Survey.survey.Given as goal
 
 abbrev pub invariant-loop-top : goal.invariant-loop-top
 invariant-loop-top l = record {
   depth : l.self.depth ≡ l.fn.self.depth;
-  surveying : IsSurveying l.image l.owner (reached_by l.walk) l.self.depth l.self.marks.items l.self.trail.items;
+  goal : l.self.goal ≡ l.fn.self.goal;
+  surveying : IsSurveying l.image l.owner (reached_by l.walk) l.self.depth l.self.goal l.self.marks.items
+      l.self.trail.items;
+  wide : (last : ℕ) × AreFolds l.image l.owner (reached_by l.walk) last l.folds
+      × AllByRecursion (IsFree l.image l.owner (reached_by l.walk) l.self.depth l.self.goal last) l.self.trail.items;
+  kept : KeepsBut
+      (λ a. (last : ℕ) × IsFree l.image l.owner (reached_by l.walk) l.fn.self.depth l.fn.self.goal last a)
+      l.fn.self.marks.items l.self.marks.items;
   seen : IsSeen l.self.marks.items l.start;
 }
 

@@ -1,0 +1,7 @@
+use Rattle.std.proofs.Common.{◌<◌, ℕ}
+use Rattle.rt_bounds.specs.Counting.{IsInside}
+use Rattle.rt_bounds.specs.Inside.Countings.{IsOnceAt}
+use Rattle.rt_bounds.proofs.counting.Place.is_once.Given as goal
+
+abbrev pub invariant-loop-address : goal.invariant-loop-address
+invariant-loop-address l = (a : ℕ) → a < l.address → IsInside l.self a → IsOnceAt l.image l.walk l.self l.change a

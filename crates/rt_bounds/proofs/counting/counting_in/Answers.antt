@@ -1,0 +1,10 @@
+use Rattle.std.proofs.Common.{sym}
+use Rattle.rt_bounds.proofs.Mapped.{has_all}
+use Rattle.rt_bounds.proofs.PlacesFound.{no_head}
+use Rattle.rt_bounds.proofs.counting.counting_in.Goals as goal
+
+pub returns-in-None : goal.returns-in-None
+returns-in-None c =
+    no_head c.args.image.now c.args.owner c.args.walk.now
+    (has_all c.args.image.now c.args.owner c.args.walk.now c.requires.checked c.requires.mapped) c.args.lines
+    c.requires.back (sym c.in-None.ensures)
