@@ -234,7 +234,7 @@ module _ (app : App) (limits : Limits) (hs : List Handler) (responses : List Res
   -- one that a path leads to
   pub next_more : ¬ (to.irq ≡ from.irq) → is_marked all f i ≡ true → (lowest : ℕ)
       → IsLowestBefore hs all f i (length hs) lowest → (row : Caused) (d : Response) (more : List Caused)
-      → row.from ≡ from.irq → row.to ≡ to.irq → row.response ≡ get_or responses lowest d → more ≡ rows ++ row ∷ []
+      → row.from ≡ from.irq → row.to ≡ to.task → row.response ≡ get_or responses lowest d → more ≡ rows ++ row ∷ []
       → RowsThen more
   next_more differ joined lowest is row d more from_is to_is answer longer =
       let low = some_at hs lowest is.there in
@@ -242,7 +242,7 @@ module _ (app : App) (limits : Limits) (hs : List Handler) (responses : List Res
       (passes differ) row more
       (record {
         from_irq = from_is;
-        to_irq = to_is;
+        to_task = to_is;
         lowest = low.0;
         is_lowest = lowest_is app hs graph.handlers_are graph.edges graph.edges_are all graph.reached_are f i from to
             from_at to_at lowest low.0 low.1 joined is;

@@ -1,6 +1,8 @@
 -- The lemmas of this crate, a file each. The folders beside them have the proofs of functions, by file and name.
 pub mod Numbers
 pub mod Handlers
+mod Dispatchers
+mod Levels
 pub mod Sends
 pub mod Holding
 pub mod Blocked

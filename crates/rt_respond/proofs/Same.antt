@@ -4,7 +4,7 @@ use Rattle.std.proofs.Common.{find, length, Option, Some, None, refl, ap, ◌∙
 use Rattle.rt_app.specs.Tree.{App}
 use Rattle.rt_respond.specs.Number.{plus}
 use Rattle.rt_respond.specs.Handlers.{handlers, handled_block, is_at}
-use Rattle.rt_respond.specs.Work.{block_sends, handler_asks, pend_asks, work_within, work}
+use Rattle.rt_respond.specs.Work.{block_sends, handler_asks, takes, release_asks, work_within, work}
 use Rattle.rt_respond.specs.declared.handler.Handler.{Handler}
 use Rattle.rt_respond.proofs.Sends.{block_alike}
 
@@ -24,11 +24,11 @@ module _ (app : App) (i j : Handler) (priorities : i.priority ≡ j.priority) (n
   work_alike zero h = refl
   work_alike (suc depth) h =
       ap (λ b. if b then plus (Some (h.steps + 1))
-      (block_sends (pend_asks app (work_within app i depth)) (handled_block app h)) else Some 0) (at_alike h)
+      (block_sends (release_asks app (work_within app i depth)) (handled_block app h)) else Some 0) (at_alike h)
       ∙ ap (λ w. if is_at j h then plus (Some (h.steps + 1)) w else Some 0)
-      (block_alike (pend_asks app (work_within app i depth)) (pend_asks app (work_within app j depth))
-      (λ irq. asks_alike (work_within app i depth) (work_within app j depth) (work_alike depth)
-      (find (λ h. h.irq == irq) (handlers app))) (handled_block app h))
+      (block_alike (release_asks app (work_within app i depth)) (release_asks app (work_within app j depth))
+      (λ r. asks_alike (work_within app i depth) (work_within app j depth) (work_alike depth)
+      (find (takes r) (handlers app))) (handled_block app h))
 
   pub works_alike : (h : Handler) → work app i h ≡ work app j h
   works_alike h = work_alike (length (handlers app)) h

@@ -7,22 +7,17 @@ use Rattle.rt_ids.specs.Lists.{is_empty}
 use Rattle.rt_app.specs.Tree.{Task, App}
 use Rattle.rt_respond.specs.Form.{is_of_form}
 use Rattle.rt_respond.specs.Limits.{Limits, deadline_of}
-use Rattle.rt_respond.specs.Lines.{irq_text, report_text}
+use Rattle.rt_respond.specs.Lines.{judged_name, report_text}
 use Rattle.rt_respond.specs.Report.{IsReport}
 use Rattle.rt_respond.specs.declared.answer.Answer.{Answer}
 use Rattle.rt_respond.specs.declared.report.Report.{Report}
 
 module _ (app : App) where
-  -- what a deadline names: the interrupt of a hardware task, else the task
-  abbrev pub judged_name : Task → Option ℕ → List ℕ
-  judged_name t None = t.name
-  judged_name t (Some irq) = irq_text app irq
-
   -- the line of a deadline that has no number, where there is one
   abbrev pub late_text : Task → Option ℕ → List ℕ
   late_text t None = []
   late_text t (Some steps) =
-      codes "late " ++ (judged_name t t.binds ++ (codes " " ++ (decimal steps ++ codes "\n")))
+      codes "late " ++ (judged_name app t t.binds ++ (codes " " ++ (decimal steps ++ codes "\n")))
 
   -- those of the tasks from this number on
   abbrev pub late_texts : Limits → ℕ → List Task → List ℕ

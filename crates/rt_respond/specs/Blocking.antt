@@ -3,19 +3,24 @@
 -- Processes, 1991, on blocking), and so does one job of the same priority that has been taken before (as in analysis
 -- without preemption: George, Rivierre and Spuri, Preemptive and Non-Preemptive Real-Time Uniprocessor Scheduling,
 -- 1996). What any of these releases at the handler comes with it, and comes once. A `pend` outside of sections that
--- count is a release and no step. Of a section's cost the step that enters it lies before the waiting.
+-- count is a release and no step. Of a section's cost the step that enters it lies before the waiting. A `spawn` takes
+-- a place in one section and makes its message ready in another; the dispatcher of a level takes its message in one and
+-- gives the place back in another.
 use Rattle.std.specs.Prelude.{ℕ, ◌-◌, ◌==◌, ◌&&◌, nat_lt, nat_le, List, [], ◌∷◌, ◌++◌, flat_map, Option, Some}
 use Rattle.std.specs.Prelude.{None, if◌then◌else◌}
 use Rattle.rt_ids.specs.declared.ids.Section.TheVariants as section
 use Rattle.rt_app.specs.Tree.{Statement, Bind, Assign, Branch, Repeat, Locked, Emit, Pend, Spawns, Block, Empty, Then}
-use Rattle.rt_app.specs.Tree.{Body, Task, App}
+use Rattle.rt_app.specs.Tree.{Spawn, Soon, After, Cancel, Move, Value, Calc, Now, Call, Body, Task, App}
 use Rattle.rt_app.specs.Ceiling.{ceiling}
+use Rattle.rt_app.specs.Bodies.{task_priority}
+use Rattle.rt_app.specs.declared.costs.TheConstants.{FREE_COST, READY_COST}
 use Rattle.rt_app.specs.Cost.{lock_cost, block_cost}
-use Rattle.rt_app.specs.BodyCost.{cost_measure}
+use Rattle.rt_app.specs.BodyCost.{cost_measure, dispatcher_section_cost}
 use Rattle.rt_respond.specs.Number.{plus, greatest_of}
 use Rattle.rt_respond.specs.Handlers.{handlers, handled_block, stands_before}
-use Rattle.rt_respond.specs.Work.{pend_work, sends}
+use Rattle.rt_respond.specs.Work.{release_work, sends}
 use Rattle.rt_respond.specs.declared.handler.Handler.{Handler}
+use Rattle.rt_respond.specs.declared.handler.Release.TheVariants as released
 
 -- at a handler
 module _ (app : App) (i : Handler) where
@@ -23,18 +28,46 @@ module _ (app : App) (i : Handler) where
   abbrev pub section_holds : Block → Option ℕ
   section_holds inner = plus (Some (lock_cost (block_cost (cost_measure app) inner) - 1)) (sends app i inner)
 
+  -- a section of a queue of this ceiling and cost, where it counts, with what is released in it
+  abbrev pub queue_holds : ℕ → ℕ → Option ℕ → List (Option ℕ)
+  queue_holds top cost released =
+      if nat_le i.priority top then plus (Some (cost - 1)) released ∷ [] else []
+
+  -- the section of a task's free places
+  abbrev pub free_holds : ℕ → List (Option ℕ)
+  free_holds task = queue_holds (ceiling app (section.Free task)) FREE_COST (Some 0)
+
+  -- the section in which a message of a task is made ready
+  abbrev pub ready_holds : ℕ → List (Option ℕ)
+  ready_holds task =
+      queue_holds (ceiling app (section.Ready (task_priority app task))) READY_COST
+      (release_work app i (released.Message task))
+
+  -- what the sections of a spawn hold off; those of messages that are armed are left for later
+  abbrev pub spawn_holds : Spawn → List (Option ℕ)
+  spawn_holds (Soon task args at) = free_holds task ++ ready_holds task
+  spawn_holds (After word delay task args at) = []
+  spawn_holds (Cancel word task handle at) = []
+  spawn_holds (Move word delay task handle at) = []
+
+  -- what those of the value of a `let` hold off
+  abbrev pub value_holds : Value → List (Option ℕ)
+  value_holds (Calc e) = []
+  value_holds (Now at) = []
+  value_holds (Call s) = spawn_holds s
+
   -- what the sections of a statement hold off, outermost of those that count, and its releases outside of them
   abbrev mutual
     pub statement_holds : Statement → List (Option ℕ)
-    statement_holds (Bind x v) = []
+    statement_holds (Bind x v) = value_holds v
     statement_holds (Assign x e at) = []
     statement_holds (Branch e first second) = block_holds first ++ block_holds second
     statement_holds (Repeat x first last turn) = block_holds turn
     statement_holds (Locked r inner at) =
         if nat_le i.priority (ceiling app (section.Res r)) then section_holds inner ∷ [] else block_holds inner
     statement_holds (Emit e) = []
-    statement_holds (Pend irq) = pend_work app i irq ∷ []
-    statement_holds (Spawns s) = []
+    statement_holds (Pend irq) = release_work app i (released.Request irq) ∷ []
+    statement_holds (Spawns s) = spawn_holds s
 
     -- and of a block
     pub block_holds : Block → List (Option ℕ)
@@ -56,9 +89,20 @@ module _ (app : App) (i : Handler) where
       if (h.priority == i.priority) && stands_before i h
       then plus (Some h.steps) (sends app i (handled_block app h)) ∷ [] else []
 
+  -- of the dispatcher of a task, where it is of lower priority
+  abbrev pub dispatcher_holds : Handler → List (Option ℕ)
+  dispatcher_holds h =
+      if h.is_dispatcher && nat_lt h.priority i.priority
+      then queue_holds (ceiling app (section.Ready h.priority)) (dispatcher_section_cost app h.priority) (Some 0)
+      ++ free_holds h.task else []
+
+  -- of a handler
+  abbrev pub handler_holds : Handler → List (Option ℕ)
+  handler_holds h = equal_holds h ++ dispatcher_holds h
+
   -- all that may hold the handler off; `init` is not among them, since no request counts before it ends
   abbrev pub holds : List (Option ℕ)
-  holds = idle_holds app.idle ++ (flat_map task_holds app.tasks ++ flat_map equal_holds (handlers app))
+  holds = idle_holds app.idle ++ (flat_map task_holds app.tasks ++ flat_map handler_holds (handlers app))
 
   -- worst-case blocking, with what it releases
   abbrev pub blocking : Option ℕ

@@ -1,8 +1,9 @@
--- Which bodies hold a `pend` of which interrupt, whether or not it is ever done.
-use Rattle.std.specs.Prelude.{ℕ, ◌==◌, Bool, false, ◌||◌, Option, Some, None}
+-- Which bodies hold a `pend` of which interrupt, or a `spawn` of which task, whether or not it is ever done.
+use Rattle.std.specs.Prelude.{ℕ, ◌==◌, Bool, false, ◌&&◌, ◌||◌, Option, Some, None}
 use Rattle.std.specs.List.{list_any}
 use Rattle.rt_app.specs.Tree.{Statement, Bind, Assign, Branch, Repeat, Locked, Emit, Pend, Spawns, Block, Empty, Then}
-use Rattle.rt_app.specs.Tree.{Body, App}
+use Rattle.rt_app.specs.Tree.{Spawn, Body, App}
+use Rattle.rt_app.specs.Spawned.{spawns, makes_ready, target}
 
 -- a statement holds a `pend` of this interrupt
 abbrev mutual
@@ -21,7 +22,15 @@ abbrev mutual
   block_pends irq Empty = false
   block_pends irq (Then s rest) = statement_pends irq s || block_pends irq rest
 
--- `init` or `idle` does, where it is declared
+-- a spawn makes a message of this task ready at once
+abbrev pub readies_task : ℕ → Spawn → Bool
+readies_task task s = makes_ready s && (target s == task)
+
+-- a block holds a `spawn` of this task
+abbrev pub block_spawns : ℕ → Block → Bool
+block_spawns task b = list_any (readies_task task) (spawns b)
+
+-- `init` or `idle` holds a `pend` of this interrupt, where it is declared
 abbrev pub body_pends : ℕ → Option Body → Bool
 body_pends irq None = false
 body_pends irq (Some b) = block_pends irq b.block

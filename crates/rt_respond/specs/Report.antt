@@ -1,4 +1,4 @@
--- What is answered for an application of hardware tasks, under limits.
+-- What is answered for an application under limits.
 use Rattle.std.specs.Prelude.{◌≡◌, ℕ, ◌==◌, ◌⊎◌, Bool, false, not, nat_le, if◌then◌else◌, List, [], ◌∷◌, filter}
 use Rattle.std.specs.Prelude.{find, flat_map, map, Option, Some, None}
 use Rattle.rt_app.specs.Tree.{App}
@@ -31,13 +31,15 @@ outer_requests None r = requests.Never
 outer_requests (Some every) r = if is_within every r then requests.Apart else requests.Merge
 
 module _ (app : App) (limits : Limits) where
-  -- how requests of a handler of this response time come
+  -- how requests of a handler of this response time come; those of a dispatcher are messages
   abbrev pub requests_of : Handler → Response → Requests
-  requests_of h r = if is_pended app h.irq then requests.Merge else outer_requests (every_of limits h.number) r
+  requests_of h r =
+      if h.is_dispatcher then requests.Messages
+      else if is_pended app h.irq then requests.Merge else outer_requests (every_of limits h.number) r
 
   -- the row of a handler
   pub record IsServed (h : Handler) (row : Served) : Type 0 where
-    pub irq : row.irq ≡ h.irq
+    pub task : row.task ≡ h.task
     pub priority : row.priority ≡ h.priority
     pub response : IsResponse app limits.every h row.response
     pub requests : row.requests ≡ requests_of h row.response
@@ -46,7 +48,7 @@ module _ (app : App) (limits : Limits) where
   -- all on paths between them
   pub record IsCaused (from to : Handler) (row : Caused) : Type 0 where
     pub from_irq : row.from ≡ from.irq
-    pub to_irq : row.to ≡ to.irq
+    pub to_task : row.to ≡ to.task
     pub lowest : Handler
     pub is_lowest : IsLowest app from to lowest
     pub response : IsResponse app limits.every lowest row.response
@@ -70,7 +72,7 @@ module _ (app : App) (limits : Limits) where
 
   -- the row of a deadline
   pub record IsJudged (h : Handler) (row : Judged) : Type 0 where
-    pub irq : row.irq ≡ h.irq
+    pub task : row.task ≡ h.task
     pub deadline : deadline_of limits h.task ≡ Some row.deadline
     pub response : Response
     pub is_response : IsResponse app limits.every h response

@@ -1,27 +1,44 @@
 -- What a request asks for at a handler of the order: the core steps of all jobs at it that come of the request. This is
 -- a transaction of Tindell and Clark (Holistic Schedulability Analysis for Distributed Hard Real-Time Systems, 1994),
--- in which a job releases others. A release downwards is counted with its root, so it has no jitter. What is below the
--- handler asks for nothing there. A step more than the cost takes the interrupt.
-use Rattle.std.specs.Prelude.{ℕ, zero, suc, ◌+◌, ◌-◌, ◌==◌, length, find, Option, Some, None, if◌then◌else◌}
+-- in which a job releases others, by a `pend` or by a message that is ready at once. A release downwards is counted
+-- with its root, so it has no jitter. What is below the handler asks for nothing there. A step more than the cost takes
+-- the interrupt.
+use Rattle.std.specs.Prelude.{ℕ, zero, suc, ◌+◌, ◌-◌, ◌==◌, Bool, length, find, Option, Some, None, if◌then◌else◌}
+use Rattle.rt_app.specs.Tree.{Spawn, Soon, After, Cancel, Move, Value, Calc, Now, Call}
 use Rattle.rt_app.specs.Tree.{Statement, Bind, Assign, Branch, Repeat, Locked, Emit, Pend, Spawns, Block, Empty, Then}
 use Rattle.rt_app.specs.Tree.{Body, App}
 use Rattle.rt_respond.specs.Number.{plus, greater_of, times}
 use Rattle.rt_respond.specs.Handlers.{handlers, handled_block, is_at}
 use Rattle.rt_respond.specs.declared.handler.Handler.{Handler}
+use Rattle.rt_respond.specs.declared.handler.Release.{Release}
+use Rattle.rt_respond.specs.declared.handler.Release.TheVariants as released
 
--- where a `pend` of an interrupt asks for so much
-module _ (pends : ℕ → Option ℕ) where
+-- where a release asks for so much
+module _ (asks : Release → Option ℕ) where
+  -- what a spawn releases; messages that are armed are left for later
+  abbrev pub spawn_sends : Spawn → Option ℕ
+  spawn_sends (Soon task args at) = asks (released.Message task)
+  spawn_sends (After word delay task args at) = Some 0
+  spawn_sends (Cancel word task handle at) = Some 0
+  spawn_sends (Move word delay task handle at) = Some 0
+
+  -- what the value of a `let` releases
+  abbrev pub value_sends : Value → Option ℕ
+  value_sends (Calc e) = Some 0
+  value_sends (Now at) = Some 0
+  value_sends (Call s) = spawn_sends s
+
   -- what a statement releases at most: of a branch the greater block, of a loop all turns
   abbrev mutual
     pub statement_sends : Statement → Option ℕ
-    statement_sends (Bind x v) = Some 0
+    statement_sends (Bind x v) = value_sends v
     statement_sends (Assign x e at) = Some 0
     statement_sends (Branch e first second) = greater_of (block_sends first) (block_sends second)
     statement_sends (Repeat x first last turn) = times (last - first) (block_sends turn)
     statement_sends (Locked r inner at) = block_sends inner
     statement_sends (Emit e) = Some 0
-    statement_sends (Pend i) = pends i
-    statement_sends (Spawns s) = Some 0
+    statement_sends (Pend i) = asks (released.Request i)
+    statement_sends (Spawns s) = spawn_sends s
 
     -- what a block releases at most
     pub block_sends : Block → Option ℕ
@@ -38,9 +55,14 @@ abbrev pub handler_asks : (Handler → Option ℕ) → Option Handler → Option
 handler_asks works None = Some 0
 handler_asks works (Some h) = works h
 
--- what a `pend` of an interrupt asks for, where its handler asks for so much
-abbrev pub pend_asks : App → (Handler → Option ℕ) → ℕ → Option ℕ
-pend_asks app works irq = handler_asks works (find (λ h. h.irq == irq) (handlers app))
+-- a handler is that of a release
+abbrev pub takes : Release → Handler → Bool
+takes (released.Request irq) h = h.irq == irq
+takes (released.Message task) h = h.task == task
+
+-- what a release asks for, where its handler asks for so much; the form has no `pend` of a dispatcher's interrupt
+abbrev pub release_asks : App → (Handler → Option ℕ) → Release → Option ℕ
+release_asks app works r = handler_asks works (find (takes r) (handlers app))
 
 -- at a handler
 module _ (app : App) (i : Handler) where
@@ -50,7 +72,7 @@ module _ (app : App) (i : Handler) where
   work_within zero h = None
   work_within (suc depth) h =
       if is_at i h then plus (Some (h.steps + 1))
-      (block_sends (pend_asks app (work_within depth)) (handled_block app h))
+      (block_sends (release_asks app (work_within depth)) (handled_block app h))
       else Some 0
 
   -- The work of a request. Where more jobs release one another in a row than there are handlers, one comes back to
@@ -58,14 +80,14 @@ module _ (app : App) (i : Handler) where
   abbrev pub work : Handler → Option ℕ
   work h = work_within (length (handlers app)) h
 
-  -- what a `pend` of an interrupt asks for
-  abbrev pub pend_work : ℕ → Option ℕ
-  pend_work irq = pend_asks app work irq
+  -- what a release asks for
+  abbrev pub release_work : Release → Option ℕ
+  release_work r = release_asks app work r
 
   -- what code releases: a block, and `init`
   abbrev pub sends : Block → Option ℕ
-  sends b = block_sends pend_work b
+  sends b = block_sends release_work b
 
   -- what `init` releases, which is there once it ends
   abbrev pub start : Option ℕ
-  start = body_sends pend_work app.init
+  start = body_sends release_work app.init

@@ -10,7 +10,7 @@ ghost use Rattle.rt_respond.specs.Answer as spec;
 use crate::form::is_of_form;
 use crate::limits::Limits;
 use crate::report::respond;
-use crate::text::{push_irq, report_text};
+use crate::text::{push_judged_name, report_text};
 use rt_app::{App, Task};
 use rt_ids::{NoMemory, TaskId, push_bytes, push_number};
 use std::alloc::Global;
@@ -20,17 +20,6 @@ use std::alloc::Global;
 pub struct Answer {
     pub text: Vec<u8>,
     pub is_late: bool,
-}
-
-/// Appends what a deadline of a task names: its interrupt, or the task itself.
-fn push_judged_name(out: &mut Vec<u8>, app: &App, task: &Task) -> Result<(), NoMemory>
-    ensures { let t = task_of task.now in
-        OnOk result (out.new.items ≡ out.old.items ++ spec.judged_name (app_of app.now) t t.binds) }
-{
-    match task.binds {
-        None => push_bytes(out, task.name.bytes()),
-        Some(irq) => push_irq(out, app, irq),
-    }
 }
 
 /// Appends the line of a deadline that has no number, where there is one.

@@ -1,4 +1,4 @@
-// Response times of each interrupt, where bodies may pend others, and what comes of requests.
+// Response times of each task, where bodies pend interrupts and spawn messages, and what comes of requests.
 // Promises: exact limits, refusals and response times.
 // Stands on: rt_lemmas, rt_ids, rt_lines, rt_app, rt_ceil, rt_frames, rt_script, rt_rta.
 // Read next: specs/Work.antt, specs/Blocking.antt and specs/Response.antt, then src/response.rt.
@@ -6,6 +6,7 @@
 
 pub mod answer;
 mod blocking;
+mod dispatcher;
 pub mod form;
 pub mod handler;
 pub mod limits;

@@ -10,7 +10,7 @@ use std::alloc::Global;
 use std::marker::Model;
 
 /// How long a software task that is sent after a delay waits at least.
-#[derive(Clone, Copy, PartialEq, Eq)]
+#[derive(Clone, Copy)]
 pub struct Delay {
     pub task: TaskId,
     /// The least delay, in ticks.
@@ -18,7 +18,7 @@ pub struct Delay {
 }
 
 /// When a task is to be done at the latest.
-#[derive(Clone, Copy, PartialEq, Eq)]
+#[derive(Clone, Copy)]
 pub struct Deadline {
     pub task: TaskId,
     /// Core steps from the request on.
@@ -26,7 +26,6 @@ pub struct Deadline {
 }
 
 /// What a text of limits says. Contracts see a record of it.
-#[derive(Drop)]
 pub struct Limits {
     every: Vec<Limit>,
     tick: Option<u32>,
@@ -45,6 +44,17 @@ impl Model for Limits {
       delays = limits.delays.items;
       deadlines = limits.deadlines.items;
     } };
+}
+
+impl Drop for Limits {
+    fn drop(self) {
+        let Limits {
+            every: _,
+            tick: _,
+            delays: _,
+            deadlines: _,
+        } = self;
+    }
 }
 
 impl Limits {

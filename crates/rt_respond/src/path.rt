@@ -7,25 +7,31 @@ ghost use Rattle.rt_respond.specs.Path as spec;
 ghost use Rattle.rt_respond.specs.Inside.Paths as inner;
 
 use crate::handler::{Handler, stands_before};
-use crate::pend::block_pends;
+use crate::pend::{block_pends, block_spawns};
 use rt_app::App;
 use rt_ids::NoMemory;
 use std::alloc::Global;
 
-/// The body of one handler pends another, each by its place in order.
+/// The body of one handler releases another, each by its place in order.
 #[derive(Clone, Copy)]
 pub(crate) struct Edge {
     from: usize,
     to: usize,
 }
 
-/// Whether the body of a handler holds a `pend` of another.
+/// Whether the body of a handler holds a `pend` of another, or a `spawn` of its task.
 fn releases(app: &App, from: &Handler, to: &Handler) -> bool
     ensures { result ≡ spec.releases (app_of app.now) from.now to.now }
 {
     match app.task(from.task) {
         None => false,
-        Some(task) => block_pends(to.irq, &task.body.block),
+        Some(task) => {
+            if to.is_dispatcher {
+                block_spawns(to.task, &task.body.block)
+            } else {
+                block_pends(to.irq, &task.body.block)
+            }
+        }
     }
 }
 

@@ -1,11 +1,13 @@
-// Which bodies pend which interrupts.
+// Which bodies pend which interrupts, and which spawn which tasks.
 
 ghost use Rattle.std.specs.Prelude.{◌≡◌, ◌||◌, option_map};
 ghost use Rattle.std.specs.List.{list_any};
-ghost use Rattle.rt_app.specs.View.{statement_of, block_of, body_of, task_of, app_of};
+ghost use Rattle.rt_app.specs.View.{spawn_of, value_of, statement_of, block_of, body_of, task_of, app_of};
+ghost use Rattle.rt_app.specs.Spawned.{value_spawns, statement_spawns};
 ghost use Rattle.rt_respond.specs.Pends as spec;
 
-use rt_app::{App, Body, Stmt, Task};
+use rt_app::{App, Body, Spawn, Stmt, Task, Value};
+use rt_ids::TaskId;
 
 /// Whether a statement holds a `pend` of an interrupt.
 #[cycle(block)]
@@ -33,6 +35,61 @@ pub(crate) fn block_pends(irq: u8, stmts: &[Stmt]) -> bool
 {
     for stmt in stmts {
         if statement_pends(irq, stmt) {
+            return true;
+        }
+    }
+    false
+}
+
+/// Whether a spawn makes a message of a task ready at once.
+fn readies_task(task: TaskId, spawn: &Spawn) -> bool
+    ensures { result ≡ spec.readies_task task (spawn_of spawn.now) }
+{
+    match spawn {
+        Spawn::Soon(target, _args, _at) => *target == task,
+        Spawn::After(_word, _delay, _target, _args, _at) => false,
+        Spawn::Cancel(_word, _target, _handle, _at) => false,
+        Spawn::Move(_word, _delay, _target, _handle, _at) => false,
+    }
+}
+
+/// Whether the value of a `let` is a `spawn` of a task.
+fn value_spawns(task: TaskId, value: &Value) -> bool
+    ensures { result ≡ list_any (spec.readies_task task) (value_spawns (value_of value.now)) }
+{
+    match value {
+        Value::Calc(_expr) => false,
+        Value::Now(_at) => false,
+        Value::Call(spawn) => readies_task(task, spawn),
+    }
+}
+
+/// Whether a statement holds a `spawn` of a task.
+#[cycle(spawning)]
+fn statement_spawns(task: TaskId, stmt: &Stmt) -> bool
+    ensures { result ≡ list_any (spec.readies_task task) (statement_spawns (statement_of stmt.now)) }
+{
+    match stmt {
+        Stmt::Bind(_variable, value) => value_spawns(task, value),
+        Stmt::Assign(_atom, _expr, _at) => false,
+        Stmt::Branch(_condition, first, second) => {
+            block_spawns(task, first) || block_spawns(task, second)
+        }
+        Stmt::Repeat(_variable, _first, _last, turn) => block_spawns(task, turn),
+        Stmt::Locked(_resource, inner, _at) => block_spawns(task, inner),
+        Stmt::Emit(_expr) => false,
+        Stmt::Pend(_pended) => false,
+        Stmt::Call(spawn) => readies_task(task, spawn),
+    }
+}
+
+/// Whether statements hold a `spawn` of a task.
+#[cycle(spawning)]
+pub(crate) fn block_spawns(task: TaskId, stmts: &[Stmt]) -> bool
+    ensures { result ≡ spec.block_spawns task (block_of stmts.now) }
+{
+    for stmt in stmts {
+        if statement_spawns(task, stmt) {
             return true;
         }
     }

@@ -8,7 +8,7 @@ use rt_lines::TextRefused;
 use std::alloc::Global;
 
 /// What is wrong with a text, or with a line of it.
-#[derive(Clone, Copy, PartialEq, Eq)]
+#[derive(Clone, Copy)]
 pub enum Cause {
     /// The text is longer than a limits text may be.
     TooLong,

@@ -25,12 +25,11 @@ use crate::pend::is_pended;
 use crate::response::{Response, place_of, responses};
 use crate::work::works_at;
 use rt_app::App;
-use rt_ceil::ceilings;
-use rt_ids::NoMemory;
+use rt_ids::{NoMemory, TaskId};
 use std::alloc::Global;
 
 /// How requests of an interrupt may come.
-#[derive(Clone, Copy, PartialEq, Eq)]
+#[derive(Clone, Copy)]
 pub enum Requests {
     /// There are none: it has no limit, and no body pends it.
     Never,
@@ -38,41 +37,41 @@ pub enum Requests {
     Merge,
     /// Each comes while none is pending.
     Apart,
+    /// They are messages of a software task.
+    Messages,
 }
 
-/// The answer for a hardware task.
-#[derive(Clone, Copy, PartialEq, Eq)]
+/// The answer for a task.
+#[derive(Clone, Copy)]
 pub struct Served {
-    /// Its interrupt, by its index in the order of declaration.
-    pub irq: u8,
+    pub task: TaskId,
     pub priority: u8,
     pub response: Response,
     pub requests: Requests,
 }
 
 /// How long a request takes at most until a job that comes of it is done.
-#[derive(Clone, Copy, PartialEq, Eq)]
+#[derive(Clone, Copy)]
 pub struct Caused {
-    /// The interrupts, by their indices in the order of declaration.
+    /// The interrupt, by its index in the order of declaration.
     pub from: u8,
-    pub to: u8,
+    /// The task of the job.
+    pub to: TaskId,
     pub response: Response,
 }
 
 /// A deadline, and whether it is met.
-#[derive(Clone, Copy, PartialEq, Eq)]
+#[derive(Clone, Copy)]
 pub struct Judged {
-    /// The interrupt, by its index in the order of declaration.
-    pub irq: u8,
+    pub task: TaskId,
     /// Core steps.
     pub deadline: u32,
     pub is_met: bool,
 }
 
 /// What is answered.
-#[derive(Drop)]
 pub struct Report {
-    /// For each hardware task, in order of declaration.
+    /// For each task, in order of declaration.
     pub served: Vec<Served>,
     /// For each limit on requests, in order, the tasks whose jobs come of them, in order of declaration.
     pub caused: Vec<Caused>,
@@ -95,6 +94,17 @@ impl Response {
     }
 }
 
+impl Drop for Report {
+    fn drop(self) {
+        let Report {
+            served: _,
+            caused: _,
+            load: _,
+            judged: _,
+        } = self;
+    }
+}
+
 impl Report {
     /// Whether a deadline is late.
     pub fn is_late(&self) -> bool
@@ -108,6 +118,9 @@ impl Report {
 fn requests_of(app: &App, limits: &Limits, handler: &Handler, response: Response) -> Requests
     ensures { result ≡ spec.requests_of (app_of app.now) limits.now handler.now response }
 {
+    if handler.is_dispatcher {
+        return Requests::Messages;
+    }
     if is_pended(app, handler.irq) {
         return Requests::Merge;
     }
@@ -118,7 +131,7 @@ fn requests_of(app: &App, limits: &Limits, handler: &Handler, response: Response
     }
 }
 
-/// The answers for the hardware tasks.
+/// The answers for the tasks.
 fn served_rows(
     alloc: Global,
     app: &App,
@@ -134,7 +147,7 @@ fn served_rows(
     for index in 0..handlers.len() {
         let handler = handlers[index];
         rows.push(Served {
-            irq: handler.irq,
+            task: handler.task,
             priority: handler.priority,
             response: responses[index],
             requests: requests_of(app, limits, &handler, responses[index]),
@@ -164,7 +177,7 @@ fn push_caused(
             if let Some(lowest) = lowest_on(handlers, reached, from, to) {
                 rows.push(Caused {
                     from: handlers[from].irq,
-                    to: handlers[to].irq,
+                    to: handlers[to].task,
                     response: responses[lowest],
                 })?;
             }
@@ -250,7 +263,7 @@ fn judged_rows(
     for index in 0..handlers.len() {
         if let Some(deadline) = limits.deadline_of(handlers[index].task) {
             rows.push(Judged {
-                irq: handlers[index].irq,
+                task: handlers[index].task,
                 deadline,
                 is_met: responses[index].is_within(deadline),
             })?;
@@ -259,20 +272,40 @@ fn judged_rows(
     Ok(rows)
 }
 
-/// The answers for an application of hardware tasks alone, under these limits.
+/// The answers, by the response times of the handlers.
+fn report_of(
+    alloc: Global,
+    app: &App,
+    limits: &Limits,
+    handlers: &[Handler],
+    responses: &[Response],
+) -> Result<Report, NoMemory>
+    requires few { length (app_of app.now).tasks ≤ TASKS }
+    requires limits { AreLimits (app_of app.now) limits.now }
+    requires handlers { handlers.now ≡ handler.handlers (app_of app.now) }
+    requires responses { BelongEach (IsResponse (app_of app.now) limits.now.every) handlers.now responses.now }
+    ensures { IfOk result (λ report. spec.IsReport (app_of app.now) limits.now report) }
+{
+    let load = load_of(alloc, app, limits, handlers)?;
+    let served = served_rows(alloc, app, limits, handlers, responses)?;
+    let caused = caused_rows(alloc, app, limits, handlers, responses)?;
+    let judged = judged_rows(alloc, limits, handlers, responses)?;
+    Ok(Report {
+        served,
+        caused,
+        load,
+        judged,
+    })
+}
+
+/// The answers for an application of the form, under these limits.
 pub fn respond(alloc: Global, app: &App, limits: &Limits) -> Result<Report, NoMemory>
     requires accepted { IsAccepted (app_of app.now) }
     requires form { is_of_form (app_of app.now) ≡ true }
     requires limits { AreLimits (app_of app.now) limits.now }
     ensures { IfOk result (λ report. spec.IsReport (app_of app.now) limits.now report) }
 {
-    let ceilings = ceilings(alloc, app)?;
     let handlers = handlers(alloc, app)?;
-    let responses = responses(alloc, app, limits.every(), &ceilings, &handlers)?;
-    Ok(Report {
-        served: served_rows(alloc, app, limits, &handlers, &responses)?,
-        caused: caused_rows(alloc, app, limits, &handlers, &responses)?,
-        load: load_of(alloc, app, limits, &handlers)?,
-        judged: judged_rows(alloc, limits, &handlers, &responses)?,
-    })
+    let responses = responses(alloc, app, limits.every(), &handlers)?;
+    report_of(alloc, app, limits, &handlers, &responses)
 }

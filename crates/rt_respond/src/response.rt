@@ -3,7 +3,7 @@
 ghost use Rattle.std.specs.Prelude.{◌≡◌, ◌≤◌, ◌-◌, ◌^◌, ◌==◌, min, position, IfOk};
 ghost use Rattle.rt_app.specs.View.{app_of};
 ghost use Rattle.rt_app.specs.Tree as tree;
-ghost use Rattle.rt_app.specs.Acceptance.{IsSound};
+ghost use Rattle.rt_app.specs.Accepted.{IsAccepted};
 ghost use Rattle.rt_app.specs.BodyCost.{cost_measure};
 ghost use Rattle.rt_app.specs.Ceiling as ceiling;
 ghost use Rattle.rt_rta.specs.Response as rta;
@@ -17,6 +17,7 @@ use crate::handler::{Handler, is_at};
 use crate::number::{greater_of, plus, times};
 use crate::work::{Works, body_sends, works_at};
 use rt_app::{App, Ceilings};
+use rt_ceil::ceilings;
 use rt_frames::Measure;
 use rt_ids::NoMemory;
 use rt_rta::Limit;
@@ -24,7 +25,7 @@ use rt_rta::response::MOST_STEPS;
 use std::alloc::Global;
 
 /// How long a request takes at most to be served, in core steps.
-#[derive(Clone, Copy, PartialEq, Eq)]
+#[derive(Clone, Copy)]
 pub enum Response {
     /// So many core steps, a million at most.
     Steps(u32),
@@ -127,7 +128,7 @@ fn response_of<'a>(
     handlers: &'a [Handler],
     this: &'a Handler,
 ) -> Result<Response, NoMemory>
-    requires sound { IsSound (app_of app.now) }
+    requires accepted { IsAccepted (app_of app.now) }
     requires positive { ArePositive limits.now }
     requires ceilings { ceilings.now ≡ ceiling.ceilings (app_of app.now) }
     requires measure { measure.now ≡ cost_measure (app_of app.now) }
@@ -154,15 +155,15 @@ fn response_of<'a>(
     }))
 }
 
-/// The response time of each handler, in order.
-pub(crate) fn responses(
+/// The response time of each handler, in order, by the ceilings.
+fn responses_under(
     alloc: Global,
     app: &App,
     limits: &[Limit],
     ceilings: &Ceilings,
     handlers: &[Handler],
 ) -> Result<Vec<Response>, NoMemory>
-    requires sound { IsSound (app_of app.now) }
+    requires accepted { IsAccepted (app_of app.now) }
     requires positive { ArePositive limits.now }
     requires ceilings { ceilings.now ≡ ceiling.ceilings (app_of app.now) }
     requires handlers { handlers.now ≡ order.handlers (app_of app.now) }
@@ -175,4 +176,21 @@ pub(crate) fn responses(
         all.push(response_of(alloc, app, limits, ceilings, &measure, handlers, this)?)?;
     }
     Ok(all)
+}
+
+/// The response time of each handler, in order.
+pub(crate) fn responses(
+    alloc: Global,
+    app: &App,
+    limits: &[Limit],
+    handlers: &[Handler],
+) -> Result<Vec<Response>, NoMemory>
+    requires accepted { IsAccepted (app_of app.now) }
+    requires positive { ArePositive limits.now }
+    requires handlers { handlers.now ≡ order.handlers (app_of app.now) }
+    ensures { IfOk result (λ all.
+        BelongEach (spec.IsResponse (app_of app.now) limits.now) (order.handlers (app_of app.now)) all.items) }
+{
+    let ceilings = ceilings(alloc, app)?;
+    responses_under(alloc, app, limits, &ceilings, handlers)
 }

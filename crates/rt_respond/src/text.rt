@@ -1,14 +1,14 @@
 // Writes the lines of the report.
 
-ghost use Rattle.std.specs.Prelude.{◌≡◌, ◌++◌, flat_map, IfOk, OnOk};
-ghost use Rattle.rt_app.specs.View.{app_of};
+ghost use Rattle.std.specs.Prelude.{◌≡◌, ◌++◌, flat_map, slice_get, IfOk, OnOk};
+ghost use Rattle.rt_app.specs.View.{task_of, app_of};
 ghost use Rattle.rt_rta.specs.Report.{steps_text};
 ghost use Rattle.rt_respond.specs.Lines as spec;
 
 use crate::report::{Caused, Judged, Report, Requests, Served};
 use crate::response::Response;
-use rt_app::App;
-use rt_ids::{NoMemory, push_bytes, push_number};
+use rt_app::{App, Task};
+use rt_ids::{NoMemory, TaskId, push_bytes, push_number};
 use std::alloc::Global;
 
 /// Appends the name of an interrupt, by its index.
@@ -18,6 +18,43 @@ pub(crate) fn push_irq(out: &mut Vec<u8>, app: &App, irq: u8) -> Result<(), NoMe
     match app.irqs.get(usize::from(irq)) {
         None => Ok(()),
         Some(irq) => push_bytes(out, irq.name.bytes()),
+    }
+}
+
+/// Appends the name of a task: that of the interrupt that it binds, or its own.
+pub(crate) fn push_judged_name(out: &mut Vec<u8>, app: &App, task: &Task) -> Result<(), NoMemory>
+    ensures { let t = task_of task.now in
+        OnOk result (out.new.items ≡ out.old.items ++ spec.judged_name (app_of app.now) t t.binds) }
+{
+    match task.binds {
+        None => push_bytes(out, task.name.bytes()),
+        Some(irq) => push_irq(out, app, irq),
+    }
+}
+
+/// Appends the name of the task of this number.
+fn push_task(out: &mut Vec<u8>, app: &App, task: TaskId) -> Result<(), NoMemory>
+    ensures { OnOk result (out.new.items ≡ out.old.items ++ spec.task_text (app_of app.now) task) }
+{
+    match app.task(task) {
+        None => Ok(()),
+        Some(task) => push_judged_name(out, app, task),
+    }
+}
+
+/// The word of the line of a task.
+fn answer_word(app: &App, task: TaskId) -> &'static [u8]
+    ensures { let all = app_of app.now in result.now ≡ spec.answer_word all (slice_get all.tasks task) }
+{
+    match app.task(task) {
+        None => b"irq ",
+        Some(task) => {
+            if task.is_software() {
+                b"task "
+            } else {
+                b"irq "
+            }
+        }
     }
 }
 
@@ -32,32 +69,38 @@ fn push_response(out: &mut Vec<u8>, response: Response) -> Result<(), NoMemory>
     }
 }
 
-/// Appends a line of a word and an interrupt.
-fn push_note(out: &mut Vec<u8>, app: &App, word: &[u8], irq: u8) -> Result<(), NoMemory>
-    ensures { OnOk result (out.new.items ≡ out.old.items ++ spec.note (app_of app.now) word.now irq) }
+/// Appends a line of a word and a task.
+fn push_note(out: &mut Vec<u8>, app: &App, word: &[u8], task: TaskId) -> Result<(), NoMemory>
+    ensures { OnOk result (out.new.items ≡ out.old.items ++ spec.note (app_of app.now) word.now task) }
 {
     push_bytes(out, word)?;
-    push_irq(out, app, irq)?;
+    push_task(out, app, task)?;
     push_bytes(out, b"\n")
 }
 
 /// Appends how requests of an interrupt may come, where that is told.
-fn push_requests(out: &mut Vec<u8>, app: &App, requests: Requests, irq: u8) -> Result<(), NoMemory>
-    ensures { OnOk result (out.new.items ≡ out.old.items ++ spec.requests_text (app_of app.now) requests irq) }
+fn push_requests(
+    out: &mut Vec<u8>,
+    app: &App,
+    requests: Requests,
+    task: TaskId,
+) -> Result<(), NoMemory>
+    ensures { OnOk result (out.new.items ≡ out.old.items ++ spec.requests_text (app_of app.now) requests task) }
 {
     match requests {
-        Requests::Never => push_note(out, app, b"never ", irq),
-        Requests::Merge => push_note(out, app, b"merge ", irq),
+        Requests::Never => push_note(out, app, b"never ", task),
+        Requests::Merge => push_note(out, app, b"merge ", task),
         Requests::Apart => Ok(()),
+        Requests::Messages => Ok(()),
     }
 }
 
-/// Appends the line of the response time of a hardware task.
+/// Appends the line of the response time of a task.
 fn push_answer(out: &mut Vec<u8>, app: &App, row: &Served) -> Result<(), NoMemory>
     ensures { OnOk result (out.new.items ≡ out.old.items ++ spec.answer_text (app_of app.now) row.now) }
 {
-    push_bytes(out, b"irq ")?;
-    push_irq(out, app, row.irq)?;
+    push_bytes(out, answer_word(app, row.task))?;
+    push_task(out, app, row.task)?;
     push_bytes(out, b" ")?;
     push_number(out, u32::from(row.priority))?;
     push_bytes(out, b" ")?;
@@ -65,13 +108,13 @@ fn push_answer(out: &mut Vec<u8>, app: &App, row: &Served) -> Result<(), NoMemor
     push_bytes(out, b"\n")
 }
 
-/// Appends the lines of a hardware task.
+/// Appends the lines of a task.
 #[tactic(auto, unfolding(crate::specs::Lines::served_text))]
 fn push_served(out: &mut Vec<u8>, app: &App, row: &Served) -> Result<(), NoMemory>
     ensures { OnOk result (out.new.items ≡ out.old.items ++ spec.served_text (app_of app.now) row.now) }
 {
     push_answer(out, app, row)?;
-    push_requests(out, app, row.requests, row.irq)
+    push_requests(out, app, row.requests, row.task)
 }
 
 /// Appends the line of what comes of a request.
@@ -82,7 +125,7 @@ fn push_caused(out: &mut Vec<u8>, app: &App, row: &Caused) -> Result<(), NoMemor
     push_bytes(out, b"from ")?;
     push_irq(out, app, row.from)?;
     push_bytes(out, b" ")?;
-    push_irq(out, app, row.to)?;
+    push_task(out, app, row.to)?;
     push_bytes(out, b" ")?;
     push_response(out, row.response)?;
     push_bytes(out, b"\n")
@@ -111,13 +154,13 @@ fn push_judged(out: &mut Vec<u8>, app: &App, row: &Judged) -> Result<(), NoMemor
             b"late ".as_slice()
         },
     )?;
-    push_irq(out, app, row.irq)?;
+    push_task(out, app, row.task)?;
     push_bytes(out, b" ")?;
     push_number(out, row.deadline)?;
     push_bytes(out, b"\n")
 }
 
-/// Appends the lines of hardware tasks.
+/// Appends the lines of tasks.
 fn push_all_served(out: &mut Vec<u8>, app: &App, rows: &[Served]) -> Result<(), NoMemory>
     ensures { OnOk result (out.new.items
         ≡ out.old.items ++ flat_map (spec.served_text (app_of app.now)) rows.now) }

@@ -1,14 +1,14 @@
 // What a request asks for at a handler of the order.
 
 ghost use Rattle.std.specs.Prelude.{◌≡◌, length, map, option_map, replicate, None, IfOk};
-ghost use Rattle.rt_app.specs.View.{statement_of, block_of, body_of, app_of};
+ghost use Rattle.rt_app.specs.View.{spawn_of, value_of, statement_of, block_of, body_of, app_of};
 ghost use Rattle.rt_respond.specs.Handlers as order;
 ghost use Rattle.rt_respond.specs.Work as spec;
 ghost use Rattle.rt_respond.specs.Inside.Works as inner;
 
-use crate::handler::{Handler, is_at};
+use crate::handler::{Handler, Release, is_at, takes};
 use crate::number::{greater_of, plus, times};
-use rt_app::{App, Body, Stmt};
+use rt_app::{App, Body, Spawn, Stmt, Value};
 use rt_ids::NoMemory;
 use std::alloc::Global;
 
@@ -20,26 +20,51 @@ pub(crate) struct Works<'a> {
     pub(crate) works: &'a [Option<u64>],
 }
 
-/// What a `pend` of an interrupt asks for; nothing where it is not enabled.
-pub(crate) fn pend_asks(all: &Works, irq: u8) -> Option<u64>
-    ensures { result ≡ inner.table_asks all.now.handlers.now all.now.works.now irq }
+/// What a release asks for; nothing where it has no handler.
+pub(crate) fn release_asks(all: &Works, release: &Release) -> Option<u64>
+    ensures { result ≡ inner.table_asks all.now.handlers.now all.now.works.now release.now }
 {
     for index in 0..all.handlers.len().min(all.works.len()) {
-        if all.handlers[index].irq == irq {
+        if takes(release, &all.handlers[index]) {
             return all.works[index];
         }
     }
     Some(0)
 }
 
+/// What a spawn releases.
+fn spawn_sends(all: &Works, spawn: &Spawn) -> Option<u64>
+    ensures { let asks = inner.table_asks all.now.handlers.now all.now.works.now in
+        result ≡ spec.spawn_sends asks (spawn_of spawn.now) }
+{
+    match spawn {
+        Spawn::Soon(task, _args, _at) => release_asks(all, &Release::Message(*task)),
+        Spawn::After(_word, _delay, _task, _args, _at) => Some(0),
+        Spawn::Cancel(_word, _task, _handle, _at) => Some(0),
+        Spawn::Move(_word, _delay, _task, _handle, _at) => Some(0),
+    }
+}
+
+/// What the value of a `let` releases.
+fn value_sends(all: &Works, value: &Value) -> Option<u64>
+    ensures { let asks = inner.table_asks all.now.handlers.now all.now.works.now in
+        result ≡ spec.value_sends asks (value_of value.now) }
+{
+    match value {
+        Value::Calc(_expr) => Some(0),
+        Value::Now(_at) => Some(0),
+        Value::Call(spawn) => spawn_sends(all, spawn),
+    }
+}
+
 /// What a statement releases at most.
 #[cycle(block)]
 pub(crate) fn statement_sends(all: &Works, stmt: &Stmt) -> Option<u64>
-    ensures { let pends = inner.table_asks all.now.handlers.now all.now.works.now in
-        result ≡ spec.statement_sends pends (statement_of stmt.now) }
+    ensures { let asks = inner.table_asks all.now.handlers.now all.now.works.now in
+        result ≡ spec.statement_sends asks (statement_of stmt.now) }
 {
     match stmt {
-        Stmt::Bind(_variable, _value) => Some(0),
+        Stmt::Bind(_variable, value) => value_sends(all, value),
         Stmt::Assign(_atom, _expr, _at) => Some(0),
         Stmt::Branch(_condition, first, second) => {
             greater_of(block_sends(all, first), block_sends(all, second))
@@ -52,16 +77,16 @@ pub(crate) fn statement_sends(all: &Works, stmt: &Stmt) -> Option<u64>
         }
         Stmt::Locked(_resource, inner, _at) => block_sends(all, inner),
         Stmt::Emit(_expr) => Some(0),
-        Stmt::Pend(irq) => pend_asks(all, *irq),
-        Stmt::Call(_spawn) => Some(0),
+        Stmt::Pend(irq) => release_asks(all, &Release::Request(*irq)),
+        Stmt::Call(spawn) => spawn_sends(all, spawn),
     }
 }
 
 /// What statements release at most, one after the other.
 #[cycle(block)]
 pub(crate) fn block_sends(all: &Works, stmts: &[Stmt]) -> Option<u64>
-    ensures { let pends = inner.table_asks all.now.handlers.now all.now.works.now in
-        result ≡ spec.block_sends pends (block_of stmts.now) }
+    ensures { let asks = inner.table_asks all.now.handlers.now all.now.works.now in
+        result ≡ spec.block_sends asks (block_of stmts.now) }
 {
     let mut sum = Some(0);
     for stmt in stmts {
@@ -72,8 +97,8 @@ pub(crate) fn block_sends(all: &Works, stmts: &[Stmt]) -> Option<u64>
 
 /// What `init` releases, where it is declared.
 pub(crate) fn body_sends(all: &Works, body: &Option<Body>) -> Option<u64>
-    ensures { let pends = inner.table_asks all.now.handlers.now all.now.works.now in
-        result ≡ spec.body_sends pends (option_map body_of body.now) }
+    ensures { let asks = inner.table_asks all.now.handlers.now all.now.works.now in
+        result ≡ spec.body_sends asks (option_map body_of body.now) }
 {
     match body {
         None => Some(0),
@@ -83,8 +108,8 @@ pub(crate) fn body_sends(all: &Works, body: &Option<Body>) -> Option<u64>
 
 /// What the block of a handler releases at most.
 pub(crate) fn handler_sends(app: &App, all: &Works, handler: &Handler) -> Option<u64>
-    ensures { let pends = inner.table_asks all.now.handlers.now all.now.works.now in
-        result ≡ spec.block_sends pends (order.handled_block (app_of app.now) handler.now) }
+    ensures { let asks = inner.table_asks all.now.handlers.now all.now.works.now in
+        result ≡ spec.block_sends asks (order.handled_block (app_of app.now) handler.now) }
 {
     match app.task(handler.task) {
         None => Some(0),
@@ -92,7 +117,7 @@ pub(crate) fn handler_sends(app: &App, all: &Works, handler: &Handler) -> Option
     }
 }
 
-/// The work of a request of a handler, where a `pend` asks for what the table says.
+/// The work of a request of a handler, where a release asks for what the table says.
 fn next_work(app: &App, this: &Handler, all: &Works, handler: &Handler) -> Option<u64>
     requires { all.now.handlers.now ≡ order.handlers (app_of app.now) }
     ensures { result ≡ inner.next_work (app_of app.now) this.now all.now.works.now handler.now }

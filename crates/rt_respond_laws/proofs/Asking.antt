@@ -1,29 +1,33 @@
--- Handlers and the numbers of their interrupts, which differ; and what a post of an interrupt asks for, by its number.
-use Rattle.std.proofs.Common.{◌≡◌, ℕ, suc, ◌+◌, ◌≤◌, ◌<◌, ◌==◌, Bool, true, false, if◌then◌else◌, List, [], ◌∷◌}
-use Rattle.std.proofs.Common.{◌++◌, map, length, find, slice_get, option_map, Option, Some, None, refl, sym, ap, ◌∙◌}
-use Rattle.std.proofs.Common.{arith, eq-eqb}
-use Rattle.std.specs.List.{AllByRecursion}
+-- Hardware tasks' handlers and the numbers of their interrupts, which differ; and what a post of an interrupt asks for,
+-- by its number, and a message that becomes ready, by its task.
+use Rattle.std.proofs.Common.{◌≡◌, ℕ, zero, suc, ◌<◌, ◌==◌, ◌&&◌, ◌||◌, Bool, true, false, not, if◌then◌else◌, Contains}
+use Rattle.std.proofs.Common.{List, [], ◌∷◌, length, filter, find, slice_get, option_map, Option, Some, None, refl, sym}
+use Rattle.std.proofs.Common.{ap, ◌∙◌, eq-eqb}
+use Rattle.std.specs.List.{AllByRecursion, list_any}
 use Rattle.std.proofs.lemmas.Bool.{eqb-true}
 use Rattle.std.proofs.lemmas.Option.{same_Some, none-some}
-use Rattle.rt_lemmas.proofs.Bools.{true_and_false}
-use Rattle.rt_lemmas.proofs.Lists.{find_has, found, found_passes, mapped_at, some_at}
-use Rattle.rt_lemmas.proofs.Membership.{all_at, all_append}
+use Rattle.rt_lemmas.proofs.Bools.{true_and_false, or_left, or_right, not_true, not_so}
+use Rattle.rt_lemmas.proofs.Lists.{find_has, found, found_passes, some_at}
+use Rattle.rt_lemmas.proofs.Membership.{all_at, all_weaker, any_passes}
 use Rattle.rt_ids.specs.Choice.{IsIn}
-use Rattle.rt_ids.specs.Lists.{or_zero, then_from}
-use Rattle.rt_app.specs.Tree.{Task, App}
-use Rattle.rt_app.specs.BodyCost.{body_cost, cost_measure}
+use Rattle.rt_ids.specs.Lists.{or_zero}
+use Rattle.rt_app.specs.Tree.{Body, Task, App}
 use Rattle.rt_app.specs.Accepted.{IsAccepted}
-use Rattle.rt_app.specs.Acceptance.{IsSound}
-use Rattle.rt_app.specs.Handlers.{Runs, irq_number, bound_number}
-use Rattle.rt_app.proofs.Sound.{accepted_are_sound}
+use Rattle.rt_app.specs.Level.{levels}
+use Rattle.rt_app.specs.Handlers.{Runs, irq_number}
+use Rattle.rt_app.specs.Sending.{dispatcher_number}
 use Rattle.rt_laws.specs.Services.{service_at}
-use Rattle.rt_laws.proofs.Pending.{made_number}
 use Rattle.rt_laws.proofs.FineHandlers.{all_in}
 use Rattle.rt_respond.specs.Form.{is_of_form}
-use Rattle.rt_respond.specs.Handlers.{bound_handler, task_handlers, handlers}
-use Rattle.rt_respond.specs.Work.{handler_asks, pend_work, work}
+use Rattle.rt_respond.specs.Handlers.{handlers}
+use Rattle.rt_respond.specs.Pends.{block_pends, body_pends, is_pended}
+use Rattle.rt_respond.specs.Work.{handler_asks, release_work, work}
 use Rattle.rt_respond.specs.declared.handler.Handler.{Handler}
-use Rattle.rt_respond_laws.proofs.Tasks.{handler_of_task, handler_serves}
+use Rattle.rt_respond.specs.declared.handler.Release.TheVariants as released_by
+use Rattle.rt_respond_laws.proofs.Sending.{Posting, Agrees, PendsOnly}
+use Rattle.rt_respond_laws.proofs.Tasks.{same_irq, named, not_bound}
+use Rattle.rt_respond_laws.proofs.Handled.{handler_of_task, of_level, binds_own, handler_serves, same_by_task, Apart}
+use Rattle.rt_respond_laws.proofs.Handled.{apart}
 
 find_alike : {X : Type 0} (f g : X → Bool) (xs : List X) → AllByRecursion (λ x. f x ≡ g x) xs
     → find f xs ≡ find g xs
@@ -31,6 +35,45 @@ find_alike f g [] same = refl
 find_alike f g (x ∷ xs) same =
     ap (λ b. if b then Some x else find f xs) same.0
     ∙ ap (λ o. if g x then Some x else o) (find_alike f g xs same.1)
+
+-- what is found among those that are kept is found by both tests
+find_filter : {X : Type 0} (keep test : X → Bool) (xs : List X)
+    → find test (filter keep xs) ≡ find (λ x. keep x && test x) xs
+find_filter keep test [] = refl
+find_filter keep test (x ∷ xs) = by (keep x) (find_filter keep test xs)
+  where
+    by : (b : Bool) → find test (filter keep xs) ≡ find (λ x. keep x && test x) xs
+        → find test (if b then x ∷ filter keep xs else filter keep xs)
+        ≡ (if b && test x then Some x else find (λ x. keep x && test x) xs)
+    by true rest = ap (λ o. if test x then Some x else o) rest
+    by false rest = rest
+
+filter_has : {X : Type 0} (keep : X → Bool) (xs : List X) (k : ℕ) (x : X) → slice_get xs k ≡ Some x → keep x ≡ true
+    → IsIn (filter keep xs) x
+filter_has keep [] k x at kept = absurd (none-some x at)
+filter_has keep (y ∷ ys) k x at kept = by (keep y) refl k at (λ i there. filter_has keep ys i x there kept)
+  where
+    by : (b : Bool) → keep y ≡ b → (j : ℕ) → slice_get (y ∷ ys) j ≡ Some x
+        → ((i : ℕ) → slice_get ys i ≡ Some x → IsIn (filter keep ys) x)
+        → IsIn (if b then y ∷ filter keep ys else filter keep ys) x
+    by true is zero at next = (0, at)
+    by true is (suc i) at next = let rest = next i at in (suc rest.0, rest.1)
+    by false is zero at next =
+        absurd (true_and_false (keep x) kept (sym (ap keep (same_Some y x at)) ∙ is))
+    by false is (suc i) at next = next i at
+
+filter_kept : {X : Type 0} (keep : X → Bool) (xs : List X) → AllByRecursion (λ x. IsIn xs x × (keep x ≡ true))
+    (filter keep xs)
+filter_kept keep [] = tt
+filter_kept keep (x ∷ xs) =
+    by (keep x) refl
+    (all_weaker (λ y. IsIn xs y × (keep y ≡ true)) (λ y. IsIn (x ∷ xs) y × (keep y ≡ true))
+    (λ y is. ((suc is.0.0, is.0.1), is.1)) (filter keep xs) (filter_kept keep xs))
+  where
+    by : (b : Bool) → keep x ≡ b → AllByRecursion (λ y. IsIn (x ∷ xs) y × (keep y ≡ true)) (filter keep xs)
+        → AllByRecursion (λ y. IsIn (x ∷ xs) y × (keep y ≡ true)) (if b then x ∷ filter keep xs else filter keep xs)
+    by true is rest = (((0, refl), is), rest)
+    by false is rest = rest
 
 pub same_test : (a b c d : ℕ) → (a ≡ b → c ≡ d) → (c ≡ d → a ≡ b) → (a == b) ≡ (c == d)
 same_test a b c d on back = by (a == b) refl (c == d) refl
@@ -48,136 +91,195 @@ abbrev pub Distinct : List Handler → Type 0
 Distinct [] = Unit {0}
 Distinct (h ∷ hs) = AllByRecursion (λ g. ¬ (g.number ≡ h.number)) hs × Distinct hs
 
+abbrev is_wired : Handler → Bool
+is_wired h = not h.is_dispatcher
+
 module _ (app : App) (accepted : IsAccepted app) (form : is_of_form app ≡ true) where
-  sound : IsSound app
-  sound = accepted_are_sound app accepted
+  -- the handlers of hardware tasks
+  abbrev pub wired : List Handler
+  wired = filter is_wired (handlers app)
 
-  pub number_at : (j n : ℕ) → irq_number app j ≡ Some n → slice_get (map (λ d. d.number) app.irqs) j ≡ Some n
-  number_at j n is =
-      let row = made_number (λ d. d.number) (slice_get app.irqs j) n is in
-      mapped_at (λ d. d.number) app.irqs j row.0 row.1 ∙ ap Some row.2
+  pub wired_is : (h : Handler) → IsIn wired h → IsIn (handlers app) h × (h.is_dispatcher ≡ false)
+  wired_is h there =
+      let is = all_at (λ h. IsIn (handlers app) h × (is_wired h ≡ true)) wired there.0 h
+      (filter_kept is_wired (handlers app)) there.1 in
+      (is.0, not_true h.is_dispatcher is.1)
 
-  pub same_irq : (j k n : ℕ) → irq_number app j ≡ Some n → irq_number app k ≡ Some n → j ≡ k
-  same_irq j k n first second = sound.numbers_differ j k n (number_at j n first) (number_at k n second)
+  pub is_in_wired : (h : Handler) → IsIn (handlers app) h → h.is_dispatcher ≡ false → IsIn wired h
+  is_in_wired h there is = filter_has is_wired (handlers app) there.0 h there.1 (ap not is)
 
   pub number_of : (h : Handler) → IsIn (handlers app) h → irq_number app h.irq ≡ Some h.number
-  number_of h is =
-      let of = handler_of_task app accepted form h is in
-      sym (ap (λ o. then_from o (irq_number app)) of.binds) ∙ of.number
+  number_of h is = (handler_of_task app accepted h is).number
+
+  -- both of one number, and both of hardware tasks
+  record BothWired (h g : Handler) : Type 0 where
+    number : g.number ≡ h.number
+    first : h.is_dispatcher ≡ false
+    second : g.is_dispatcher ≡ false
 
   same_task : (n m : ℕ) → Runs n ≡ Runs m → n ≡ m
   same_task n m same = cc
 
-  tasks_alike : (h g : Handler) → IsIn (handlers app) h → IsIn (handlers app) g → h.number ≡ g.number → h.task ≡ g.task
-  tasks_alike h g h_in g_in same =
-      let one = handler_serves app accepted form h h_in in
-      let other = handler_serves app accepted form g g_in in
-      let service = same_Some one.service other.service (sym one.at ∙ ap (service_at app) same ∙ other.at) in
-      same_task h.task g.task (sym one.handler ∙ ap (λ s. s.handler) service ∙ other.handler)
+  tasks_alike : (h g : Handler) → IsIn (handlers app) h → IsIn (handlers app) g → BothWired h g → h.task ≡ g.task
+  tasks_alike h g h_in g_in both =
+      let one = handler_serves app accepted h h_in in
+      let other = handler_serves app accepted g g_in in
+      let service = same_Some one.service other.service (sym one.at ∙ ap (service_at app) (sym both.number) ∙ other.at)
+      in
+      same_task h.task g.task
+      (sym (one.runs both.first) ∙ ap (λ s. s.handler) service ∙ other.runs both.second)
 
-  abbrev make : ℕ → ℕ → ℕ → ℕ → ℕ → Handler
-  make irq number priority task steps =
-      record { irq = irq; number = number; priority = priority; task = task; steps = steps }
+  -- a hardware task's handler is known by its number
+  pub same_wired : (h g : Handler) → IsIn wired h → IsIn wired g → h.number ≡ g.number → h ≡ g
+  same_wired h g h_in g_in same =
+      let one = wired_is h h_in in
+      let other = wired_is g g_in in
+      same_by_task app accepted h g one.0 other.0
+      (tasks_alike h g one.0 other.0 (record { number = sym same; first = one.1; second = other.1 }))
 
-  -- a handler is known by its number
-  pub same_handler : (h g : Handler) → IsIn (handlers app) h → IsIn (handlers app) g → h.number ≡ g.number → h ≡ g
-  same_handler h g h_in g_in same =
-      let one = handler_of_task app accepted form h h_in in
-      let other = handler_of_task app accepted form g g_in in
-      let task = tasks_alike h g h_in g_in same in
-      let row = same_Some one.row other.row (sym one.at ∙ ap (slice_get app.tasks) task ∙ other.at) in
-      let irq = same_irq h.irq g.irq g.number (number_of h h_in ∙ ap Some same) (number_of g g_in) in
-      let priority = one.priority ∙ ap (λ (t : Task). t.priority) row ∙ sym other.priority in
-      let steps = one.steps ∙ ap (λ (t : Task). body_cost (cost_measure app) t.body) row ∙ sym other.steps in
-      ap (λ n. make n h.number h.priority h.task h.steps) irq
-      ∙ ap (λ n. make g.irq n h.priority h.task h.steps) same
-      ∙ ap (λ n. make g.irq g.number n h.task h.steps) priority
-      ∙ ap (λ n. make g.irq g.number g.priority n h.steps) task
-      ∙ ap (make g.irq g.number g.priority g.task) steps
-
-  tasks_from : (n : ℕ) (ts : List Task) → AllByRecursion (λ h. n ≤ h.task) (task_handlers app n ts)
-  tasks_from n [] = tt
-  tasks_from n (t ∷ ts) =
-      all_append (λ h. n ≤ h.task) (bound_handler app n t t.binds (bound_number app t)) (task_handlers app (n + 1) ts)
-      (own t.binds (bound_number app t)) (weaker (task_handlers app (n + 1) ts) (tasks_from (n + 1) ts))
+  distinct_kept : (hs : List Handler) → Apart app accepted BothWired tasks_alike hs → Distinct (filter is_wired hs)
+  distinct_kept [] all = tt
+  distinct_kept (h ∷ hs) all = by h.is_dispatcher refl (distinct_kept hs all.1)
     where
-      own : (irq number : Option ℕ) → AllByRecursion (λ h. n ≤ h.task) (bound_handler app n t irq number)
-      own (Some irq) (Some number) = (omega arith, tt)
-      own (Some irq) None = tt
-      own None number = tt
+      by : (b : Bool) → h.is_dispatcher ≡ b → Distinct (filter is_wired hs)
+          → Distinct (if not b then h ∷ filter is_wired hs else filter is_wired hs)
+      by true is rest = rest
+      by false is rest = (
+        all_in (λ g. ¬ (g.number ≡ h.number)) (filter is_wired hs) (λ g there same.
+            let own = all_at (λ g. IsIn hs g × (is_wired g ≡ true)) (filter is_wired hs) there.0 g
+            (filter_kept is_wired hs) there.1 in
+            all_at (λ g. ¬ BothWired h g) hs own.0.0 g all.0 own.0.1
+            (record { number = same; first = is; second = not_true g.is_dispatcher own.1 })),
+        rest,
+      )
 
-      weaker : (hs : List Handler) → AllByRecursion (λ h. n + 1 ≤ h.task) hs → AllByRecursion (λ h. n ≤ h.task) hs
-      weaker [] all = tt
-      weaker (h ∷ hs) all = let first = all.0 in (omega (arith, first), weaker hs all.1)
-
-  distinct_from : (n : ℕ) (ts : List Task) → ((h : Handler) → IsIn (task_handlers app n ts) h → IsIn (handlers app) h)
-      → Distinct (task_handlers app n ts)
-  distinct_from n [] within = tt
-  distinct_from n (t ∷ ts) within =
-      own (λ deeper. distinct_from (n + 1) ts deeper) t.binds (bound_number app t) within
-    where
-      own : (((h : Handler) → IsIn (task_handlers app (n + 1) ts) h → IsIn (handlers app) h)
-          → Distinct (task_handlers app (n + 1) ts)) → (irq number : Option ℕ)
-          → ((h : Handler) → IsIn (bound_handler app n t irq number ++ task_handlers app (n + 1) ts) h
-          → IsIn (handlers app) h)
-          → Distinct (bound_handler app n t irq number ++ task_handlers app (n + 1) ts)
-      own next None number all = next all
-      own next (Some irq) None all = next all
-      own next (Some irq) (Some number) all =
-          let h : Handler = make irq number t.priority n (body_cost (cost_measure app) t.body) in (
-            all_in (λ g. ¬ (g.number ≡ number)) (task_handlers app (n + 1) ts) (λ g there same.
-                let one = tasks_alike g h (all g (suc there.0, there.1)) (all h (0, refl)) same in
-                let later = all_at (λ h. n + 1 ≤ h.task) (task_handlers app (n + 1) ts) there.0 g
-                (tasks_from (n + 1) ts) there.1 in
-                omega (arith, one, later)),
-            next (λ g there. all g (suc there.0, there.1)),
-          )
-
-  pub distinct : Distinct (handlers app)
-  distinct = distinct_from 0 app.tasks (λ h is. is)
+  pub distinct : Distinct wired
+  distinct = distinct_kept (handlers app) (apart app accepted BothWired tasks_alike)
 
   -- the handler of a number is found by it
-  pub find_handler : (h : Handler) → IsIn (handlers app) h → find (λ g. g.number == h.number) (handlers app) ≡ Some h
-  find_handler h is =
-      let one = found (λ (g : Handler). g.number == h.number) (handlers app) is.0 h is.1 (eq-eqb h.number h.number refl)
+  pub find_wired : (h : Handler) → IsIn wired h → find (λ g. g.number == h.number) wired ≡ Some h
+  find_wired h is =
+      let one = found (λ (g : Handler). g.number == h.number) wired is.0 h is.1 (eq-eqb h.number h.number refl)
       in
-      let there = find_has (IsIn (handlers app)) (λ (g : Handler). g.number == h.number) (handlers app) one.0
-      (all_in (IsIn (handlers app)) (handlers app) (λ g i. i)) one.1 in
-      let passes = found_passes (λ (g : Handler). g.number == h.number) (handlers app) one.0 one.1 in
-      one.1 ∙ ap Some (same_handler one.0 h there is (eqb-true one.0.number h.number passes))
+      let there = find_has (IsIn wired) (λ (g : Handler). g.number == h.number) wired one.0
+      (all_in (IsIn wired) wired (λ g i. i)) one.1 in
+      let passes = found_passes (λ (g : Handler). g.number == h.number) wired one.0 one.1 in
+      one.1 ∙ ap Some (same_wired one.0 h there is (eqb-true one.0.number h.number passes))
 
   -- what is found is a handler of that number
-  pub found_handler : (n : ℕ) (h : Handler) → find (λ g. g.number == n) (handlers app) ≡ Some h
-      → IsIn (handlers app) h × (h.number ≡ n)
-  found_handler n h is = (
-    find_has (IsIn (handlers app)) (λ (g : Handler). g.number == n) (handlers app) h
-        (all_in (IsIn (handlers app)) (handlers app) (λ g i. i)) is,
-    eqb-true h.number n (found_passes (λ (g : Handler). g.number == n) (handlers app) h is),
+  pub found_wired : (n : ℕ) (h : Handler) → find (λ g. g.number == n) wired ≡ Some h → IsIn wired h × (h.number ≡ n)
+  found_wired n h is = (
+    find_has (IsIn wired) (λ (g : Handler). g.number == n) wired h (all_in (IsIn wired) wired (λ g i. i)) is,
+    eqb-true h.number n (found_passes (λ (g : Handler). g.number == n) wired h is),
   )
 
-  module _ (i : Handler) where
-    -- what a post of an interrupt of this number asks for
-    abbrev pub posts : ℕ → Option ℕ
-    posts n = handler_asks (work app i) (find (λ h. h.number == n) (handlers app))
+  -- among all handlers it is the same, where the number is no dispatcher's
+  pub found_alike : (n : ℕ) → ((h : Handler) → IsIn (handlers app) h → h.is_dispatcher ≡ true → ¬ (h.number ≡ n))
+      → find (λ g. g.number == n) (handlers app) ≡ find (λ g. g.number == n) wired
+  found_alike n other =
+      find_alike (λ g. g.number == n) (λ g. is_wired g && (g.number == n)) (handlers app)
+      (all_in (λ g. (g.number == n) ≡ (is_wired g && (g.number == n))) (handlers app) (λ g there.
+      by g there g.is_dispatcher refl))
+      ∙ sym (find_filter is_wired (λ g. g.number == n) (handlers app))
+    where
+      by : (g : Handler) → IsIn (handlers app) g → (b : Bool) → g.is_dispatcher ≡ b
+          → (g.number == n) ≡ (not b && (g.number == n))
+      by g there false is = refl
+      by g there true is = not_so (g.number == n) (λ same. other g there is (eqb-true g.number n same))
 
-    pub posts_are : (h : Handler) → IsIn (handlers app) h → posts h.number ≡ work app i h
-    posts_are h is = ap (handler_asks (work app i)) (find_handler h is)
+  -- a handler is found by its task
+  pub find_task : (h : Handler) → IsIn (handlers app) h → find (λ g. g.task == h.task) (handlers app) ≡ Some h
+  find_task h is =
+      let one = found (λ (g : Handler). g.task == h.task) (handlers app) is.0 h is.1 (eq-eqb h.task h.task refl)
+      in
+      let there = find_has (IsIn (handlers app)) (λ (g : Handler). g.task == h.task) (handlers app) one.0
+      (all_in (IsIn (handlers app)) (handlers app) (λ g i. i)) one.1 in
+      let passes = found_passes (λ (g : Handler). g.task == h.task) (handlers app) one.0 one.1 in
+      one.1 ∙ ap Some (same_by_task app accepted one.0 h there is (eqb-true one.0.task h.task passes))
+
+  -- an index that is no dispatcher's
+  abbrev pub Allowed : ℕ → Type 0
+  Allowed j = (h : Handler) → IsIn (handlers app) h → h.is_dispatcher ≡ true → ¬ (h.irq ≡ j)
+
+  -- what a body pends is none
+  pub pended_allowed : (j : ℕ) → is_pended app j ≡ true → Allowed j
+  pended_allowed j pended h there is same =
+      let level = of_level app accepted h there is in
+      let own = named app accepted form h.priority level.known in
+      let index : own.index ≡ j = same_Some own.index j (sym own.of ∙ level.of ∙ ap Some same) in
+      true_and_false (is_pended app j) pended (ap (is_pended app) (sym index) ∙ own.unpended)
+
+  pub task_allowed : (n : ℕ) (t : Task) → slice_get app.tasks n ≡ Some t → PendsOnly Allowed t.body.block
+  task_allowed n t at j there =
+      pended_allowed j (or_right _ (list_any (λ t. block_pends j t.body.block) app.tasks)
+      (any_passes (λ t. block_pends j t.body.block) app.tasks n t at there))
+
+  pub init_allowed : (b : Body) → app.init ≡ Some b → PendsOnly Allowed b.block
+  init_allowed b is j there =
+      pended_allowed j (or_left (body_pends j app.init || body_pends j app.idle) _
+      (or_left (body_pends j app.init) (body_pends j app.idle) (ap (body_pends j) is ∙ there)))
+
+  pub idle_allowed : (b : Body) → app.idle ≡ Some b → PendsOnly Allowed b.block
+  idle_allowed b is j there =
+      pended_allowed j (or_left (body_pends j app.init || body_pends j app.idle) _
+      (or_right (body_pends j app.init) (body_pends j app.idle) (ap (body_pends j) is ∙ there)))
+
+  module _ (i : Handler) where
+    -- what a post of an interrupt of this number asks for, and a message of a task
+    abbrev pub posts : Posting
+    posts = record {
+      irq = λ n. handler_asks (work app i) (find (λ h. h.number == n) wired);
+      task = λ t. release_work app i (released_by.Message t);
+    }
+
+    pub posts_are : (h : Handler) → IsIn wired h → posts.irq h.number ≡ work app i h
+    posts_are h is = ap (handler_asks (work app i)) (find_wired h is)
+
+    pub sends_are : (h : Handler) → IsIn (handlers app) h → posts.task h.task ≡ work app i h
+    sends_are h is = ap (handler_asks (work app i)) (find_task h is)
 
     -- it is what a `pend` of its index asks for
-    pub agree : (j : ℕ) → j < length app.irqs → posts (or_zero (irq_number app j)) ≡ pend_work app i j
-    agree j within = go (irq_number app j) refl
+    pends_agree : (j : ℕ) → j < length app.irqs → Allowed j
+        → posts.irq (or_zero (irq_number app j)) ≡ release_work app i (released_by.Request j)
+    pends_agree j within allowed = go (irq_number app j) refl
       where
         there : irq_number app j ≡ None → ⊥
         there none =
             let row = some_at app.irqs j within in
             none-some row.0.number (sym none ∙ ap (option_map (λ d. d.number)) row.1)
 
-        go : (o : Option ℕ) → irq_number app j ≡ o → posts (or_zero o) ≡ pend_work app i j
+        alike : (n : ℕ) → irq_number app j ≡ Some n → (h : Handler) → IsIn (handlers app) h → (b : Bool)
+            → h.is_dispatcher ≡ b → (not b && (h.number == n)) ≡ (h.irq == j)
+        alike n number h is true dispatches =
+            sym (not_so (h.irq == j) (λ same. allowed h is dispatches (eqb-true h.irq j same)))
+        alike n number h is false wires =
+            same_test h.number n h.irq j
+            (λ same. same_irq app accepted h.irq j n (number_of h is ∙ ap Some same) number)
+            (λ same. same_Some h.number n (sym (number_of h is) ∙ ap (irq_number app) same ∙ number))
+
+        go : (o : Option ℕ) → irq_number app j ≡ o
+            → posts.irq (or_zero o) ≡ release_work app i (released_by.Request j)
         go None none = absurd (there none)
         go (Some n) number =
             ap (handler_asks (work app i))
-            (find_alike (λ h. h.number == n) (λ h. h.irq == j) (handlers app)
-            (all_in (λ h. (h.number == n) ≡ (h.irq == j)) (handlers app) (λ h is.
-            same_test h.number n h.irq j
-            (λ same. same_irq h.irq j n (number_of h is ∙ ap Some same) number)
-            (λ same. same_Some h.number n (sym (number_of h is) ∙ ap (irq_number app) same ∙ number)))))
+            (find_filter is_wired (λ h. h.number == n) (handlers app)
+            ∙ find_alike (λ h. is_wired h && (h.number == n)) (λ h. h.irq == j) (handlers app)
+            (all_in (λ h. (is_wired h && (h.number == n)) ≡ (h.irq == j)) (handlers app) (λ h is.
+            alike n number h is h.is_dispatcher refl)))
+
+    -- a dispatcher's interrupt asks for nothing of its own
+    pub turn_asks : (r : ℕ) → Contains (levels app) r → posts.irq (dispatcher_number app r) ≡ Some 0
+    turn_asks r known = go (find (λ h. h.number == dispatcher_number app r) wired) refl
+      where
+        go : (o : Option Handler) → find (λ h. h.number == dispatcher_number app r) wired ≡ o
+            → handler_asks (work app i) o ≡ Some 0
+        go None is = refl
+        go (Some h) is =
+            let there = found_wired (dispatcher_number app r) h is in
+            let own = wired_is h there.0 in
+            let of = handler_of_task app accepted h own.0 in
+            absurd (not_bound app accepted form r known h.task of.row h.irq of.at (binds_own app accepted h of own.1)
+            (of.number ∙ ap Some there.1))
+
+    pub agree : Agrees app (release_work app i) posts Allowed
+    agree = record { pends = pends_agree; sends = λ n. refl; turns = turn_asks }

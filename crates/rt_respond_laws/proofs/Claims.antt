@@ -1,26 +1,39 @@
 -- What each started job may still ask for at a handler: one that is at it the core steps that it has left, and what it
 -- releases; one of the same priority behind it, and a lower one that is in a section, no more than what is kept in
 -- reserve for it.
-use Rattle.std.proofs.Common.{◌≡◌, ℕ, zero, suc, ◌+◌, ◌-◌, ◌≤◌, ◌<◌, ◌⊎◌, inl, inr, Bool, true, List, [], ◌∷◌, map}
-use Rattle.std.proofs.Common.{drop}
-use Rattle.std.proofs.Common.{slice_set, Some, refl, sym, subst, arith}
+use Rattle.std.proofs.Common.{◌≡◌, ℕ, zero, suc, ◌+◌, ◌-◌, ◌≤◌, ◌<◌, ◌⊎◌, inl, inr, Bool, true, false, List, [], ◌∷◌}
+use Rattle.std.proofs.Common.{map, drop, slice_set, Option, Some, None, refl, sym, ap, subst, ◌∙◌, arith}
 use Rattle.std.specs.List.{AllByRecursion}
 use Rattle.std.proofs.lemmas.Option.{same_Some, none-some}
+use Rattle.rt_ids.specs.Choice.{IsIn}
+use Rattle.rt_ids.specs.declared.ids.BodyId.TheVariants as body
 use Rattle.rt_ids.specs.declared.ids.Section.{Section}
-use Rattle.rt_actions.specs.Content.{Values}
-use Rattle.rt_actions.specs.Action.{Action, Enters, Leaves, Posts, SetsAlarm}
+use Rattle.rt_ids.specs.declared.ids.Section.TheVariants as section
+use Rattle.rt_actions.specs.Location.{Guarded}
+use Rattle.rt_actions.specs.Content.{Message, Values, messages}
+use Rattle.rt_actions.specs.Action.{Action, Enters, Leaves, Posts, Readies, Starts, SetsAlarm, Returns, effect}
 use Rattle.rt_actions.specs.Doing.{Doing, over, does}
+use Rattle.rt_trace.specs.Label.{Stepped}
+use Rattle.rt_trace.specs.declared.item.What.{What}
+use Rattle.rt_trace.specs.declared.item.What.TheVariants as what
 use Rattle.rt_app.specs.Tree.{App}
 use Rattle.rt_app.specs.Ceiling.{ceiling}
 use Rattle.rt_laws.specs.Preemption.{system_ceiling, greatest_ceiling}
 use Rattle.rt_laws.specs.Allowed.{HasStep}
-use Rattle.rt_laws.specs.State.{Serving, Job, State}
+use Rattle.rt_laws.specs.Giving.{return_item, item_of}
+use Rattle.rt_laws.specs.MessagesWaiting.{is_ready_at, is_start_at}
+use Rattle.rt_laws.specs.State.{Role, Init, Idle, Waiting, Serving, Job, State}
 use Rattle.rt_laws.specs.Unspent.{AreUnspent}
+use Rattle.rt_laws.proofs.Fine.{OfLevel}
+use Rattle.rt_respond.specs.Handlers.{handlers, is_at}
+use Rattle.rt_respond.specs.Work.{release_work}
 use Rattle.rt_respond.specs.declared.handler.Handler.{Handler}
+use Rattle.rt_respond.specs.declared.handler.Release.{Release}
 use Rattle.rt_respond_laws.specs.Moments.{IsRoleAt}
 use Rattle.rt_respond_laws.proofs.Sending.{Posting, released, AtMost}
 use Rattle.rt_respond_laws.proofs.Holding.{Mode, Outside, Inside, moved, Comes, Holds}
-use Rattle.rt_respond_laws.proofs.Passing.{sections_after, lefts_after, pending_after, SetsNone}
+use Rattle.rt_respond_laws.proofs.Bodies.{sends_of, InTurn, Waits}
+use Rattle.rt_respond_laws.proofs.Passing.{sections_after, lefts_after, pending_after, SetsNone, SameReady, Acted}
 
 module _ (app : App) (p : ℕ) where
   -- the section so deep from the innermost is the outermost that holds the priority off, and it has no more left than
@@ -81,9 +94,25 @@ module _ (app : App) (p : ℕ) where
   closed_less [] closed = closed
   closed_less (x ∷ xs) closed = omega (arith, closed)
 
+-- a level whose dispatcher is at a handler
+pub record IsLevelAt (app : App) (i : Handler) (q : ℕ) : Type 0 where
+  pub handler : Handler
+  pub declared : IsIn (handlers app) handler
+  pub dispatches : handler.is_dispatcher ≡ true
+  pub level : handler.priority ≡ q
+  pub at : is_at i handler ≡ true
+
+-- an item that no message becomes ready or starts by
+pub record IsElse (app : App) (shown : Option What) : Type 0 where
+  pub no_start : (q : ℕ) → is_start_at app q (Stepped shown) ≡ false
+  pub no_ready : (q : ℕ) → is_ready_at app q (Stepped shown) ≡ false
+
 module _ (app : App) (i : Handler) (posts : Posting) (most : ℕ) where
   abbrev p : ℕ
   p = i.priority
+
+  abbrev asks : Release → Option ℕ
+  asks = release_work app i
 
   -- where a lower job is, with so much in reserve
   abbrev pub StandsIn : ℕ → Mode → List Section → List ℕ → Type 0
@@ -93,10 +122,16 @@ module _ (app : App) (i : Handler) (posts : Posting) (most : ℕ) where
   -- a job asks for so much, and what is in reserve is enough for it
   pub data Claim (reserve own : ℕ) (job : Job) : Type 0 where
     -- it is at the handler
-    Own : (irq : ℕ) → job.role ≡ Serving irq → p ≤ job.priority → (rest : ℕ) → AtMost posts rest job.rest
+    Own : (irq : ℕ) → job.role ≡ Serving irq → p ≤ job.priority → (rest : ℕ) → AtMost app posts rest job.rest
         → own ≡ job.left + rest → Claim reserve own job
+    -- it is a dispatcher at the handler, which has not entered the section of its messages
+    Begin : (irq : ℕ) → job.role ≡ Serving irq → p ≤ job.priority → (q : ℕ) → IsLevelAt app i q
+        → Waits app asks posts q job.rest → own ≡ job.left → Claim reserve own job
+    -- it is one inside the section, which has not started a message
+    Turn : (irq : ℕ) → job.role ≡ Serving irq → p ≤ job.priority → (q : ℕ) → IsLevelAt app i q
+        → InTurn app asks posts q job.rest → own ≡ job.left → Claim reserve own job
     -- it is of the same priority, and behind it
-    Equal : ¬ IsRoleAt app i job.role → job.priority ≡ p → (rest : ℕ) → AtMost posts rest job.rest
+    Equal : ¬ IsRoleAt app i job.role → job.priority ≡ p → (rest : ℕ) → AtMost app posts rest job.rest
         → job.left + rest ≤ reserve → own ≡ 0 → Claim reserve own job
     -- it is of a lower priority
     Under : ¬ IsRoleAt app i job.role → job.priority < p → (mode : Mode) → Holds app p most posts mode job.rest
@@ -111,6 +146,8 @@ module _ (app : App) (i : Handler) (posts : Posting) (most : ℕ) where
   -- with more in reserve
   claim_more : (reserve more own : ℕ) (job : Job) → reserve ≤ more → Claim reserve own job → Claim more own job
   claim_more reserve more own job less (Own irq role high rest few is) = Own irq role high rest few is
+  claim_more reserve more own job less (Begin irq role high q at waits is) = Begin irq role high q at waits is
+  claim_more reserve more own job less (Turn irq role high q at turns is) = Turn irq role high q at turns is
   claim_more reserve more own job less (Equal off same rest few within is) =
       Equal off same rest few (omega (arith, within, less)) is
   claim_more reserve more own job less (Under off lower Outside holds stands is) =
@@ -128,6 +165,8 @@ module _ (app : App) (i : Handler) (posts : Posting) (most : ℕ) where
   claim_any : (reserve other own : ℕ) (job : Job) → job.priority < p → greatest_ceiling app job.sections < p
       → Claim reserve own job → Claim other own job
   claim_any reserve other own job lower closed (Own irq role high rest few is) = absurd (omega (arith, high, lower))
+  claim_any reserve other own job lower closed (Begin irq role high q at waits is) = absurd (omega (arith, high, lower))
+  claim_any reserve other own job lower closed (Turn irq role high q at turns is) = absurd (omega (arith, high, lower))
   claim_any reserve other own job lower closed (Equal off same rest few within is) =
       absurd (omega (arith, same, lower))
   claim_any reserve other own job lower closed (Under off less Outside holds stands is) =
@@ -153,6 +192,12 @@ module _ (app : App) (i : Handler) (posts : Posting) (most : ℕ) where
   off_claim reserve own job has none (Own irq role high rest few is) =
       let some : 0 < job.left = subst (λ r. HasStep r job.left) role has in
       absurd (omega (arith, none, is, some))
+  off_claim reserve own job has none (Begin irq role high q at waits is) =
+      let some : 0 < job.left = subst (λ r. HasStep r job.left) role has in
+      absurd (omega (arith, none, is, some))
+  off_claim reserve own job has none (Turn irq role high q at turns is) =
+      let some : 0 < job.left = subst (λ r. HasStep r job.left) role has in
+      absurd (omega (arith, none, is, some))
   off_claim reserve own job has none (Equal off same rest few within is) = off
   off_claim reserve own job has none (Under off lower mode holds stands is) = off
 
@@ -168,6 +213,8 @@ module _ (app : App) (i : Handler) (posts : Posting) (most : ℕ) where
   -- where something is, one of them is of the priority or a higher one
   reach_claim : (reserve own : ℕ) (job : Job) → 0 < own → Claim reserve own job → p ≤ job.priority
   reach_claim reserve own job some (Own irq role high rest few is) = high
+  reach_claim reserve own job some (Begin irq role high q at waits is) = high
+  reach_claim reserve own job some (Turn irq role high q at turns is) = high
   reach_claim reserve own job some (Equal off same rest few within is) = absurd (omega (arith, some, is))
   reach_claim reserve own job some (Under off lower mode holds stands is) = absurd (omega (arith, some, is))
 
@@ -185,32 +232,114 @@ module _ (app : App) (i : Handler) (posts : Posting) (most : ℕ) where
         | inr more ↦ (let high = reach_claim reserve owe.0 job more owe.3 in omega (arith, high))
       ]
 
-  -- what is pending behind a step that releases so much
-  pub data Posted (before behind : List Bool) (now : ℕ) : Type 0 where
-    Kept : behind ≡ before → Posted before behind now
-    Put : (irq : ℕ) → behind ≡ slice_set before irq true → posts irq ≡ Some now → Posted before behind now
+  -- what a step that releases so much does to what is pending and ready, and what a start gives to its job
+  pub data Effect (before behind : List Bool) (vs ws : Values) (shown : Option What) (now given : ℕ) : Type 0 where
+    Kept : behind ≡ before → SameReady vs ws → IsElse app shown → given ≡ 0
+        → Effect before behind vs ws shown now given
+    Put : (irq : ℕ) → behind ≡ slice_set before irq true → posts.irq irq ≡ Some now → SameReady vs ws
+        → IsElse app shown → given ≡ 0 → Effect before behind vs ws shown now given
+    Readied : (q : ℕ) (m : Message) → behind ≡ before → shown ≡ Some (what.Ready m.task) → OfLevel app q m
+        → posts.task m.task ≡ Some now → SameReady (effect (Readies q m) vs) ws → given ≡ 0
+        → Effect before behind vs ws shown now given
+    Started : (q : ℕ) (m : Message) (more : List Message) → behind ≡ before
+        → shown ≡ Some (what.Start m.task m.args) → OfLevel app q m
+        → messages (vs (Guarded (section.Ready q))) ≡ m ∷ more → SameReady (effect (Starts q m) vs) ws
+        → (given ≡ 0) ⊎ (IsLevelAt app i q × (sends_of app asks posts m.task ≡ Some given))
+        → Effect before behind vs ws shown now given
 
-  pub posted_by : (action : Action) (now : ℕ) (before behind : List Bool) → released posts action ≡ Some now
-      → behind ≡ pending_after action before → Posted before behind now
-  posted_by (Posts irq) now before behind is then_is = Put irq then_is is
-  posted_by action now before behind is then_is = Kept then_is
+  -- a silent step, and one that ends a job, change nothing there
+  pub silent_else : (shown : Option What) → shown ≡ None → IsElse app shown
+  silent_else shown is = record {
+    no_start = λ q. ap (λ w. is_start_at app q (Stepped w)) is;
+    no_ready = λ q. ap (λ w. is_ready_at app q (Stepped w)) is;
+  }
+
+  pub ended_else : (shown : Option What) → (shown ≡ Some (what.End body.Init)) ⊎ (shown ≡ Some (what.End body.Idle))
+      → IsElse app shown
+  ended_else shown (inl is) = record {
+    no_start = λ q. ap (λ w. is_start_at app q (Stepped w)) is;
+    no_ready = λ q. ap (λ w. is_ready_at app q (Stepped w)) is;
+  }
+  ended_else shown (inr is) = record {
+    no_start = λ q. ap (λ w. is_start_at app q (Stepped w)) is;
+    no_ready = λ q. ap (λ w. is_ready_at app q (Stepped w)) is;
+  }
+
+  pub returned_else : (shown : Option What) (role : Role) → shown ≡ return_item role → IsElse app shown
+  returned_else shown role is = record {
+    no_start = λ q. ap (λ w. is_start_at app q (Stepped w)) is ∙ start_none q role;
+    no_ready = λ q. ap (λ w. is_ready_at app q (Stepped w)) is ∙ ready_none q role;
+  }
+    where
+      start_none : (q : ℕ) (role : Role) → is_start_at app q (Stepped (return_item role)) ≡ false
+      start_none q Init = refl
+      start_none q Idle = refl
+      start_none q Waiting = refl
+      start_none q (Serving irq) = refl
+
+      ready_none : (q : ℕ) (role : Role) → is_ready_at app q (Stepped (return_item role)) ≡ false
+      ready_none q Init = refl
+      ready_none q Idle = refl
+      ready_none q Waiting = refl
+      ready_none q (Serving irq) = refl
+
+  -- of an action
+  module _ (s : State) (job : Job) (made vs later : Values) (behind : List Bool) where
+    action_effect : (action : Action) (now : ℕ) → released posts action ≡ Some now
+        → behind ≡ pending_after action s.pending
+        → Acted app s job (item_of s job.role action) action made vs later
+        → Effect s.pending behind s.values later (item_of s job.role action) now 0
+    action_effect (Posts irq) now is pending acted =
+        Put irq pending is (λ q. acted.reached q ∙ ap (λ us. messages (us (Guarded (section.Ready q)))) acted.is)
+        (record { no_start = λ q. refl; no_ready = λ q. refl }) refl
+    action_effect (Readies q m) now is pending acted =
+        Readied q m pending refl acted.level is
+        (λ r. acted.reached r ∙ ap (λ us. messages (us (Guarded (section.Ready r)))) acted.is) refl
+    action_effect (Starts q m) now is pending acted =
+        Started q m acted.level.1.0 pending refl acted.level.0 acted.level.1.1
+        (λ r. acted.reached r ∙ ap (λ us. messages (us (Guarded (section.Ready r)))) acted.is) (inl refl)
+    action_effect SetsAlarm now is pending acted = absurd acted.goes_on
+    action_effect Returns now is pending acted = absurd acted.goes_on
+    action_effect action now is pending acted =
+        Kept pending (λ q. acted.reached q ∙ ap (λ us. messages (us (Guarded (section.Ready q)))) acted.is)
+        (record { no_start = λ q. refl; no_ready = λ q. refl }) refl
+
+    pub effect_of : (action : Action) (now : ℕ) (shown : Option What) → released posts action ≡ Some now
+        → behind ≡ pending_after action s.pending → Acted app s job shown action made vs later
+        → Effect s.pending behind s.values later shown now 0
+    effect_of action now shown is pending acted =
+        subst (λ w. Effect s.pending behind s.values later w now 0) acted.shows
+        (action_effect action now is pending
+        (subst (λ w. Acted app s job w action made vs later) (sym acted.shows) acted))
 
   -- what is asked for behind a step, where so much was asked for and so much in reserve, of which it spends so many
   -- core steps
-  pub record Spends (before full : ℕ) (pending : List Bool) (spent : ℕ) (t : State) : Type 0 where
+  pub record Spends (before full : ℕ) (s : State) (shown : Option What) (spent : ℕ) (t : State) : Type 0 where
     pub reserve : ℕ
     pub all : ℕ
     pub now : ℕ
+    pub given : ℕ
     pub owe : Owe reserve all t.jobs
-    pub posted : Posted pending t.pending now
+    pub effects : Effect s.pending t.pending s.values t.values shown now given
     pub less : reserve ≤ full
-    pub sum : all + now + reserve + spent ≤ before + full
+    pub sum : all + now + reserve + spent ≤ before + full + given
+    pub small : now ≤ before + full
 
   -- a claim sets no alarm
-  pub no_alarm : (posts : Posting) (n : ℕ) (rest : Doing Values) → AtMost posts n rest → SetsNone rest
+  pub no_alarm : (posts : Posting) (n : ℕ) (rest : Doing Values) → AtMost app posts n rest → SetsNone rest
   no_alarm posts n over few = tt
   no_alarm posts n (does SetsAlarm made next) few = none-some few.0 few.2
   no_alarm posts n (does action made next) few = tt
+
+  no_alarm_yet : (q : ℕ) (rest : Doing Values) → Waits app asks posts q rest → SetsNone rest
+  no_alarm_yet q over waits = tt
+  no_alarm_yet q (does SetsAlarm made next) waits = waits
+  no_alarm_yet q (does action made next) waits = tt
+
+  no_alarm_turn : (q : ℕ) (rest : Doing Values) → InTurn app asks posts q rest → SetsNone rest
+  no_alarm_turn q over turns = tt
+  no_alarm_turn q (does SetsAlarm made next) turns = none-some turns.0 turns.2
+  no_alarm_turn q (does action made next) turns = tt
 
   no_alarm_in : (mode : Mode) (rest : Doing Values) → Holds app p most posts mode rest → SetsNone rest
   no_alarm_in mode over holds = tt
@@ -219,6 +348,8 @@ module _ (app : App) (i : Handler) (posts : Posting) (most : ℕ) where
 
   pub sets_none : (reserve own : ℕ) (job : Job) → Claim reserve own job → SetsNone job.rest
   sets_none reserve own job (Own irq role high rest few is) = no_alarm posts rest job.rest few
+  sets_none reserve own job (Begin irq role high q at waits is) = no_alarm_yet q job.rest waits
+  sets_none reserve own job (Turn irq role high q at turns is) = no_alarm_turn q job.rest turns
   sets_none reserve own job (Equal off same rest few within is) = no_alarm posts rest job.rest few
   sets_none reserve own job (Under off lower mode holds stands is) = no_alarm_in mode job.rest holds
 

@@ -29,10 +29,13 @@ use Rattle.rt_respond.specs.Handlers.{handlers}
 use Rattle.rt_respond.specs.declared.handler.Handler.{Handler}
 use Rattle.rt_respond_laws.specs.Moments.{NothingIsLeft, ComesToNothing}
 use Rattle.rt_respond_laws.specs.Laws.{RunsComeToNothing}
-use Rattle.rt_respond_laws.proofs.Lowering.{nothing_left}
-use Rattle.rt_respond_laws.proofs.Stretch.{Bounded, bounded, asks_now, Short, Stretch, on_request, numbers_requested}
-use Rattle.rt_respond_laws.proofs.Stretch.{StepCase, step_case, Behind, Over, On, behind_left, lowers_left, any_step}
-use Rattle.rt_respond_laws.proofs.Stretch.{numbers_behind, calm_behind}
+use Rattle.rt_respond_laws.proofs.Asking.{posts}
+use Rattle.rt_respond_laws.proofs.Cases.{StepCase, step_case}
+use Rattle.rt_respond_laws.proofs.Levels.{ready_same}
+use Rattle.rt_respond_laws.proofs.Waits.{nothing_left}
+use Rattle.rt_respond_laws.proofs.Paying.{paid_behind, paid_on}
+use Rattle.rt_respond_laws.proofs.Stretch.{Bounded, bounded, load_now, Short, Stretch, on_request, Behind}
+use Rattle.rt_respond_laws.proofs.Stretch.{Over, On, behind_left, lowers_left, any_step, calm_behind}
 use Rattle.rt_respond_laws.proofs.Early.{Moment, At, from_reset}
 
 module _ (app : App) (accepted : IsAccepted app) (form : is_of_form app ≡ true) (limits : List Limit)
@@ -47,8 +50,8 @@ module _ (app : App) (accepted : IsAccepted app) (form : is_of_form app ≡ true
   abbrev Brief : Waits → Type 0
   Brief = Short app accepted form limits fine i declared least bound
 
-  abbrev asks : State → ℕ
-  asks s = asks_now app accepted form limits fine i declared least bound s.pending
+  abbrev asks : State → (ℕ → ℕ) → ℕ
+  asks = load_now app accepted form limits fine i declared least bound
 
   short_on : (waits : Waits) → Brief waits → Brief (a_step_on waits)
   short_on waits short irq every row =
@@ -70,7 +73,6 @@ module _ (app : App) (accepted : IsAccepted app) (form : is_of_form app ≡ true
       → Now (after app s Ticked) (sees app v Ticked) waits labels
   on_tick s v waits labels now = record {
     well = next_well app accepted s v Ticked now.well now.runs.0;
-    numbered = now.numbered;
     alarm = now.alarm;
     not_owing = ap (is_due (suc s.time)) now.alarm;
     runs = now.runs.1;
@@ -79,15 +81,22 @@ module _ (app : App) (accepted : IsAccepted app) (form : is_of_form app ≡ true
     unspent = λ n. now.unspent (suc n);
   }
 
-  in_tick : (s : State) (waits : Waits) (steps : ℕ) → In s waits steps → In (after app s Ticked) waits steps
-  in_tick s waits steps stretch = record {
+  in_tick : (s : State) (v : Observer) (waits : Waits) (steps : ℕ) (labels : List Label)
+      → Now s v waits (Ticked ∷ labels) → In s waits steps → In (after app s Ticked) waits steps
+  in_tick s v waits steps labels now stretch = record {
     short_of = stretch.short_of;
     counts = stretch.counts;
+    paid = paid_behind app Ticked stretch.paid;
+    now = paid_on app accepted form i declared bound.hold bound.hold_is bound.few limits fine s v now.well Ticked
+        now.runs.0 (λ irq is. cc) stretch.paid stretch.now stretch.now.numbered stretch.now.known;
     reserve = stretch.reserve;
     all = stretch.all;
     within = stretch.within;
     owe = stretch.owe;
-    owing = stretch.owing;
+    owing =
+        let same = ready_same app i (posts app accepted form i) s.values s.values stretch.paid
+        (paid_behind app Ticked stretch.paid) (λ q. refl) (λ q at. omega arith) in
+        let owing = stretch.owing in omega (arith, same, owing);
     fits = stretch.fits;
   }
 
@@ -96,8 +105,6 @@ module _ (app : App) (accepted : IsAccepted app) (form : is_of_form app ≡ true
       → Now (after app s (Arrived irq)) (sees app v (Arrived irq)) (requested irq now.spaced.0 waits) labels
   on_arrival s v waits irq labels now = record {
     well = next_well app accepted s v (Arrived irq) now.well now.runs.0;
-    numbered = numbers_requested app accepted form limits fine i declared least bound s.pending irq now.spaced.0
-        now.spaced.1 now.numbered;
     alarm = now.alarm;
     not_owing = now.not_owing;
     runs = now.runs.1;
@@ -110,8 +117,9 @@ module _ (app : App) (accepted : IsAccepted app) (form : is_of_form app ≡ true
       → (now : Now s v waits (Arrived irq ∷ labels)) → In s waits steps
       → In (after app s (Arrived irq)) (requested irq now.spaced.0 waits) steps
   in_arrival s v waits irq steps labels now stretch =
-      on_request app accepted form limits fine i declared least bound s waits steps irq now.spaced.0 now.short
-      now.spaced.1 now.spaced.2 stretch
+      on_request app accepted form limits fine i declared least bound s v now.well waits steps irq now.spaced.0
+      now.short
+      now.runs.0 now.spaced.1 now.spaced.2 stretch
 
   no_ring : (s : State) (v : Observer) (waits : Waits) (labels : List Label) → Now s v waits (Rang ∷ labels) → ⊥
   no_ring s v waits labels now = true_and_false s.owing now.runs.0 now.not_owing
@@ -124,12 +132,10 @@ module _ (app : App) (accepted : IsAccepted app) (form : is_of_form app ≡ true
       → Now s v waits (Stepped shown ∷ labels) → In s waits steps
       → Now (after app s (Stepped shown)) (sees app v (Stepped shown)) (a_step_on waits) labels
   on_core_step s v waits shown steps labels now stretch =
-      let calm = calm_behind app accepted form limits fine i declared least bound s v shown
-      (case_at s v waits shown labels now) waits steps stretch now.numbered now.alarm now.not_owing in
+      let calm = calm_behind app accepted form limits fine i declared least bound s v now.well shown now.runs.0
+      (case_at s v waits shown labels now) waits steps stretch now.alarm now.not_owing in
       record {
         well = next_well app accepted s v (Stepped shown) now.well now.runs.0;
-        numbered = numbers_behind app accepted form limits fine i declared least bound s v shown
-            (case_at s v waits shown labels now) waits steps stretch now.numbered;
         alarm = calm.0;
         not_owing = calm.1;
         runs = now.runs.1;
@@ -158,14 +164,15 @@ module _ (app : App) (accepted : IsAccepted app) (form : is_of_form app ≡ true
 
   -- here it is
   here : (s : State) (v : Observer) (waits : Waits) (steps k : ℕ) (labels : List Label) → Now s v waits labels
-      → (stretch : In s waits steps) → stretch.all + asks s ≡ 0 → Comes s k labels
+      → (stretch : In s waits steps) → stretch.all + asks s stretch.paid ≡ 0 → Comes s k labels
   here s v waits steps k labels now stretch none = record {
     until = [];
     behind = labels;
     parts = refl;
     in_time = omega arith;
-    nothing = nothing_left app accepted form i declared bound.hold bound.hold_is bound.few s stretch.reserve stretch.all
-        (now.unspent 0) stretch.owe now.numbered (omega (arith, none)) (omega (arith, none));
+    nothing = nothing_left app accepted form i declared bound.hold bound.hold_is bound.few s stretch.paid
+        stretch.reserve
+        stretch.all (now.unspent 0) stretch.owe stretch.now (omega (arith, none)) (omega (arith, none));
   }
 
   comes : (labels : List Label) (s : State) (v : Observer) (waits : Waits) (steps k : ℕ) → Now s v waits labels
@@ -175,10 +182,10 @@ module _ (app : App) (accepted : IsAccepted app) (form : is_of_form app ≡ true
   comes (Ticked ∷ labels) s v waits steps k now stretch sum enough =
       one_on s Ticked labels k k (omega arith)
       (comes labels (after app s Ticked) (sees app v Ticked) waits steps k (on_tick s v waits labels now)
-      (in_tick s waits steps stretch) sum enough)
+      (in_tick s v waits steps labels now stretch) sum enough)
   comes (Rang ∷ labels) s v waits steps k now stretch sum enough = absurd (no_ring s v waits labels now)
   comes (Arrived irq ∷ labels) s v waits steps k now stretch sum enough =
-      elim (cases_lt 0 (stretch.all + asks s)) [
+      elim (cases_lt 0 (stretch.all + asks s stretch.paid)) [
         | inl more ↦ one_on s (Arrived irq) labels k k (omega arith)
             (comes labels (after app s (Arrived irq)) (sees app v (Arrived irq)) (requested irq now.spaced.0 waits)
             steps
@@ -188,14 +195,14 @@ module _ (app : App) (accepted : IsAccepted app) (form : is_of_form app ≡ true
   comes (Stepped shown ∷ labels) s v waits steps zero now stretch sum enough =
       let room = stretch.short_of in absurd (omega (arith, room, sum))
   comes (Stepped shown ∷ labels) s v waits steps (suc k) now stretch sum enough =
-      elim (cases_lt 0 (stretch.all + asks s)) [
+      elim (cases_lt 0 (stretch.all + asks s stretch.paid)) [
         | inl more ↦ by (λ on. comes labels (after app s (Stepped shown)) (sees app v (Stepped shown)) (a_step_on waits)
             (steps + 1) k (on_core_step s v waits shown steps labels now stretch) on (omega (arith, sum))
             (omega (arith, enough)))
-            (behind_left app accepted form limits fine i declared least bound s v shown
-            (case_at s v waits shown labels now) waits steps stretch now.numbered
-            (lowers_left app accepted form limits fine i declared least bound s v shown
-            (case_at s v waits shown labels now) waits steps stretch now.numbered more))
+            (behind_left app accepted form limits fine i declared least bound s v now.well shown now.runs.0
+            (case_at s v waits shown labels now) waits steps stretch
+            (lowers_left app accepted form limits fine i declared least bound s v now.well shown now.runs.0
+            (case_at s v waits shown labels now) waits steps stretch more))
         | inr none ↦ here s v waits steps (suc k) (Stepped shown ∷ labels) now stretch (omega (arith, none))
       ]
     where
@@ -204,16 +211,16 @@ module _ (app : App) (accepted : IsAccepted app) (form : is_of_form app ≡ true
 
       by : (In (after app s (Stepped shown)) (a_step_on waits) (steps + 1)
           → Comes (after app s (Stepped shown)) k labels) → Behind app accepted form limits fine i declared least bound
-          s v shown
-          (case_at s v waits shown labels now) waits steps stretch now.numbered
+          s v now.well shown now.runs.0
+          (case_at s v waits shown labels now) waits steps stretch
           → Comes s (suc k) (Stepped shown ∷ labels)
-      by later (Over reserve all within owe none clear) = record {
+      by later (Over paid reserve all paid_now within owe none clear) = record {
         until = Stepped shown ∷ [];
         behind = labels;
         parts = refl;
         in_time = omega arith;
         nothing = nothing_left app accepted form i declared bound.hold bound.hold_is bound.few
-            (after app s (Stepped shown)) reserve all (next.unspent 0) owe next.numbered none clear;
+            (after app s (Stepped shown)) paid reserve all (next.unspent 0) owe paid_now none clear;
       }
       by later (On on more) = one_on s (Stepped shown) labels k (suc k) (omega arith) (later on)
 
@@ -229,7 +236,7 @@ module _ (app : App) (accepted : IsAccepted app) (form : is_of_form app ≡ true
         waits = at.waits;
         steps = at.steps;
         moment = on_tick s at.seen at.waits (front ++ behind) at.moment;
-        stretch = in_tick s at.waits at.steps at.stretch;
+        stretch = in_tick s at.seen at.waits at.steps (front ++ behind) at.moment at.stretch;
       })
   walk (Rang ∷ front) behind s at = absurd (no_ring s at.seen at.waits (front ++ behind) at.moment)
   walk (Arrived irq ∷ front) behind s at =
@@ -241,8 +248,8 @@ module _ (app : App) (accepted : IsAccepted app) (form : is_of_form app ≡ true
         stretch = in_arrival s at.seen at.waits irq at.steps (front ++ behind) at.moment at.stretch;
       })
   walk (Stepped shown ∷ front) behind s at =
-      let on = any_step app accepted form limits fine i declared least bound s at.seen shown
-      (case_at s at.seen at.waits shown (front ++ behind) at.moment) at.waits at.steps at.stretch at.moment.numbered
+      let on = any_step app accepted form limits fine i declared least bound s at.seen at.moment.well shown
+      at.moment.runs.0 (case_at s at.seen at.waits shown (front ++ behind) at.moment) at.waits at.steps at.stretch
       (short_on at.waits at.moment.short) in
       walk front behind (after app s (Stepped shown)) (record {
         seen = sees app at.seen (Stepped shown);
@@ -285,7 +292,7 @@ module _ (app : App) (accepted : IsAccepted app) (form : is_of_form app ≡ true
         behind = one.behind;
         parts = one.parts;
         in_time = omega (arith, time);
-        nothing = subst (NothingIsLeft app i) (sym (state_is one.until)) one.nothing;
+        nothing = nothing_there one.until one.nothing;
       }
     where
       state_is : (until : List Label)
@@ -296,6 +303,12 @@ module _ (app : App) (accepted : IsAccepted app) (form : is_of_form app ≡ true
           ∙ ap (λ s. after_all app s until)
           (ap (after_all app (first app)) (sym (append_assoc during (end_of_init ∷ []) front))
           ∙ after_append app (during ++ end_of_init ∷ []) front (first app))
+
+      nothing_there : (until : List Label)
+          → NothingIsLeft app i
+          (after_all app (after_all app (after_all app (first app) (during ++ end_of_init ∷ [])) front) until)
+          → NothingIsLeft app i (after_all app (first app) ((during ++ end_of_init ∷ front) ++ until))
+      nothing_there until nothing = subst (NothingIsLeft app i) (sym (state_is until)) nothing
 
 pub runs_come_to_nothing : RunsComeToNothing
 runs_come_to_nothing app accepted form limits fine labels runs kept unspent i declared steps response during front

@@ -1,8 +1,7 @@
 -- How a run begins: while `init` runs nothing preempts it, and nothing comes from outside; as it ends, what is pending
--- is
--- what it has released.
-use Rattle.std.proofs.Common.{◌≡◌, ℕ, suc, ◌+◌, ◌≤◌, ◌<◌, ◌^◌, ◌⊎◌, inl, inr, Bool, true, false, if◌then◌else◌}
-use Rattle.std.proofs.Common.{List, [], ◌∷◌, ◌++◌, Contains, length, replicate, slice_index_or, Option}
+-- and what is ready is what it has released.
+use Rattle.std.proofs.Common.{◌≡◌, ℕ, suc, ◌+◌, ◌≤◌, ◌<◌, ◌^◌, ◌⊎◌, inl, inr, true, false, if◌then◌else◌}
+use Rattle.std.proofs.Common.{count_by, List, [], ◌∷◌, ◌++◌, Contains, length, replicate, slice_index_or, Option}
 use Rattle.std.proofs.Common.{Some}
 use Rattle.std.proofs.Common.{None, IsSome, refl, sym, ap, subst, ◌∙◌, arith}
 use Rattle.std.proofs.lemmas.Option.{none-some}
@@ -13,8 +12,19 @@ use Rattle.rt_lemmas.proofs.Membership.{contains_cases, contains_none, contains_
 use Rattle.rt_ids.specs.Choice.{IsIn}
 use Rattle.rt_ids.specs.Lists.{or_zero}
 use Rattle.rt_ids.specs.declared.ids.BodyId.TheVariants as body
+use Rattle.rt_ids.specs.declared.ids.Section.TheVariants as section
 use Rattle.rt_ids.specs.declared.limits.TheConstants.{IRQ_NUMBERS}
-use Rattle.rt_actions.specs.Doing.{over}
+use Rattle.rt_actions.specs.Location.{Guarded}
+use Rattle.rt_actions.specs.Content.{messages}
+use Rattle.std.specs.List.{AllByRecursion}
+use Rattle.rt_app.specs.Doings.{init_doing}
+use Rattle.rt_laws.specs.Waiting.{is_take}
+use Rattle.rt_laws.proofs.Fine.{first_queued, reached_same}
+use Rattle.rt_laws.proofs.FineHandlers.{init_fine}
+use Rattle.rt_laws.proofs.ItemCounts.{one_if}
+use Rattle.std.proofs.lemmas.List.Sums.{sum_by-cons}
+use Rattle.rt_laws.proofs.ReadyRuns.{first_kept}
+use Rattle.rt_respond.specs.declared.number.TheConstants.{MOST_WORK}
 use Rattle.rt_trace.specs.Label.{Label, Arrived, Ticked, Rang, Stepped}
 use Rattle.rt_trace.specs.declared.item.What.{What}
 use Rattle.rt_trace.specs.declared.item.What.TheVariants as what
@@ -42,20 +52,28 @@ use Rattle.rt_rta.proofs.Beginning.{Unspent, idle_ends, long_stays, positive_row
 use Rattle.rt_rta.proofs.Spacing.{Waits, Spaced, none_set}
 use Rattle.rt_respond.specs.Form.{is_of_form}
 use Rattle.rt_respond.specs.Handlers.{handlers}
-use Rattle.rt_respond.specs.Work.{pend_work, work}
+use Rattle.rt_respond.specs.Work.{release_work, work}
 use Rattle.rt_respond.specs.declared.handler.Handler.{Handler}
 use Rattle.rt_respond_laws.specs.Served.{pend_of}
-use Rattle.rt_respond_laws.proofs.Sending.{AtMost}
-use Rattle.rt_respond_laws.proofs.Asking.{posts, agree}
+use Rattle.rt_respond_laws.proofs.Sending.{Posting, AtMost}
+use Rattle.rt_respond_laws.proofs.Asking.{wired, Allowed, posts, agree}
 use Rattle.rt_respond_laws.proofs.Bodies.{init_at_most}
-use Rattle.rt_respond_laws.proofs.Passing.{Passed, Passes, Silently, Acts, Anew, Returned, step_passes}
-use Rattle.rt_respond_laws.proofs.Claims.{no_alarm, posted_by}
-use Rattle.rt_respond_laws.proofs.Owed.{owed_pending}
-use Rattle.rt_respond_laws.proofs.Lowering.{Owes, anew, posted_raises, posted_numbers}
-use Rattle.rt_respond_laws.proofs.Stretch.{Bounded, fits_start, asks_now, HaveNumbers, Short, Stretch}
-use Rattle.rt_respond_laws.proofs.Stretch.{is_served}
+use Rattle.rt_respond_laws.proofs.Passing.{SameReady, Passed, Passes, Silently, Acts, Anew, Returned}
+use Rattle.rt_respond_laws.proofs.Passing.{step_passes}
+use Rattle.rt_respond_laws.proofs.Claims.{no_alarm, Effect, Kept as Keeps, silent_else, ended_else, effect_of}
+use Rattle.rt_respond_laws.proofs.Owed.{owed_pending, raised_none}
+use Rattle.rt_respond_laws.proofs.Turning.{turn}
+use Rattle.rt_respond_laws.proofs.Turns.{first_turned, first_taken}
+use Rattle.rt_respond_laws.proofs.Stepping.{IsKnown}
+use Rattle.rt_respond_laws.proofs.Levels.{ready_same, none_ready}
+use Rattle.rt_respond_laws.proofs.Lowering.{Owes, anew, only}
+use Rattle.rt_respond_laws.proofs.Waits.{Pays}
+use Rattle.rt_respond_laws.proofs.Loads.{effect_raises, effect_numbers, effect_knows}
+use Rattle.rt_respond_laws.proofs.Paying.{paid_behind, pays_on, paid_on}
+use Rattle.rt_respond_laws.proofs.Cases.{is_served}
+use Rattle.rt_respond_laws.proofs.Stretch.{Bounded, fits_start, load_now, PaidNow, Short, Stretch}
 
-owed_none : (app : App) (i : Handler) (n : ℕ) (hs : List Handler) → owed_pending app i (replicate n false) hs ≡ 0
+pub owed_none : (app : App) (i : Handler) (n : ℕ) (hs : List Handler) → owed_pending app i (replicate n false) hs ≡ 0
 owed_none app i n [] = refl
 owed_none app i n (h ∷ hs) =
     let rest = owed_none app i n hs in
@@ -77,11 +95,11 @@ late_on label labels other late front behind irq is =
 module _ (app : App) (accepted : IsAccepted app) (form : is_of_form app ≡ true) (limits : List Limit)
     (fine : rta.AreLimits app limits) (i : Handler) (declared : IsIn (handlers app) i) (least : ℕ)
     (bound : Bounded app limits i least) where
-  abbrev Asks : List Bool → ℕ
-  Asks = asks_now app accepted form limits fine i declared least bound
+  abbrev Load : State → (ℕ → ℕ) → ℕ
+  Load = load_now app accepted form limits fine i declared least bound
 
-  abbrev Numbers : List Bool → Type 0
-  Numbers = HaveNumbers app accepted form limits fine i declared least bound
+  abbrev PaidIn : State → (ℕ → ℕ) → Type 0
+  PaidIn = PaidNow app accepted form limits fine i declared least bound
 
   abbrev In : State → Waits → ℕ → Type 0
   In = Stretch app accepted form limits fine i declared least bound
@@ -89,13 +107,12 @@ module _ (app : App) (accepted : IsAccepted app) (form : is_of_form app ≡ true
   abbrev Brief : Waits → Type 0
   Brief = Short app accepted form limits fine i declared least bound
 
-  abbrev asked_by : ℕ → Option ℕ
+  abbrev asked_by : Posting
   asked_by = posts app accepted form i
 
   -- at each moment behind the end of `init`
   pub record Moment (s : State) (v : Observer) (waits : Waits) (labels : List Label) : Type 0 where
     pub well : StateWell app s v
-    pub numbered : Numbers s.pending
     pub alarm : s.alarm ≡ None
     pub not_owing : s.owing ≡ false
     pub runs : RunsOn app s labels
@@ -118,15 +135,16 @@ module _ (app : App) (accepted : IsAccepted app) (form : is_of_form app ≡ true
     role : job.role ≡ Init
     highest : job.priority ≡ 2 ^ app.bits
     well : StateWell app s v
-    numbered : Numbers s.pending
+    paid : ℕ → ℕ
+    now : PaidIn s paid
     alarm : s.alarm ≡ None
     not_owing : s.owing ≡ false
     runs : RunsOn app s labels
     unspent : Unspent app s labels
     late : IsLate labels
     rest : ℕ
-    few : AtMost asked_by rest job.rest
-    owed : Asks s.pending + rest ≤ bound.begin
+    few : AtMost app asked_by rest job.rest
+    owed : Load s paid + rest ≤ bound.begin
 
   no_takes : (s : State) (v : Observer) (shown : Option What) (labels : List Label)
       → Early s v (Stepped shown ∷ labels) → (irq depth : ℕ) → ¬ (shown ≡ Some (what.Take irq depth))
@@ -147,7 +165,7 @@ module _ (app : App) (accepted : IsAccepted app) (form : is_of_form app ≡ true
   early_passed : (s : State) (v : Observer) (shown : Option What) (labels : List Label)
       → (early : Early s v (Stepped shown ∷ labels)) → Passed app s early.job [] shown (after app s (Stepped shown))
   early_passed s v shown labels early =
-      step_passes app s early.job [] early.jobs
+      step_passes app accepted s v early.well early.job [] early.jobs
       (no_alarm app i asked_by bound.hold asked_by early.rest early.job.rest early.few) shown early.runs.0
       (no_takes s v shown labels early)
 
@@ -180,6 +198,45 @@ module _ (app : App) (accepted : IsAccepted app) (form : is_of_form app ≡ true
   no_waits : Brief (λ irq. 0)
   no_waits irq every row = (omega arith, positive_row limits fine irq every row)
 
+  some_work : 0 < MOST_WORK
+  some_work = let small = bound.small in omega (arith, small)
+
+  begin_small : bound.begin < MOST_WORK
+  begin_small =
+      let within = bound.begin_within in let room = bound.room in let small = bound.small in
+      omega (arith, within, room, small)
+
+  -- what a step of it does to what is asked for
+  module _ (s : State) (v : Observer) (shown : Option What) (labels : List Label)
+      (early : Early s v (Stepped shown ∷ labels)) (no_take : (q : ℕ) → is_take (turn app q) (Stepped shown) ≡ false)
+      (asks_now given : ℕ) where
+    abbrev t : State
+    t = after app s (Stepped shown)
+
+    abbrev EffectNow : Type 0
+    EffectNow = Effect app i asked_by bound.hold s.pending t.pending s.values t.values shown asks_now given
+
+    pays : Pays app accepted form i declared bound.hold bound.hold_is bound.few (Stepped shown) early.paid
+        (paid_behind app (Stepped shown) early.paid)
+    pays = pays_on app accepted form i declared bound.hold bound.hold_is bound.few limits fine s v early.well
+        (Stepped shown) early.runs.0 (λ irq is. cc) early.paid early.now
+
+    load_then : EffectNow → asks_now < MOST_WORK
+        → Load t (paid_behind app (Stepped shown) early.paid) + given ≤ Load s early.paid + asks_now
+    load_then effects small =
+        effect_raises app accepted form i declared bound.hold bound.hold_is bound.few s t shown early.paid
+        (paid_behind app (Stepped shown) early.paid) early.now no_take pays asks_now given small effects
+
+    paid_then : EffectNow → asks_now < MOST_WORK → PaidIn t (paid_behind app (Stepped shown) early.paid)
+    paid_then effects small =
+        paid_on app accepted form i declared bound.hold bound.hold_is bound.few limits fine s v early.well (Stepped
+        shown)
+        early.runs.0 (λ irq is. cc) early.paid early.now
+        (effect_numbers app accepted form i declared bound.hold bound.hold_is bound.few s t shown early.paid
+        (paid_behind app (Stepped shown) early.paid) early.now no_take pays asks_now given effects)
+        (effect_knows app accepted form i declared bound.hold bound.hold_is bound.few s t shown early.paid
+        (paid_behind app (Stepped shown) early.paid) early.now no_take pays asks_now given small effects)
+
   -- it ends
   ends_here : (behind : List Label) (s : State) (v : Observer) → Early s v (end_of_init ∷ behind)
       → Spaced limits (λ irq. 0) behind → At (after app s end_of_init) behind
@@ -188,18 +245,25 @@ module _ (app : App) (accepted : IsAccepted app) (form : is_of_form app ≡ true
       passed : Passed app s early.job [] (Some (what.End body.Init)) (after app s end_of_init)
       passed = early_passed s v (Some (what.End body.Init)) behind early
 
+      effect_of_end : (after app s end_of_init).pending ≡ s.pending
+          → (Some (what.End body.Init) ≡ Some (what.End body.Init)) ⊎ (Some (what.End body.Init)
+          ≡ Some (what.End body.Idle)) → SameReady s.values (after app s end_of_init).values
+          → Effect app i asked_by bound.hold s.pending (after app s end_of_init).pending s.values
+          (after app s end_of_init).values (Some (what.End body.Init)) 0 0
+      effect_of_end ps ended same =
+          Keeps ps same (ended_else app i asked_by bound.hold (Some (what.End body.Init)) ended) refl
+
       by : Passes app s early.job [] (Some (what.End body.Init)) (after app s end_of_init)
           → At (after app s end_of_init) behind
-      by (Silently js ps silent) = absurd (none-some _ (sym silent))
-      by (Acts action made next rest_is a vs j js role priority left rest sections lefts pending no_end) =
+      by (Silently js ps silent values) = absurd (none-some _ (sym silent))
+      by (Acts action made next rest_is a vs j js role priority left rest sections lefts pending no_end acted) =
           absurd (no_end refl)
-      by (Anew vs js ps ended) = record {
+      by (Anew vs js ps ended b next same) = record {
         seen = sees app v end_of_init;
         waits = λ irq. 0;
         steps = 0;
         moment = record {
           well = next_well app accepted s v end_of_init early.well early.runs.0;
-          numbered = subst Numbers (sym ps) early.numbered;
           alarm = passed.alarm ∙ early.alarm;
           not_owing = passed.owing ∙ early.not_owing;
           runs = early.runs.1;
@@ -210,6 +274,9 @@ module _ (app : App) (accepted : IsAccepted app) (form : is_of_form app ≡ true
         stretch = record {
           short_of = let some = bound.some in omega (arith, some);
           counts = λ irq. 0;
+          paid = paid_behind app end_of_init early.paid;
+          now = paid_then s v (Some (what.End body.Init)) behind early (λ q. refl) 0 0 (effect_of_end ps ended same)
+              some_work;
           reserve = 0;
           all = 0;
           within = omega arith;
@@ -220,12 +287,15 @@ module _ (app : App) (accepted : IsAccepted app) (form : is_of_form app ≡ true
             anew app accepted form i declared bound.hold bound.hold_is bound.few 0 vs,
             refl,
           );
-          owing = let same = ap Asks ps in let owed = early.owed in let base = bound.begin_within in
-              omega (arith, same, owed, base);
+          owing = let raises = load_then s v (Some (what.End body.Init)) behind early (λ q. refl) 0 0
+              (effect_of_end ps ended same) some_work in
+              let owed = early.owed in let base = bound.begin_within in
+              let none = raised_none app i (wired app accepted form) limits in
+              omega (arith, raises, owed, base, none);
           fits = λ irq. fits_start (rta.every_of limits irq) 0 (no_waits irq);
         };
       }
-      by (Returned js ps returns) = absurd (no_item early.job.role early.role returns)
+      by (Returned js ps shows_it returns next values) = absurd (no_item early.job.role early.role returns)
 
   -- a label on, at which it does not end
   early_next : (label : Label) (labels : List Label) (s : State) (v : Observer) → Early s v (label ∷ labels)
@@ -238,7 +308,9 @@ module _ (app : App) (accepted : IsAccepted app) (form : is_of_form app ≡ true
     role = early.role;
     highest = early.highest;
     well = next_well app accepted s v Ticked early.well early.runs.0;
-    numbered = early.numbered;
+    paid = paid_behind app Ticked early.paid;
+    now = paid_on app accepted form i declared bound.hold bound.hold_is bound.few limits fine s v early.well Ticked
+        early.runs.0 (λ irq is. cc) early.paid early.now early.now.numbered early.now.known;
     alarm = early.alarm;
     not_owing = ap (is_due (suc s.time)) early.alarm;
     runs = early.runs.1;
@@ -246,7 +318,11 @@ module _ (app : App) (accepted : IsAccepted app) (form : is_of_form app ≡ true
     late = late_on Ticked labels other early.late;
     rest = early.rest;
     few = early.few;
-    owed = early.owed;
+    owed =
+        let same = ready_same app i asked_by s.values s.values early.paid (paid_behind app Ticked early.paid) (λ q.
+        refl)
+        (λ q at. omega arith) in
+        let owed = early.owed in omega (arith, same, owed);
   }
   early_next Rang labels s v early other = absurd (true_and_false s.owing early.runs.0 early.not_owing)
   early_next (Stepped shown) labels s v early other = goes_on passed.passes
@@ -254,15 +330,26 @@ module _ (app : App) (accepted : IsAccepted app) (form : is_of_form app ≡ true
       passed : Passed app s early.job [] shown (after app s (Stepped shown))
       passed = early_passed s v shown labels early
 
+      no_take_now : (q : ℕ) → is_take (turn app q) (Stepped shown) ≡ false
+      no_take_now q = by shown (λ irq depth is. no_takes s v shown labels early irq depth is)
+        where
+          by : (w : Option What) → ((irq depth : ℕ) → ¬ (w ≡ Some (what.Take irq depth)))
+              → is_take (turn app q) (Stepped w) ≡ false
+          by None none = refl
+          by (Some (what.Take irq depth)) none = absurd (none irq depth refl)
+          by (Some w) none = refl
+
       goes_on : Passes app s early.job [] shown (after app s (Stepped shown))
           → Early (after app s (Stepped shown)) (sees app v (Stepped shown)) labels
-      goes_on (Silently js ps silent) = record {
+      goes_on (Silently js ps silent values) = record {
         job = _;
         jobs = js;
         role = early.role;
         highest = early.highest;
         well = next_well app accepted s v (Stepped shown) early.well early.runs.0;
-        numbered = subst Numbers (sym ps) early.numbered;
+        paid = paid_behind app (Stepped shown) early.paid;
+        now = paid_then s v shown labels early (λ q. ap (λ w. is_take (turn app q) (Stepped w)) silent) 0 0
+            (still ps values silent) some_work;
         alarm = passed.alarm ∙ early.alarm;
         not_owing = passed.owing ∙ early.not_owing;
         runs = early.runs.1;
@@ -270,34 +357,48 @@ module _ (app : App) (accepted : IsAccepted app) (form : is_of_form app ≡ true
         late = late_on (Stepped shown) labels other early.late;
         rest = early.rest;
         few = early.few;
-        owed = let same = ap Asks ps in let owed = early.owed in omega (arith, same, owed);
+        owed = let raises = load_then s v shown labels early (λ q. ap (λ w. is_take (turn app q) (Stepped w)) silent)
+            0 0 (still ps values silent) some_work in
+            let owed = early.owed in omega (arith, raises, owed);
       }
-      goes_on (Acts action made then_next rest_is a vs j js role priority left rest sections lefts pending no_end) =
-          let parts = subst (AtMost asked_by early.rest) rest_is early.few in
-          let posted = posted_by app i asked_by bound.hold action parts.0 s.pending
-          (after app s (Stepped shown)).pending parts.2 pending in
-          let raises = posted_raises app accepted form i declared bound.hold bound.hold_is bound.few s.pending
-          (after app s (Stepped shown)).pending parts.0 posted in
+        where
+          still : (after app s (Stepped shown)).pending ≡ s.pending → (after app s (Stepped shown)).values ≡ s.values
+              → shown ≡ None
+              → Effect app i asked_by bound.hold s.pending (after app s (Stepped shown)).pending s.values
+              (after app s (Stepped shown)).values shown 0 0
+          still ps values silent =
+              Keeps ps (λ q. ap (λ us. messages (us (Guarded (section.Ready q)))) values)
+              (silent_else app i asked_by bound.hold shown silent) refl
+      goes_on (Acts action made then_next rest_is a vs j js role priority left rest sections lefts pending no_end
+          acted) =
+          let parts = subst (AtMost app asked_by early.rest) rest_is early.few in
+          let effects = effect_of app i asked_by bound.hold s early.job made vs (after app s (Stepped shown)).values
+          (after app s (Stepped shown)).pending action parts.0 shown parts.2 pending acted in
+          let within = parts.3 in
+          let owed = early.owed in
+          let small = begin_small in
+          let below : parts.0 < MOST_WORK = omega (arith, within, owed, small) in
+          let raises = load_then s v shown labels early no_take_now parts.0 0 effects below in
           record {
             job = j;
             jobs = js;
             role = role ∙ early.role;
             highest = priority ∙ early.highest;
             well = next_well app accepted s v (Stepped shown) early.well early.runs.0;
-            numbered = posted_numbers app accepted form i declared bound.hold bound.hold_is bound.few s.pending
-                (after app s (Stepped shown)).pending parts.0 posted early.numbered;
+            paid = paid_behind app (Stepped shown) early.paid;
+            now = paid_then s v shown labels early no_take_now parts.0 0 effects below;
             alarm = passed.alarm ∙ early.alarm;
             not_owing = passed.owing ∙ early.not_owing;
             runs = early.runs.1;
             unspent = λ n. early.unspent (suc n);
             late = late_on (Stepped shown) labels other early.late;
             rest = parts.1;
-            few = subst (AtMost asked_by parts.1) (sym rest) (parts.4 a vs);
-            owed = let owed = early.owed in let within = parts.3 in omega (arith, raises, owed, within);
+            few = subst (AtMost app asked_by parts.1) (sym rest) (parts.4 a vs acted.queued);
+            owed = omega (arith, raises, owed, within);
           }
-      goes_on (Anew vs js ps (inl ended)) = absurd (other (ap Stepped ended))
-      goes_on (Anew vs js ps (inr ended)) = absurd (not_idle s v shown labels early ended)
-      goes_on (Returned js ps returns) = absurd (no_item early.job.role early.role returns)
+      goes_on (Anew vs js ps (inl ended) b next same) = absurd (other (ap Stepped ended))
+      goes_on (Anew vs js ps (inr ended) b next same) = absurd (not_idle s v shown labels early ended)
+      goes_on (Returned js ps shows_it returns next values) = absurd (no_item early.job.role early.role returns)
 
   not_first : (label : Label) (during : List Label) → ¬ Contains (label ∷ during) end_of_init
       → ¬ (label ≡ end_of_init)
@@ -353,6 +454,26 @@ module _ (app : App) (accepted : IsAccepted app) (form : is_of_form app ≡ true
         | inr deeper ↦ inr deeper
       ]
 
+  -- no interrupt is taken while it runs
+  none_taken : (during behind : List Label) (s : State) (v : Observer) → Early s v (during ++ end_of_init ∷ behind)
+      → ¬ Contains during end_of_init → (irq : ℕ) → count_by (is_take irq) during ≡ 0
+  none_taken [] behind s v early not_yet irq = refl
+  none_taken (label ∷ during) behind s v early not_yet irq =
+      let rest = none_taken during behind (after app s label) (sees app v label)
+      (early_next label (during ++ end_of_init ∷ behind) s v early (not_first label during not_yet))
+      (λ there. not_yet (contains_there label during end_of_init there)) irq in
+      let here = ap one_if (no_take label (not_taken label (during ++ end_of_init ∷ behind) s v early)) in
+      let sum = sum_by-cons (λ l. one_if (is_take irq l)) label during in
+      omega (arith, rest, here, sum)
+    where
+      no_take : (l : Label) → ((k depth : ℕ) → ¬ (l ≡ Stepped (Some (what.Take k depth)))) → is_take irq l ≡ false
+      no_take (Arrived k) none = refl
+      no_take Ticked none = refl
+      no_take Rang none = refl
+      no_take (Stepped None) none = refl
+      no_take (Stepped (Some (what.Take k depth))) none = absurd (none k depth refl)
+      no_take (Stepped (Some w)) none = refl
+
   at_reset : (labels during behind : List Label) → RunsOn app (first app) labels → Kept limits labels
       → NoneIsSpent app labels → labels ≡ during ++ end_of_init ∷ behind
       → Early (first app) (first_sight app) (during ++ end_of_init ∷ behind)
@@ -364,19 +485,33 @@ module _ (app : App) (accepted : IsAccepted app) (form : is_of_form app ≡ true
         role = refl;
         highest = refl;
         well = first_well app accepted;
-        numbered = λ n set. absurd (true_and_false (slice_index_or (replicate IRQ_NUMBERS false) n false) set
-            (none_set IRQ_NUMBERS n));
+        paid = λ q. 0;
+        now = record {
+          numbered = λ n set. absurd (true_and_false (slice_index_or (replicate IRQ_NUMBERS false) n false) set
+              (none_set IRQ_NUMBERS n));
+          known = λ q at. subst (AllByRecursion (IsKnown app i asked_by bound.hold q)) (sym (first_ready q)) tt;
+          turned = first_turned app accepted form;
+          counts = first_taken app accepted form;
+          served = λ q level. first_kept app accepted q level;
+        };
         alarm = refl;
         not_owing = refl;
         runs = runs;
         unspent = unspent;
         late = λ front rest irq is. kept.late front rest irq is;
         rest = bound.begin;
-        few = init_at_most app accepted form (pend_work app i) asked_by (agree app accepted form i) bound.begin
-            bound.begin_is (let within = bound.begin_within in let room = bound.room in let small = bound.small in
-            omega (arith, within, room, small)) (first_values app);
-        owed = let none = owed_none app i IRQ_NUMBERS (handlers app) in omega (arith, none);
+        few = init_at_most app accepted form (release_work app i) asked_by (Allowed app accepted form)
+            (agree app accepted form i) (only app accepted form i declared bound.hold bound.hold_is bound.few)
+            bound.begin
+            bound.begin_is begin_small (first_values app);
+        owed = let none = owed_none app i IRQ_NUMBERS (wired app accepted form) in
+            let clear = none_ready app i asked_by (first app).values (λ q. 0) first_ready in omega (arith, none, clear);
       })
+    where
+      first_ready : (q : ℕ) → messages ((first app).values (Guarded (section.Ready q))) ≡ []
+      first_ready q = ap messages
+          (reached_same app Init (2 ^ app.bits) 0 [] (init_doing app (first_values app)) (first_values app)
+          (init_fine app accepted 0 (first_values app) (first_queued app)) (section.Ready q) tt)
 
   -- from reset on
   pub from_reset : (labels during behind : List Label) → RunsOn app (first app) labels → Kept limits labels
@@ -385,6 +520,14 @@ module _ (app : App) (accepted : IsAccepted app) (form : is_of_form app ≡ true
   from_reset labels during behind runs kept unspent parts first_end spaced =
       until_end during behind (first app) (first_sight app)
       (at_reset labels during behind runs kept unspent parts) first_end spaced
+
+  -- no interrupt is taken before it ends
+  pub untaken : (labels during behind : List Label) → RunsOn app (first app) labels → Kept limits labels
+      → NoneIsSpent app labels → labels ≡ during ++ end_of_init ∷ behind → ¬ Contains during end_of_init → (irq : ℕ)
+      → count_by (is_take irq) during ≡ 0
+  untaken labels during behind runs kept unspent parts first_end irq =
+      none_taken during behind (first app) (first_sight app) (at_reset labels during behind runs kept unspent parts)
+      first_end irq
 
   -- what `init` pends is pending as it ends
   pub pended_until : (labels during behind : List Label) → RunsOn app (first app) labels → Kept limits labels

@@ -1,38 +1,43 @@
 -- What a lower job holds off at a time, along each way on which it can go on: outside of the sections that hold the
 -- priority off it releases at most so much at a time, and each such section has at most so many steps behind its first
--- and releases together.
+-- and releases together. A message whose section does not hold the priority off asks for nothing at it.
 use Rattle.std.proofs.Common.{◌≡◌, ℕ, zero, suc, ◌+◌, ◌-◌, ◌*◌, ◌≤◌, ◌<◌, ◌==◌, ◌⊎◌, inl, inr, Bool, true, false}
-use Rattle.std.proofs.Common.{nat_le, if◌then◌else◌}
-use Rattle.std.proofs.Common.{List, ◌∷◌, length, slice_get, slice_set, Option, Some, refl, ◌∙◌}
-use Rattle.std.proofs.Common.{arith}
-use Rattle.std.specs.List.{list_any}
+use Rattle.std.proofs.Common.{nat_le, if◌then◌else◌, Contains}
+use Rattle.std.proofs.Common.{List, [], ◌∷◌, map, slice_set, Option, Some, refl, sym, subst, ◌∙◌}
+use Rattle.std.proofs.Common.{arith, eq-eqb}
 use Rattle.std.proofs.lemmas.Bool.{leb-true, leb-false}
-use Rattle.rt_lemmas.proofs.Bools.{true_and_false}
-use Rattle.rt_lemmas.proofs.Membership.{any_passes}
-use Rattle.rt_ids.specs.Lists.{or_zero}
+use Rattle.rt_lemmas.proofs.Bools.{or_left, or_right}
 use Rattle.rt_ids.specs.declared.ids.Section.{Section}
 use Rattle.rt_ids.specs.declared.ids.Section.TheVariants as section
-use Rattle.rt_actions.specs.Content.{Values}
-use Rattle.rt_actions.specs.Action.{Action, Enters, Leaves}
+use Rattle.rt_actions.specs.Content.{Message, Values}
+use Rattle.rt_actions.specs.Action.{Action, Enters, Leaves, Places, FindsFull}
 use Rattle.rt_actions.specs.Doing.{Doing, over, does}
+use Rattle.rt_app.specs.declared.costs.TheConstants.{FREE_COST, READY_COST}
 use Rattle.rt_app.specs.declared.expr.Atom.{Atom}
 use Rattle.rt_app.specs.declared.expr.Atom.TheVariants as atom
-use Rattle.rt_app.specs.Tree.{Spawn, Soon, After, Cancel, Move, Calc, Now, Call, Statement, Bind, Assign, Branch}
-use Rattle.rt_app.specs.Tree.{Repeat, Locked, Emit, Pend, Spawns, Block, Empty, Then, Task, App}
+use Rattle.rt_app.specs.Tree.{Expression, Spawn, Soon, After, Cancel, Move, Value, Calc, Now, Call, Statement, Bind}
+use Rattle.rt_app.specs.Tree.{Assign, Branch, Repeat, Locked, Emit, Pend, Spawns, Block, Empty, Then, Task, App}
+use Rattle.rt_app.specs.Accepted.{IsAccepted}
 use Rattle.rt_app.specs.Variables.{variables, variables_in}
-use Rattle.rt_app.specs.Bodies.{Member}
+use Rattle.rt_app.specs.Bodies.{Member, task_priority}
 use Rattle.rt_app.specs.Ceiling.{ceiling}
 use Rattle.rt_app.specs.Cost.{lock_cost, block_cost}
 use Rattle.rt_app.specs.BodyCost.{cost_measure}
-use Rattle.rt_app.specs.Level.{is_software}
-use Rattle.rt_app.specs.Handlers.{irq_number}
-use Rattle.rt_app.specs.Sending.{act}
+use Rattle.rt_app.specs.Level.{levels}
+use Rattle.rt_app.specs.Sending.{Rest, act, act_all, has_place, place_actions, ready_actions, spawn_actions}
 use Rattle.rt_app.specs.Meaning.{Later, value_in, assign, turns_from, run, run_block}
 use Rattle.rt_app.specs.Sound.{IsSoundSpawn, IsSoundStatement, IsSoundBlock}
+use Rattle.rt_laws.proofs.Fine.{Queued}
+use Rattle.rt_respond.specs.Form.{is_of_form}
 use Rattle.rt_respond.specs.Number.{times}
-use Rattle.rt_respond.specs.Work.{statement_sends, block_sends}
+use Rattle.rt_respond.specs.Pends.{statement_pends, block_pends}
+use Rattle.rt_respond.specs.Work.{spawn_sends, statement_sends, block_sends}
+use Rattle.rt_respond.specs.declared.handler.Release.{Release}
+use Rattle.rt_respond.specs.declared.handler.Release.TheVariants as released_by
 use Rattle.rt_respond.specs.declared.number.TheConstants.{MOST_WORK}
-use Rattle.rt_respond_laws.proofs.Sending.{Posting, released, sums, both_within, multiple}
+use Rattle.rt_respond_laws.proofs.Tasks.{software_level, task_priority_is, no_mono}
+use Rattle.rt_respond_laws.proofs.Sending.{Posting, released, Agrees, PendsOnly, StatementPendsOnly, sums, both_within}
+use Rattle.rt_respond_laws.proofs.Sending.{multiple}
 
 -- where a job is: outside of the sections that hold the priority off, or inside one, which has so much to release yet,
 -- and so many sections deeper
@@ -70,7 +75,7 @@ module _ (app : App) (p : ℕ) (most : ℕ) where
   Holds posts mode over = Unit {0}
   Holds posts mode (does action made next) =
       (now : ℕ) × (after : Mode) × (released posts action ≡ Some now) × Leads mode action now after
-      × ((answer : ℕ) (vs : Values) → Holds posts after (next answer vs))
+      × ((answer : ℕ) (vs : Values) → Queued app vs → Holds posts after (next answer vs))
 
   abbrev pub LaterHolds : Posting → Mode → Later → Type 0
   LaterHolds posts mode later = (vars : List ℕ) (vs : Values) → Holds posts mode (later vars vs)
@@ -84,24 +89,44 @@ module _ (app : App) (p : ℕ) (most : ℕ) where
       let few = leads.1 in
       (holds.0, holds.1, holds.2, (leads.0, omega (arith, few, less), leads.2), holds.4)
 
-module _ (app : App) (p : ℕ) (pends : ℕ → Option ℕ) (most : ℕ) where
+module _ (app : App) (p : ℕ) (asks : Release → Option ℕ) (most : ℕ) where
   -- a section of this block holds off no more
   pub record SectionWithin (inner : Block) : Type 0 where
     pub releases : ℕ
-    pub is : block_sends pends inner ≡ Some releases
+    pub is : block_sends asks inner ≡ Some releases
     pub below : releases < MOST_WORK
     pub within : lock_cost (block_cost (cost_measure app) inner) - 1 + releases ≤ most
 
-  -- a `pend` releases no more
-  pub record PendWithin (i : ℕ) : Type 0 where
+  -- a release asks for no more
+  pub record ReleaseWithin (r : Release) : Type 0 where
     pub releases : ℕ
-    pub is : pends i ≡ Some releases
+    pub is : asks r ≡ Some releases
     pub within : releases ≤ most
+
+  -- the section in which a message becomes ready holds off no more
+  pub record ReadyWithin (t : ℕ) : Type 0 where
+    pub releases : ℕ
+    pub is : asks (released_by.Message t) ≡ Some releases
+    pub within : READY_COST - 1 + releases ≤ most
+
+  -- the sections of a spawn, where they count
+  abbrev pub SpawnWithin : Spawn → Type 0
+  SpawnWithin (Soon t args at) =
+      (p ≤ ceiling app (section.Free t) → FREE_COST - 1 ≤ most)
+      × (p ≤ ceiling app (section.Ready (task_priority app t)) → ReadyWithin t)
+  SpawnWithin (After word delay t args at) = Unit {0}
+  SpawnWithin (Cancel word t handle at) = Unit {0}
+  SpawnWithin (Move word delay t handle at) = Unit {0}
+
+  abbrev pub ValueWithin : Value → Type 0
+  ValueWithin (Calc e) = Unit {0}
+  ValueWithin (Now at) = Unit {0}
+  ValueWithin (Call s) = SpawnWithin s
 
   abbrev mutual
     -- the sections of a statement, and its releases outside of them
     pub StatementWithin : Statement → Type 0
-    StatementWithin (Bind x v) = Unit {0}
+    StatementWithin (Bind x v) = ValueWithin v
     StatementWithin (Assign x e at) = Unit {0}
     StatementWithin (Branch e first second) = BlockWithin first × BlockWithin second
     StatementWithin (Repeat x first last turn) = BlockWithin turn
@@ -109,27 +134,21 @@ module _ (app : App) (p : ℕ) (pends : ℕ → Option ℕ) (most : ℕ) where
         (nat_le p (ceiling app (section.Res r)) ≡ true → SectionWithin inner)
         × (nat_le p (ceiling app (section.Res r)) ≡ false → BlockWithin inner)
     StatementWithin (Emit e) = Unit {0}
-    StatementWithin (Pend i) = PendWithin i
-    StatementWithin (Spawns s) = Unit {0}
+    StatementWithin (Pend i) = ReleaseWithin (released_by.Request i)
+    StatementWithin (Spawns s) = SpawnWithin s
 
     -- and of a block
     pub BlockWithin : Block → Type 0
     BlockWithin Empty = Unit {0}
     BlockWithin (Then s rest) = StatementWithin s × BlockWithin rest
 
-module _ (app : App) (hardware : list_any is_software app.tasks ≡ false) (m : Member) (p : ℕ)
-    (pends : ℕ → Option ℕ) (posts : Posting) (most : ℕ)
-    (agree : (i : ℕ) → i < length app.irqs → posts (or_zero (irq_number app i)) ≡ pends i) where
-  no_software : (n : ℕ) (t : Task) → slice_get app.tasks n ≡ Some t → is_software t ≡ true → ⊥
-  no_software n t at software =
-      true_and_false (list_any is_software app.tasks) (any_passes is_software app.tasks n t at software) hardware
+-- a message of a level below the priority asks for nothing at it
+abbrev pub LowAsksNone : App → ℕ → Posting → Type 0
+LowAsksNone app p posts = (t : ℕ) → task_priority app t < p → posts.task t ≡ Some 0
 
-  no_spawn : (locked : List ℕ) (s : Spawn) → IsSoundSpawn app m locked s → ⊥
-  no_spawn locked (Soon n args at) sound = no_software n sound.0 sound.1.is_there sound.1.software
-  no_spawn locked (After word delay n args at) sound = no_software n sound.0 sound.1.is_there sound.1.software
-  no_spawn locked (Cancel word n handle at) sound = no_software n sound.0 sound.1.is_there sound.1.software
-  no_spawn locked (Move word delay n handle at) sound = no_software n sound.0 sound.1.is_there sound.1.software
-
+module _ (app : App) (accepted : IsAccepted app) (form : is_of_form app ≡ true) (m : Member) (p : ℕ)
+    (asks : Release → Option ℕ) (posts : Posting) (most : ℕ) (Allowed : ℕ → Type 0)
+    (agree : Agrees app asks posts Allowed) (low : LowAsksNone app p posts) where
   abbrev In : ℕ → ℕ → Later → Type 0
   In n depth later = LaterHolds app p most posts (Inside n depth) later
 
@@ -173,65 +192,148 @@ module _ (app : App) (hardware : list_any is_software app.tasks ≡ false) (m : 
   assign_holds mode (atom.Shared r) v later holds vars vs = holds vars _
   assign_holds mode (atom.Local l) v later holds vars vs = holds vars _
 
+  -- a message becomes ready inside a section
+  ready_in : (r : ℕ) (message : Message) (k n depth : ℕ) (rest : Rest) → Contains (levels app) r
+      → posts.task message.task ≡ Some k → ((vs : Values) → Holds app p most posts (Inside n depth) (rest vs))
+      → (vs : Values) → Holds app p most posts (Inside (k + n) depth) (act_all (ready_actions app r message) rest vs)
+  ready_in r message k n depth rest known is later vs = (
+    0,
+    Inside (k + n) (suc depth),
+    refl,
+    (k + n, omega arith, refl),
+    λ a us good. (
+      k,
+      Inside n (suc depth),
+      is,
+      (n, omega arith, refl),
+      λ b ws fine. (
+        0,
+        Inside n (suc depth),
+        agree.turns r known,
+        (n, omega arith, refl),
+        λ c xs well.
+            (0, Inside n depth, refl, (n, omega arith, refl), λ d ys sound. later ys),
+      ),
+    ),
+  )
+
+  place_in : (t n depth : ℕ) (granted refused : Rest)
+      → ((vs : Values) → Holds app p most posts (Inside n depth) (granted vs))
+      → ((vs : Values) → Holds app p most posts (Inside n depth) (refused vs))
+      → (vs : Values) → Holds app p most posts (Inside n depth) (place_actions app t granted refused vs)
+  place_in t n depth granted refused first second vs =
+      (0, Inside n (suc depth), refl, (n, omega arith, refl), λ a us good. go (has_place app t us) us)
+    where
+      go : (b : Bool) (ws : Values) → Holds app p most posts (Inside n (suc depth))
+          (if b then act_all (Places t ∷ Leaves (section.Free t) ∷ []) granted ws
+          else act_all (FindsFull t ∷ Leaves (section.Free t) ∷ []) refused ws)
+      go true ws = (
+        0,
+        Inside n (suc depth),
+        refl,
+        (n, omega arith, refl),
+        λ b xs good.
+            (0, Inside n depth, refl, (n, omega arith, refl), λ c ys fine. first ys),
+      )
+      go false ws = (
+        0,
+        Inside n (suc depth),
+        refl,
+        (n, omega arith, refl),
+        λ b xs good.
+            (0, Inside n depth, refl, (n, omega arith, refl), λ c ys fine. second ys),
+      )
+
+  spawn_in : (locked : List ℕ) (value : Expression → ℕ) (s : Spawn) (k n depth : ℕ) (rest : ℕ → Rest)
+      → IsSoundSpawn app m locked s → spawn_sends asks s ≡ Some k
+      → ((a : ℕ) (vs : Values) → Holds app p most posts (Inside n depth) (rest a vs))
+      → (vs : Values) → Holds app p most posts (Inside (k + n) depth) (spawn_actions app value s rest vs)
+  spawn_in locked value (Soon t args at) k n depth rest sound is later =
+      let task : Task = sound.0 in
+      let known : Contains (levels app) (task_priority app t) =
+      subst (Contains (levels app)) (sym (task_priority_is app accepted t task sound.1.is_there))
+      (software_level app accepted t task sound.1.is_there sound.1.software) in
+      let message : Message = record { task = t; args = map value args } in
+      place_in t (k + n) depth (act_all (ready_actions app (task_priority app t) message) (rest 1)) (rest 0)
+      (ready_in (task_priority app t) message k n depth (rest 1) known (agree.sends t ∙ is) (later 1))
+      (λ vs. more_inside app p most posts n (k + n) depth _ (later 0 vs) (omega arith))
+  spawn_in locked value (After word delay t args at) k n depth rest sound is later =
+      absurd (no_mono app accepted form sound.4.0 sound.4.1)
+  spawn_in locked value (Cancel word t handle at) k n depth rest sound is later =
+      absurd (no_mono app accepted form sound.1.timed.0 sound.1.timed.1)
+  spawn_in locked value (Move word delay t handle at) k n depth rest sound is later =
+      absurd (no_mono app accepted form sound.1.timed.0 sound.1.timed.1)
+
   mutual
     -- inside a section a statement releases at most what is counted of it
     pub statement_in : (s : Statement) (v : ℕ) (locked fixed : List ℕ) (k n depth : ℕ) (later : Later)
-        → IsSoundStatement app m v locked fixed s → statement_sends pends s ≡ Some k → k < MOST_WORK
-        → In n depth later → In (k + n) depth (run app s later)
-    statement_in (Bind x (Calc e)) v locked fixed k n depth later sound is below holds vars vs =
+        → IsSoundStatement app m v locked fixed s → StatementPendsOnly Allowed s → statement_sends asks s ≡ Some k
+        → k < MOST_WORK → In n depth later → In (k + n) depth (run app s later)
+    statement_in (Bind x (Calc e)) v locked fixed k n depth later sound only is below holds vars vs =
         more_inside app p most posts n (k + n) depth _ (holds (slice_set vars x (value_in vars vs e)) vs) (omega arith)
-    statement_in (Bind x (Now at)) v locked fixed k n depth later sound is below holds vars vs =
-        (0, Inside n depth, refl, (n, omega arith, refl), λ time ws. holds (slice_set vars x time) ws)
-    statement_in (Bind x (Call s)) v locked fixed k n depth later sound is below holds vars vs =
-        absurd (no_spawn locked s sound.1)
-    statement_in (Assign x e at) v locked fixed k n depth later sound is below holds vars vs =
+    statement_in (Bind x (Now at)) v locked fixed k n depth later sound only is below holds vars vs =
+        (0, Inside n depth, refl, (n, omega arith, refl), λ time ws good. holds (slice_set vars x time) ws)
+    statement_in (Bind x (Call s)) v locked fixed k n depth later sound only is below holds vars vs =
+        spawn_in locked (value_in vars vs) s k n depth (λ answer. later (slice_set vars x answer)) sound.1 is
+        (λ answer. holds (slice_set vars x answer)) vs
+    statement_in (Assign x e at) v locked fixed k n depth later sound only is below holds vars vs =
         more_inside app p most posts n (k + n) depth _
         (assign_holds (Inside n depth) x (value_in vars vs e) later holds vars vs) (omega arith)
-    statement_in (Branch e first second) v locked fixed k n depth later sound is below holds vars vs =
-        let both = both_within (block_sends pends first) (block_sends pends second) k is in
+    statement_in (Branch e first second) v locked fixed k n depth later sound only is below holds vars vs =
+        let both = both_within (block_sends asks first) (block_sends asks second) k is in
         let few_first = both.first_within in
         let few_second = both.second_within in
         elim (value_in vars vs e == 0) as (λ b. Holds app p most posts (Inside (k + n) depth)
         (if b then run_block app second later vars vs else run_block app first later vars vs)) [
           | true ↦ more_inside app p most posts (both.second + n) (k + n) depth _
-              (block_in second (v + variables first) locked fixed both.second n depth later sound.2 both.second_is
+              (block_in second (v + variables first) locked fixed both.second n depth later sound.2
+              (λ j there. only j (or_right (block_pends j first) (block_pends j second) there)) both.second_is
               (omega (arith, few_second, below)) holds vars vs) (omega (arith, few_second))
           | false ↦ more_inside app p most posts (both.first + n) (k + n) depth _
-              (block_in first v locked fixed both.first n depth later sound.1 both.first_is
+              (block_in first v locked fixed both.first n depth later sound.1
+              (λ j there. only j (or_left (block_pends j first) (block_pends j second) there)) both.first_is
               (omega (arith, few_first, below)) holds vars vs) (omega (arith, few_first))
         ]
-    statement_in (Repeat x first last turn) v locked fixed k n depth later sound is below holds vars vs =
-        loop_in (block_sends pends turn) k n depth (last - first) x first (run_block app turn) later
-        (λ one is few more next good. block_in turn (v + 1) locked (x ∷ fixed) one more depth next sound.4 is few good)
+    statement_in (Repeat x first last turn) v locked fixed k n depth later sound only is below holds vars vs =
+        loop_in (block_sends asks turn) k n depth (last - first) x first (run_block app turn) later
+        (λ one is few more next good. block_in turn (v + 1) locked (x ∷ fixed) one more depth next sound.4 only is few
+        good)
         is below holds vars vs
-    statement_in (Locked r inner at) v locked fixed k n depth later sound is below holds vars vs = (
+    statement_in (Locked r inner at) v locked fixed k n depth later sound only is below holds vars vs = (
       0,
       Inside (k + n) (suc depth),
       refl,
       (k + n, omega arith, refl),
-      λ answer ws.
-          block_in inner v (r ∷ locked) fixed k n (suc depth) _ sound.1 is below
-          (λ vars vs. (0, Inside n depth, refl, (n, omega arith, refl), λ answer ws. holds vars ws)) vars ws,
+      λ answer ws good.
+          block_in inner v (r ∷ locked) fixed k n (suc depth) _ sound.1 only is below
+          (λ vars vs. (0, Inside n depth, refl, (n, omega arith, refl), λ answer ws good. holds vars ws)) vars ws,
     )
-    statement_in (Emit e) v locked fixed k n depth later sound is below holds vars vs =
-        (0, Inside n depth, refl, (n, omega arith, refl), λ answer ws. holds vars ws)
-    statement_in (Pend i) v locked fixed k n depth later sound is below holds vars vs =
-        (k, Inside n depth, agree i sound ∙ is, (n, omega arith, refl), λ answer ws. holds vars ws)
-    statement_in (Spawns s) v locked fixed k n depth later sound is below holds vars vs =
-        absurd (no_spawn locked s sound)
+    statement_in (Emit e) v locked fixed k n depth later sound only is below holds vars vs =
+        (0, Inside n depth, refl, (n, omega arith, refl), λ answer ws good. holds vars ws)
+    statement_in (Pend i) v locked fixed k n depth later sound only is below holds vars vs = (
+      k,
+      Inside n depth,
+      agree.pends i sound (only i (eq-eqb i i refl)) ∙ is,
+      (n, omega arith, refl),
+      λ answer ws good. holds vars ws,
+    )
+    statement_in (Spawns s) v locked fixed k n depth later sound only is below holds vars vs =
+        spawn_in locked (value_in vars vs) s k n depth (λ answer. later vars) sound is (λ answer. holds vars) vs
 
     pub block_in : (b : Block) (v : ℕ) (locked fixed : List ℕ) (k n depth : ℕ) (later : Later)
-        → IsSoundBlock app m v locked fixed b → block_sends pends b ≡ Some k → k < MOST_WORK
+        → IsSoundBlock app m v locked fixed b → PendsOnly Allowed b → block_sends asks b ≡ Some k → k < MOST_WORK
         → In n depth later → In (k + n) depth (run_block app b later)
-    block_in Empty v locked fixed k n depth later sound is below holds vars vs =
+    block_in Empty v locked fixed k n depth later sound only is below holds vars vs =
         more_inside app p most posts n (k + n) depth _ (holds vars vs) (omega arith)
-    block_in (Then s rest) v locked fixed k n depth later sound is below holds vars vs =
-        let parts = sums (statement_sends pends s) (block_sends pends rest) k is below in
+    block_in (Then s rest) v locked fixed k n depth later sound only is below holds vars vs =
+        let parts = sums (statement_sends asks s) (block_sends asks rest) k is below in
         let all = parts.sum in
         more_inside app p most posts (parts.first + (parts.second + n)) (k + n) depth _
         (statement_in s v locked fixed parts.first (parts.second + n) depth (run_block app rest later) sound.0
-        parts.first_is (omega (arith, all, below))
-        (block_in rest (v + variables_in s) locked fixed parts.second n depth later sound.1 parts.second_is
+        (λ j there. only j (or_left (statement_pends j s) (block_pends j rest) there)) parts.first_is
+        (omega (arith, all, below))
+        (block_in rest (v + variables_in s) locked fixed parts.second n depth later sound.1
+        (λ j there. only j (or_right (statement_pends j s) (block_pends j rest) there)) parts.second_is
         (omega (arith, all, below)) holds) vars vs)
         (omega (arith, all))
 
@@ -245,10 +347,10 @@ module _ (app : App) (hardware : list_any is_software app.tasks ≡ false) (m : 
 
   -- a lock round a block that counts
   section_out : (r : ℕ) (inner : Block) (v : ℕ) (locked fixed : List ℕ) (later : Later)
-      → IsSoundBlock app m v (r ∷ locked) fixed inner → p ≤ ceiling app (section.Res r)
-      → SectionWithin app p pends most inner → Out later
+      → IsSoundBlock app m v (r ∷ locked) fixed inner → PendsOnly Allowed inner → p ≤ ceiling app (section.Res r)
+      → SectionWithin app p asks most inner → Out later
       → Out (run app (Locked r inner 0) later)
-  section_out r inner v locked fixed later sound high within holds vars vs = (
+  section_out r inner v locked fixed later sound only high within holds vars vs = (
     0,
     Inside within.releases 0,
     refl,
@@ -261,65 +363,226 @@ module _ (app : App) (hardware : list_any is_software app.tasks ≡ false) (m : 
         is = refl;
       }),
     ),
-    λ answer ws. more_inside app p most posts (within.releases + 0) within.releases 0 _
-        (block_in inner v (r ∷ locked) fixed within.releases 0 0 _ sound within.is within.below
-        (λ vars vs. (0, Outside, refl, (0, omega arith, refl), λ answer ws. holds vars ws)) vars ws) (omega arith),
+    λ answer ws good. more_inside app p most posts (within.releases + 0) within.releases 0 _
+        (block_in inner v (r ∷ locked) fixed within.releases 0 0 _ sound only within.is within.below
+        (λ vars vs. (0, Outside, refl, (0, omega arith, refl), λ answer ws good. holds vars ws)) vars ws) (omega arith),
   )
 
   -- a lock, of which the block is outside where it does not count
   lock_out : (r : ℕ) (inner : Block) (v : ℕ) (locked fixed : List ℕ) (later : Later) (b : Bool)
       → nat_le p (ceiling app (section.Res r)) ≡ b → IsSoundBlock app m v (r ∷ locked) fixed inner
-      → (nat_le p (ceiling app (section.Res r)) ≡ true → SectionWithin app p pends most inner)
-      × (nat_le p (ceiling app (section.Res r)) ≡ false → BlockWithin app p pends most inner)
-      → (BlockWithin app p pends most inner → Out (run_block app inner (λ vars. act (Leaves (section.Res r))
+      → PendsOnly Allowed inner
+      → (nat_le p (ceiling app (section.Res r)) ≡ true → SectionWithin app p asks most inner)
+      × (nat_le p (ceiling app (section.Res r)) ≡ false → BlockWithin app p asks most inner)
+      → (BlockWithin app p asks most inner → Out (run_block app inner (λ vars. act (Leaves (section.Res r))
       (later vars))))
       → Out later → Out (run app (Locked r inner 0) later)
-  lock_out r inner v locked fixed later true test sound within block holds vars vs =
-      section_out r inner v locked fixed later sound (leb-true p (ceiling app (section.Res r)) test) (within.0 test)
+  lock_out r inner v locked fixed later true test sound only within block holds vars vs =
+      section_out r inner v locked fixed later sound only (leb-true p (ceiling app (section.Res r)) test) (within.0
+      test)
       holds vars vs
-  lock_out r inner v locked fixed later false test sound within block holds vars vs = (
+  lock_out r inner v locked fixed later false test sound only within block holds vars vs = (
     0,
     Outside,
     refl,
     (omega arith, inr (leb-false p (ceiling app (section.Res r)) test, refl)),
-    λ answer ws. block (within.1 test) vars ws,
+    λ answer ws good. block (within.1 test) vars ws,
   )
+
+  -- a section entered from outside, of which nothing but its steps and this is released, and what is behind it
+  pub enters_out : (x : Section) (cost released_in : ℕ) (next : ℕ → Values → Doing Values) (vs : Values)
+      → (p ≤ ceiling app x → cost - 1 + released_in ≤ most)
+      → (p ≤ ceiling app x → (a : ℕ) (ws : Values) → Holds app p most posts (Inside released_in 0) (next a ws))
+      → (ceiling app x < p → (a : ℕ) (ws : Values) → Holds app p most posts Outside (next a ws))
+      → Holds app p most posts Outside (does (Enters x cost) vs next)
+  enters_out x cost released_in next vs counts inside outside = by (nat_le p (ceiling app x)) refl
+    where
+      by : (b : Bool) → nat_le p (ceiling app x) ≡ b → Holds app p most posts Outside (does (Enters x cost) vs next)
+      by true test =
+          let high = leb-true p (ceiling app x) test in (
+            0,
+            Inside released_in 0,
+            refl,
+            (omega arith, inl (record { rest = released_in; holds_off = high; within = counts high; is = refl })),
+            λ a ws good. inside high a ws,
+          )
+      by false test =
+          let under = leb-false p (ceiling app x) test in
+          (0, Outside, refl, (omega arith, inr (under, refl)), λ a ws good. outside under a ws)
+
+  ready_out : (t : ℕ) (message : Message) (rest : Rest) → message.task ≡ t → Contains (levels app) (task_priority app t)
+      → (p ≤ ceiling app (section.Ready (task_priority app t)) → ReadyWithin app p asks most t)
+      → ((vs : Values) → Holds app p most posts Outside (rest vs))
+      → (vs : Values) → Holds app p most posts Outside
+      (act_all (ready_actions app (task_priority app t) message) rest vs)
+  ready_out t message rest same known counts later vs = by (nat_le p (ceiling app (section.Ready (task_priority app
+      t)))) refl
+    where
+      by : (b : Bool) → nat_le p (ceiling app (section.Ready (task_priority app t))) ≡ b
+          → Holds app p most posts Outside (act_all (ready_actions app (task_priority app t) message) rest vs)
+      by true test =
+          let high = leb-true p (ceiling app (section.Ready (task_priority app t))) test in
+          let within = counts high in
+          let few = within.within in (
+            0,
+            Inside within.releases 0,
+            refl,
+            (
+              omega arith,
+              inl (record { rest = within.releases; holds_off = high; within = few; is = refl }),
+            ),
+            λ a us good. (
+              within.releases,
+              Inside 0 0,
+              subst (λ k. posts.task k ≡ Some within.releases) (sym same) (agree.sends t ∙ within.is),
+              (0, omega arith, refl),
+              λ b ws fine. (
+                0,
+                Inside 0 0,
+                agree.turns (task_priority app t) known,
+                (0, omega arith, refl),
+                λ c xs well.
+                    (0, Outside, refl, (0, omega arith, refl), λ d ys sound. later ys),
+              ),
+            ),
+          )
+      by false test =
+          let under = leb-false p (ceiling app (section.Ready (task_priority app t))) test in
+          let least : task_priority app t ≤ ceiling app (section.Ready (task_priority app t)) = omega arith in (
+            0,
+            Outside,
+            refl,
+            (omega arith, inr (under, refl)),
+            λ a us good. (
+              0,
+              Outside,
+              subst (λ k. posts.task k ≡ Some 0) (sym same) (low t (omega (arith, under, least))),
+              (omega arith, refl),
+              λ b ws fine. (
+                0,
+                Outside,
+                agree.turns (task_priority app t) known,
+                (omega arith, refl),
+                λ c xs well.
+                    (0, Outside, refl, (omega arith, refl), λ d ys sound. later ys),
+              ),
+            ),
+          )
+
+  place_out : (t : ℕ) (granted refused : Rest) → (p ≤ ceiling app (section.Free t) → FREE_COST - 1 ≤ most)
+      → ((vs : Values) → Holds app p most posts Outside (granted vs))
+      → ((vs : Values) → Holds app p most posts Outside (refused vs))
+      → (vs : Values) → Holds app p most posts Outside (place_actions app t granted refused vs)
+  place_out t granted refused counts first second vs =
+      enters_out (section.Free t) FREE_COST 0 _ vs (λ high. let few = counts high in omega (arith, few))
+      (λ high a ws. inside (has_place app t ws) ws) (λ under a ws. outside (has_place app t ws) ws)
+    where
+      inside : (b : Bool) (ws : Values) → Holds app p most posts (Inside 0 0)
+          (if b then act_all (Places t ∷ Leaves (section.Free t) ∷ []) granted ws
+          else act_all (FindsFull t ∷ Leaves (section.Free t) ∷ []) refused ws)
+      inside true ws = (
+        0,
+        Inside 0 0,
+        refl,
+        (0, omega arith, refl),
+        λ b xs good.
+            (0, Outside, refl, (0, omega arith, refl), λ c ys fine. first ys),
+      )
+      inside false ws = (
+        0,
+        Inside 0 0,
+        refl,
+        (0, omega arith, refl),
+        λ b xs good.
+            (0, Outside, refl, (0, omega arith, refl), λ c ys fine. second ys),
+      )
+
+      outside : (b : Bool) (ws : Values) → Holds app p most posts Outside
+          (if b then act_all (Places t ∷ Leaves (section.Free t) ∷ []) granted ws
+          else act_all (FindsFull t ∷ Leaves (section.Free t) ∷ []) refused ws)
+      outside true ws = (
+        0,
+        Outside,
+        refl,
+        (omega arith, refl),
+        λ b xs good.
+            (0, Outside, refl, (omega arith, refl), λ c ys fine. first ys),
+      )
+      outside false ws = (
+        0,
+        Outside,
+        refl,
+        (omega arith, refl),
+        λ b xs good.
+            (0, Outside, refl, (omega arith, refl), λ c ys fine. second ys),
+      )
+
+  spawn_out : (locked : List ℕ) (value : Expression → ℕ) (s : Spawn) (rest : ℕ → Rest)
+      → IsSoundSpawn app m locked s → SpawnWithin app p asks most s
+      → ((a : ℕ) (vs : Values) → Holds app p most posts Outside (rest a vs))
+      → (vs : Values) → Holds app p most posts Outside (spawn_actions app value s rest vs)
+  spawn_out locked value (Soon t args at) rest sound within later =
+      let task : Task = sound.0 in
+      let known : Contains (levels app) (task_priority app t) =
+      subst (Contains (levels app)) (sym (task_priority_is app accepted t task sound.1.is_there))
+      (software_level app accepted t task sound.1.is_there sound.1.software) in
+      let message : Message = record { task = t; args = map value args } in
+      place_out t (act_all (ready_actions app (task_priority app t) message) (rest 1)) (rest 0) within.0
+      (ready_out t message (rest 1) refl known within.1 (later 1)) (later 0)
+  spawn_out locked value (After word delay t args at) rest sound within later =
+      absurd (no_mono app accepted form sound.4.0 sound.4.1)
+  spawn_out locked value (Cancel word t handle at) rest sound within later =
+      absurd (no_mono app accepted form sound.1.timed.0 sound.1.timed.1)
+  spawn_out locked value (Move word delay t handle at) rest sound within later =
+      absurd (no_mono app accepted form sound.1.timed.0 sound.1.timed.1)
 
   mutual
     -- outside, a statement holds off no more than what is counted
     pub statement_out : (s : Statement) (v : ℕ) (locked fixed : List ℕ) (later : Later)
-        → IsSoundStatement app m v locked fixed s → StatementWithin app p pends most s → Out later
-        → Out (run app s later)
-    statement_out (Bind x (Calc e)) v locked fixed later sound within holds vars vs =
+        → IsSoundStatement app m v locked fixed s → StatementPendsOnly Allowed s → StatementWithin app p asks most s
+        → Out later → Out (run app s later)
+    statement_out (Bind x (Calc e)) v locked fixed later sound only within holds vars vs =
         holds (slice_set vars x (value_in vars vs e)) vs
-    statement_out (Bind x (Now at)) v locked fixed later sound within holds vars vs =
-        (0, Outside, refl, (omega arith, refl), λ time ws. holds (slice_set vars x time) ws)
-    statement_out (Bind x (Call s)) v locked fixed later sound within holds vars vs = absurd (no_spawn locked s sound.1)
-    statement_out (Assign x e at) v locked fixed later sound within holds vars vs =
+    statement_out (Bind x (Now at)) v locked fixed later sound only within holds vars vs =
+        (0, Outside, refl, (omega arith, refl), λ time ws good. holds (slice_set vars x time) ws)
+    statement_out (Bind x (Call s)) v locked fixed later sound only within holds vars vs =
+        spawn_out locked (value_in vars vs) s (λ answer. later (slice_set vars x answer)) sound.1 within
+        (λ answer. holds (slice_set vars x answer)) vs
+    statement_out (Assign x e at) v locked fixed later sound only within holds vars vs =
         assign_holds Outside x (value_in vars vs e) later holds vars vs
-    statement_out (Branch e first second) v locked fixed later sound within holds vars vs =
+    statement_out (Branch e first second) v locked fixed later sound only within holds vars vs =
         elim (value_in vars vs e == 0) as (λ b. Holds app p most posts Outside
         (if b then run_block app second later vars vs else run_block app first later vars vs)) [
-          | true ↦ block_out second (v + variables first) locked fixed later sound.2 within.1 holds vars vs
-          | false ↦ block_out first v locked fixed later sound.1 within.0 holds vars vs
+          | true ↦ block_out second (v + variables first) locked fixed later sound.2
+              (λ j there. only j (or_right (block_pends j first) (block_pends j second) there)) within.1 holds vars vs
+          | false ↦ block_out first v locked fixed later sound.1
+              (λ j there. only j (or_left (block_pends j first) (block_pends j second) there)) within.0 holds vars vs
         ]
-    statement_out (Repeat x first last turn) v locked fixed later sound within holds vars vs =
+    statement_out (Repeat x first last turn) v locked fixed later sound only within holds vars vs =
         turns_out (last - first) x first (run_block app turn) later
-        (λ next good. block_out turn (v + 1) locked (x ∷ fixed) next sound.4 within good) holds vars vs
-    statement_out (Locked r inner at) v locked fixed later sound within holds vars vs =
-        lock_out r inner v locked fixed later (nat_le p (ceiling app (section.Res r))) refl sound.1 within
-        (λ good. block_out inner v (r ∷ locked) fixed _ sound.1 good
-        (λ vars vs. (0, Outside, refl, (omega arith, refl), λ answer ws. holds vars ws))) holds vars vs
-    statement_out (Emit e) v locked fixed later sound within holds vars vs =
-        (0, Outside, refl, (omega arith, refl), λ answer ws. holds vars ws)
-    statement_out (Pend i) v locked fixed later sound within holds vars vs =
-        (within.releases, Outside, agree i sound ∙ within.is, (within.within, refl), λ answer ws. holds vars ws)
-    statement_out (Spawns s) v locked fixed later sound within holds vars vs = absurd (no_spawn locked s sound)
+        (λ next good. block_out turn (v + 1) locked (x ∷ fixed) next sound.4 only within good) holds vars vs
+    statement_out (Locked r inner at) v locked fixed later sound only within holds vars vs =
+        lock_out r inner v locked fixed later (nat_le p (ceiling app (section.Res r))) refl sound.1 only within
+        (λ good. block_out inner v (r ∷ locked) fixed _ sound.1 only good
+        (λ vars vs. (0, Outside, refl, (omega arith, refl), λ answer ws good. holds vars ws))) holds vars vs
+    statement_out (Emit e) v locked fixed later sound only within holds vars vs =
+        (0, Outside, refl, (omega arith, refl), λ answer ws good. holds vars ws)
+    statement_out (Pend i) v locked fixed later sound only within holds vars vs = (
+      within.releases,
+      Outside,
+      agree.pends i sound (only i (eq-eqb i i refl)) ∙ within.is,
+      (within.within, refl),
+      λ answer ws good. holds vars ws,
+    )
+    statement_out (Spawns s) v locked fixed later sound only within holds vars vs =
+        spawn_out locked (value_in vars vs) s (λ answer. later vars) sound within (λ answer. holds vars) vs
 
     pub block_out : (b : Block) (v : ℕ) (locked fixed : List ℕ) (later : Later)
-        → IsSoundBlock app m v locked fixed b → BlockWithin app p pends most b → Out later
+        → IsSoundBlock app m v locked fixed b → PendsOnly Allowed b → BlockWithin app p asks most b → Out later
         → Out (run_block app b later)
-    block_out Empty v locked fixed later sound within holds vars vs = holds vars vs
-    block_out (Then s rest) v locked fixed later sound within holds vars vs =
-        statement_out s v locked fixed (run_block app rest later) sound.0 within.0
-        (block_out rest (v + variables_in s) locked fixed later sound.1 within.1 holds) vars vs
+    block_out Empty v locked fixed later sound only within holds vars vs = holds vars vs
+    block_out (Then s rest) v locked fixed later sound only within holds vars vs =
+        statement_out s v locked fixed (run_block app rest later) sound.0
+        (λ j there. only j (or_left (statement_pends j s) (block_pends j rest) there)) within.0
+        (block_out rest (v + variables_in s) locked fixed later sound.1
+        (λ j there. only j (or_right (statement_pends j s) (block_pends j rest) there)) within.1 holds) vars vs

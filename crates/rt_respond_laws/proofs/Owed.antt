@@ -160,100 +160,104 @@ module _ (app : App) (i : Handler) where
           record { handler = h; there = (0, refl); set = set; some = omega (arith, is) }
       by next false clear n is more = deeper (next (omega (arith, more)))
 
-  -- what so many requests ask for
-  abbrev pub raised : Counts → List Limit → ℕ
-  raised counts [] = 0
-  raised counts (limit ∷ ls) = counts limit.irq * asks_in limit.irq (handlers app) + raised counts ls
+  -- among these handlers
+  module _ (wires : List Handler) where
+    -- what so many requests ask for
+    abbrev pub raised : Counts → List Limit → ℕ
+    raised counts [] = 0
+    raised counts (limit ∷ ls) = counts limit.irq * asks_in limit.irq wires + raised counts ls
 
-  pub raised_none : (ls : List Limit) → raised (λ irq. 0) ls ≡ 0
-  raised_none [] = refl
-  raised_none (limit ∷ ls) = let rest = raised_none ls in omega (arith, rest)
+    pub raised_none : (ls : List Limit) → raised (λ irq. 0) ls ≡ 0
+    raised_none [] = refl
+    raised_none (limit ∷ ls) = let rest = raised_none ls in omega (arith, rest)
 
-  counted : (irq n : ℕ) (counts : Counts) → counts n ≤ one_more irq counts n
-  counted irq n counts = by (n == irq)
-    where
-      by : (b : Bool) → counts n ≤ (if b then suc (counts n) else counts n)
-      by true = omega arith
-      by false = omega arith
-
-  raised_more : (irq : ℕ) (counts : Counts) (ls : List Limit) → raised counts ls ≤ raised (one_more irq counts) ls
-  raised_more irq counts [] = omega arith
-  raised_more irq counts (limit ∷ ls) =
-      let rest = raised_more irq counts ls in
-      let here = mul-le-mul_right (asks_in limit.irq (handlers app)) (counted irq limit.irq counts) in
-      omega (arith, rest, here)
-
-  -- one request more
-  pub raised_one : (irq : ℕ) (counts : Counts) (ls : List Limit) (row : Limit)
-      → find (λ l. l.irq == irq) ls ≡ Some row
-      → raised counts ls + asks_in irq (handlers app) ≤ raised (one_more irq counts) ls
-  raised_one irq counts [] row is = absurd (none-some row is)
-  raised_one irq counts (limit ∷ ls) row is =
-      by (λ found. raised_one irq counts ls row found) (limit.irq == irq) refl is
-    where
-      by : (find (λ l. l.irq == irq) ls ≡ Some row
-          → raised counts ls + asks_in irq (handlers app) ≤ raised (one_more irq counts) ls)
-          → (b : Bool) → (limit.irq == irq) ≡ b → (if b then Some limit else find (λ l. l.irq == irq) ls) ≡ Some row
-          → raised counts (limit ∷ ls) + asks_in irq (handlers app) ≤ raised (one_more irq counts) (limit ∷ ls)
-      by next true test found =
-          let rest = raised_more irq counts ls in
-          let same : limit.irq ≡ irq = eqb-true limit.irq irq test in
-          let more : one_more irq counts limit.irq ≡ suc (counts limit.irq) =
-          ap (λ b. if b then suc (counts limit.irq) else counts limit.irq) test in
-          let all = ap (λ n. n * asks_in limit.irq (handlers app)) more in
-          let own = ap (λ n. asks_in n (handlers app)) same in
-          omega (arith, rest, all, own)
-      by next false test found =
-          let rest = next found in
-          let here = mul-le-mul_right (asks_in limit.irq (handlers app)) (counted irq limit.irq counts) in
-          omega (arith, rest, here)
-
-  module _ (behind_asks : (h : Handler) → IsIn (handlers app) h → is_at i h ≡ false → work app i h ≡ Some 0)
-      (found : (n : ℕ) (h : Handler) → find (λ h. h.number == n) (handlers app) ≡ Some h → IsIn (handlers app) h)
-      (limits : List Limit) (steps : ℕ) where
-    -- so many requests of a handler ask for no more than that
-    asks_within : (irq count n x : ℕ) (o : Option Handler) → find (λ h. h.number == irq) (handlers app) ≡ o
-        → 1 ≤ n → count ≤ n → requests_ask app limits i n o ≡ Some x → x < MOST_WORK
-        → (count * or_zero (handler_asks (work app i) o) ≤ x) × IsSome (handler_asks (work app i) o)
-    asks_within irq count n x None there some few is below = (omega arith, refl)
-    asks_within irq count n x (Some h) there some few is below = by (is_at i h) refl is
+    counted : (irq n : ℕ) (counts : Counts) → counts n ≤ one_more irq counts n
+    counted irq n counts = by (n == irq)
       where
-        by : (b : Bool) → is_at i h ≡ b → (if b then times n (work app i h) else Some 0) ≡ Some x
-            → (count * or_zero (work app i h) ≤ x) × IsSome (work app i h)
-        by true at all =
-            let many = multiple n (work app i h) x some all below in
-            let one = ap or_zero many.one_is in
-            let most = mul-le-mul_right many.one few in
-            let sum = many.all in
-            let own = ap (λ m. count * m) one in (
-              omega (arith, own, most, sum),
-              subst IsSome (sym many.one_is) refl,
-            )
-        by false behind all =
-            let none = behind_asks h (found irq h there) behind in
-            let zero_is : count * or_zero (work app i h) ≡ count * 0 = ap (λ o. count * or_zero o) none in (
-              omega (arith, zero_is),
-              subst IsSome (sym none) refl,
-            )
+        by : (b : Bool) → counts n ≤ (if b then suc (counts n) else counts n)
+        by true = omega arith
+        by false = omega arith
 
-    -- no more requests than may begin ask for no more than is counted; and each has a number
-    pub raised_within : (counts : Counts) (ls : List Limit) (all : ℕ)
-        → AllByRecursion (λ l. (1 ≤ most_requests steps l.every) × (counts l.irq ≤ most_requests steps l.every)) ls
-        → total_of (map (limit_demand app limits i steps) ls) ≡ Some all → all < MOST_WORK
-        → (raised counts ls ≤ all) × AllByRecursion (λ l. IsSome (handler_asks (work app i)
-        (find (λ h. h.number == l.irq) (handlers app)))) ls
-    raised_within counts [] all few is below = (omega arith, tt)
-    raised_within counts (limit ∷ ls) all few is below =
-        let parts = sums (limit_demand app limits i steps limit) (total_of (map (limit_demand app limits i steps) ls))
-        all is below in
-        let sum = parts.sum in
-        let rest = raised_within counts ls parts.second few.1 parts.second_is (omega (arith, sum, below)) in
-        let here = asks_within limit.irq (counts limit.irq) (most_requests steps limit.every) parts.first
-        (find (λ h. h.number == limit.irq) (handlers app)) refl few.0.0 few.0.1 parts.first_is
-        (omega (arith, sum, below)) in
-        let own = ap (λ m. counts limit.irq * m) (asks_is limit.irq (handlers app)) in
-        let first = here.0 in
-        let others = rest.0 in (
-          omega (arith, own, first, others, sum),
-          (here.1, rest.1),
-        )
+    raised_more : (irq : ℕ) (counts : Counts) (ls : List Limit) → raised counts ls ≤ raised (one_more irq counts) ls
+    raised_more irq counts [] = omega arith
+    raised_more irq counts (limit ∷ ls) =
+        let rest = raised_more irq counts ls in
+        let here = mul-le-mul_right (asks_in limit.irq wires) (counted irq limit.irq counts) in
+        omega (arith, rest, here)
+
+    -- one request more
+    pub raised_one : (irq : ℕ) (counts : Counts) (ls : List Limit) (row : Limit)
+        → find (λ l. l.irq == irq) ls ≡ Some row
+        → raised counts ls + asks_in irq wires ≤ raised (one_more irq counts) ls
+    raised_one irq counts [] row is = absurd (none-some row is)
+    raised_one irq counts (limit ∷ ls) row is =
+        by (λ found. raised_one irq counts ls row found) (limit.irq == irq) refl is
+      where
+        by : (find (λ l. l.irq == irq) ls ≡ Some row
+            → raised counts ls + asks_in irq wires ≤ raised (one_more irq counts) ls)
+            → (b : Bool) → (limit.irq == irq) ≡ b → (if b then Some limit else find (λ l. l.irq == irq) ls) ≡ Some row
+            → raised counts (limit ∷ ls) + asks_in irq wires ≤ raised (one_more irq counts) (limit ∷ ls)
+        by next true test found =
+            let rest = raised_more irq counts ls in
+            let same : limit.irq ≡ irq = eqb-true limit.irq irq test in
+            let more : one_more irq counts limit.irq ≡ suc (counts limit.irq) =
+            ap (λ b. if b then suc (counts limit.irq) else counts limit.irq) test in
+            let all = ap (λ n. n * asks_in limit.irq wires) more in
+            let own = ap (λ n. asks_in n wires) same in
+            omega (arith, rest, all, own)
+        by next false test found =
+            let rest = next found in
+            let here = mul-le-mul_right (asks_in limit.irq wires) (counted irq limit.irq counts) in
+            omega (arith, rest, here)
+
+    module _ (behind_asks : (h : Handler) → IsIn wires h → is_at i h ≡ false → work app i h ≡ Some 0)
+        (found : (n : ℕ) (h : Handler) → find (λ h. h.number == n) wires ≡ Some h → IsIn wires h)
+        (limits : List Limit) (steps : ℕ) where
+      -- so many requests of a handler ask for no more than that
+      asks_within : (irq count n x : ℕ) (o : Option Handler) → find (λ h. h.number == irq) wires ≡ o
+          → 1 ≤ n → count ≤ n → requests_ask app limits i n o ≡ Some x → x < MOST_WORK
+          → (count * or_zero (handler_asks (work app i) o) ≤ x) × IsSome (handler_asks (work app i) o)
+      asks_within irq count n x None there some few is below = (omega arith, refl)
+      asks_within irq count n x (Some h) there some few is below = by (is_at i h) refl is
+        where
+          by : (b : Bool) → is_at i h ≡ b → (if b then times n (work app i h) else Some 0) ≡ Some x
+              → (count * or_zero (work app i h) ≤ x) × IsSome (work app i h)
+          by true at all =
+              let many = multiple n (work app i h) x some all below in
+              let one = ap or_zero many.one_is in
+              let most = mul-le-mul_right many.one few in
+              let sum = many.all in
+              let own = ap (λ m. count * m) one in (
+                omega (arith, own, most, sum),
+                subst IsSome (sym many.one_is) refl,
+              )
+          by false behind all =
+              let none = behind_asks h (found irq h there) behind in
+              let zero_is : count * or_zero (work app i h) ≡ count * 0 = ap (λ o. count * or_zero o) none in (
+                omega (arith, zero_is),
+                subst IsSome (sym none) refl,
+              )
+
+      -- no more requests than may begin ask for no more than is counted; and each has a number
+      pub raised_within : (counts : Counts) (ls : List Limit) (all : ℕ)
+          → AllByRecursion (λ l. (1 ≤ most_requests steps l.every) × (counts l.irq ≤ most_requests steps l.every)
+          × (find (λ h. h.number == l.irq) (handlers app) ≡ find (λ h. h.number == l.irq) wires)) ls
+          → total_of (map (limit_demand app limits i steps) ls) ≡ Some all → all < MOST_WORK
+          → (raised counts ls ≤ all) × AllByRecursion (λ l. IsSome (handler_asks (work app i)
+          (find (λ h. h.number == l.irq) wires))) ls
+      raised_within counts [] all few is below = (omega arith, tt)
+      raised_within counts (limit ∷ ls) all few is below =
+          let parts = sums (limit_demand app limits i steps limit) (total_of (map (limit_demand app limits i steps) ls))
+          all is below in
+          let sum = parts.sum in
+          let rest = raised_within counts ls parts.second few.1 parts.second_is (omega (arith, sum, below)) in
+          let here = asks_within limit.irq (counts limit.irq) (most_requests steps limit.every) parts.first
+          (find (λ h. h.number == limit.irq) wires) refl few.0.0 few.0.1
+          (sym (ap (requests_ask app limits i (most_requests steps limit.every)) few.0.2) ∙ parts.first_is)
+          (omega (arith, sum, below)) in
+          let own = ap (λ m. counts limit.irq * m) (asks_is limit.irq wires) in
+          let first = here.0 in
+          let others = rest.0 in (
+            omega (arith, own, first, others, sum),
+            (here.1, rest.1),
+          )

@@ -43,13 +43,14 @@ use Rattle.rt_rta.proofs.Spacing.{none_set}
 use Rattle.rt_respond_laws.proofs.Early.{pended_until}
 use Rattle.rt_respond_laws.proofs.Coming.{runs_come_to_nothing}
 use Rattle.rt_respond_laws.proofs.Serving.{first_end_in, reach, small, itself, served_at, set_behind}
+use Rattle.rt_respond_laws.proofs.TurnLaw.{runs_front}
+use Rattle.rt_respond_laws.proofs.Tasks.{not_bound}
+use Rattle.rt_respond_laws.proofs.Handled.{handler_of_task, binds_own}
+use Rattle.rt_app.specs.Level.{levels}
+use Rattle.rt_app.specs.Sending.{dispatcher_number}
 use Rattle.rt_respond_laws.proofs.Unpended.{Unposted, calm_first, stays_unposted, stays_clear}
 
 -- the front of a run keeps the limits as well
-runs_front : (app : App) (front behind : List Label) (s : State) → RunsOn app s (front ++ behind) → RunsOn app s front
-runs_front app [] behind s runs = tt
-runs_front app (label ∷ front) behind s runs = (runs.0, runs_front app front behind (after app s label) runs.1)
-
 kept_front : (limits : List Limit) (front behind : List Label) → Kept limits (front ++ behind) → Kept limits front
 kept_front limits front behind kept = record {
   late = λ before rest irq is.
@@ -107,7 +108,7 @@ module _ (app : App) (accepted : IsAccepted app) (form : is_of_form app ≡ true
     (fine : AreLimits app limits) (labels : List Label) (runs : RunsOn app (first app) labels)
     (kept : Kept limits.every labels) (unspent : NoneIsSpent app labels) where
   -- behind a label of a run at which `init` has ended
-  comes_behind : (front behind : List Label) (label : Label) (h : Handler) (steps : ℕ)
+  pub comes_behind : (front behind : List Label) (label : Label) (h : Handler) (steps : ℕ)
       → labels ≡ front ++ label ∷ behind → Contains front end_of_init → (irq : ℕ) → Serves app irq h
       → IsResponse app limits.every h (response.Steps steps) → steps ≤ steps_of behind
       → ComesToNothing app h (front ++ label ∷ []) steps behind
@@ -159,6 +160,7 @@ module _ (app : App) (accepted : IsAccepted app) (form : is_of_form app ≡ true
 
 -- where the report says neither `never` nor `merge`
 pub record IsApart (app : App) (limits : Limits) (h : Handler) (answer : Response) : Type 0 where
+  pub wires_it : h.is_dispatcher ≡ false
   pub unpended : is_pended app h.irq ≡ false
   pub every : ℕ
   pub every_is : every_of limits h.number ≡ Some every
@@ -168,16 +170,18 @@ pub record IsApart (app : App) (limits : Limits) (h : Handler) (answer : Respons
 
 apart_of : (app : App) (limits : Limits) (h : Handler) (answer : Response)
     → requests_of app limits h answer ≡ requests.Apart → IsApart app limits h answer
-apart_of app limits h answer is = by_pended (is_pended app h.irq) refl is
+apart_of app limits h answer is = by_kind h.is_dispatcher refl is
   where
-    by_answer : (unpended : is_pended app h.irq ≡ false) (every : ℕ) → every_of limits h.number ≡ Some every
+    by_answer : (wires_it : h.is_dispatcher ≡ false) (unpended : is_pended app h.irq ≡ false) (every : ℕ) → every_of
+        limits h.number ≡ Some every
         → (r : Response) → answer ≡ r
         → (if is_within every r then requests.Apart else requests.Merge) ≡ requests.Apart → IsApart app limits h answer
-    by_answer unpended every row (response.Steps n) same apart = by (nat_le n every) refl apart
+    by_answer wires_it unpended every row (response.Steps n) same apart = by (nat_le n every) refl apart
       where
         by : (b : Bool) → nat_le n every ≡ b
             → (if b then requests.Apart else requests.Merge) ≡ requests.Apart → IsApart app limits h answer
         by true test holds = record {
+          wires_it = wires_it;
           unpended = unpended;
           every = every;
           every_is = row;
@@ -189,31 +193,41 @@ apart_of app limits h answer is = by_pended (is_pended app h.irq) refl is
           where
             merge_not : requests.Merge ≡ requests.Apart → ⊥
             merge_not e = cc
-    by_answer unpended every row response.Cycle same apart = absurd (merge_not apart)
+    by_answer wires_it unpended every row response.Cycle same apart = absurd (merge_not apart)
       where
         merge_not : requests.Merge ≡ requests.Apart → ⊥
         merge_not e = cc
-    by_answer unpended every row response.Over same apart = absurd (merge_not apart)
+    by_answer wires_it unpended every row response.Over same apart = absurd (merge_not apart)
       where
         merge_not : requests.Merge ≡ requests.Apart → ⊥
         merge_not e = cc
 
-    by_every : (unpended : is_pended app h.irq ≡ false) (o : Option ℕ) → every_of limits h.number ≡ o
+    by_every : (wires_it : h.is_dispatcher ≡ false) (unpended : is_pended app h.irq ≡ false) (o : Option ℕ) → every_of
+        limits h.number ≡ o
         → outer_requests o answer ≡ requests.Apart → IsApart app limits h answer
-    by_every unpended None row apart = absurd (never_not apart)
+    by_every wires_it unpended None row apart = absurd (never_not apart)
       where
         never_not : requests.Never ≡ requests.Apart → ⊥
         never_not e = cc
-    by_every unpended (Some every) row apart = by_answer unpended every row answer refl apart
+    by_every wires_it unpended (Some every) row apart = by_answer wires_it unpended every row answer refl apart
 
-    by_pended : (b : Bool) → is_pended app h.irq ≡ b
+    by_pended : (wires_it : h.is_dispatcher ≡ false) (b : Bool) → is_pended app h.irq ≡ b
         → (if b then requests.Merge else outer_requests (every_of limits h.number) answer) ≡ requests.Apart
         → IsApart app limits h answer
-    by_pended true pended apart = absurd (merge_not apart)
+    by_pended wires_it true pended apart = absurd (merge_not apart)
       where
         merge_not : requests.Merge ≡ requests.Apart → ⊥
         merge_not e = cc
-    by_pended false unpended apart = by_every unpended (every_of limits h.number) refl apart
+    by_pended wires_it false unpended apart = by_every wires_it unpended (every_of limits h.number) refl apart
+
+    by_kind : (b : Bool) → h.is_dispatcher ≡ b
+        → (if b then requests.Messages else if is_pended app h.irq then requests.Merge
+        else outer_requests (every_of limits h.number) answer) ≡ requests.Apart → IsApart app limits h answer
+    by_kind true dispatches apart = absurd (messages_not apart)
+      where
+        messages_not : requests.Messages ≡ requests.Apart → ⊥
+        messages_not e = cc
+    by_kind false wires_it apart = by_pended wires_it (is_pended app h.irq) refl apart
 
 -- what an observer sees of a run
 seen_all : (app : App) → IsAccepted app → (front behind : List Label) (s : State) (v : Observer) → StateWell app s v
@@ -231,12 +245,19 @@ module _ (app : App) (accepted : IsAccepted app) (form : is_of_form app ≡ true
   number : irq_number app h.irq ≡ Some irq
   number = number_of app accepted form h serves.declared ∙ ap Some serves.number
 
+  -- no dispatcher has its number
+  other : (r : ℕ) → Contains (levels app) r → ¬ (dispatcher_number app r ≡ irq)
+  other r known same =
+      let of = handler_of_task app accepted h serves.declared in
+      not_bound app accepted form r known h.task of.row h.irq of.at (binds_own app accepted h of apart.wires_it)
+      (number ∙ ap Some (sym same))
+
   front_runs : RunsOn app (first app) front
   front_runs = runs_front app front (Arrived irq ∷ behind) (first app) (subst (RunsOn app (first app)) is runs)
 
-  start_calm : Unposted app accepted form h irq h.irq number apart.unpended (first app)
+  start_calm : Unposted app accepted form h irq h.irq number apart.unpended other (first app)
   start_calm = record {
-    calm = calm_first app accepted form h irq h.irq number apart.unpended;
+    calm = calm_first app accepted form h irq h.irq number apart.unpended other;
     alarm = refl;
     owing = refl;
   }
@@ -270,9 +291,9 @@ module _ (app : App) (accepted : IsAccepted app) (form : is_of_form app ≡ true
       in
       ap (λ xs. slice_index_or (after_all app (first app) xs).pending irq false) all
       ∙ ap (λ s. slice_index_or s.pending irq false) (after_append app until_then comes.behind (first app))
-      ∙ stays_clear app accepted form h irq h.irq number apart.unpended comes.behind
+      ∙ stays_clear app accepted form h irq h.irq number apart.unpended other comes.behind
       (after_all app (first app) until_then) at.seen at.well at.runs
-      (stays_unposted app accepted form h irq h.irq number apart.unpended until_then (first app) (first_sight app)
+      (stays_unposted app accepted form h irq h.irq number apart.unpended other until_then (first app) (first_sight app)
       (first_well app accepted) (runs_front app until_then comes.behind (first app) run_then) start_calm)
       (all_behind (λ label. ¬ (label ≡ Arrived irq)) comes.until comes.behind
       (subst (HasNone irq) comes.parts none))
@@ -285,7 +306,7 @@ module _ (app : App) (accepted : IsAccepted app) (form : is_of_form app ≡ true
       (subst (RunsOn app (first app)) is runs))
       ∙ elim (last_request irq front) [
         | inr there ↦ behind_request there.0 there.1 there.2 there.3
-        | inl none ↦ stays_clear app accepted form h irq h.irq number apart.unpended front (first app)
+        | inl none ↦ stays_clear app accepted form h irq h.irq number apart.unpended other front (first app)
             (first_sight app) (first_well app accepted) front_runs start_calm none (none_set IRQ_NUMBERS irq)
       ]
 

@@ -1,59 +1,70 @@
--- What code releases: a Doing releases at most so much, along each way on which it can go on.
+-- What code releases: a Doing releases at most so much, along each way on which it can go on. What it does next goes by
+-- the values, of which each ready queue holds messages of its own level.
 use Rattle.std.proofs.Common.{◌≡◌, ℕ, zero, suc, ◌+◌, ◌-◌, ◌*◌, ◌≤◌, ◌<◌, ◌==◌, Bool, true, false, if◌then◌else◌}
-use Rattle.std.proofs.Common.{List, ◌∷◌, length, slice_get, slice_set, min, Option, Some, None, refl}
-use Rattle.std.proofs.Common.{◌∙◌, arith}
-use Rattle.std.specs.List.{list_any}
+use Rattle.std.proofs.Common.{Contains, List, [], ◌∷◌, length, map, slice_set, min, Option, Some, None, refl}
+use Rattle.std.proofs.Common.{sym, subst, ◌∙◌, arith, eq-eqb}
 use Rattle.std.proofs.lemmas.Bool.{eqb-true}
 use Rattle.std.proofs.lemmas.Option.{same_Some, none-some}
-use Rattle.rt_lemmas.proofs.Bools.{true_and_false}
-use Rattle.rt_lemmas.proofs.Membership.{any_passes}
+use Rattle.rt_lemmas.proofs.Bools.{or_left, or_right}
 use Rattle.rt_ids.specs.Lists.{or_zero}
-use Rattle.rt_actions.specs.Content.{Values}
-use Rattle.rt_actions.specs.Action.{Action, Posts, SetsAlarm}
+use Rattle.rt_ids.specs.declared.ids.Section.TheVariants as section
+use Rattle.rt_actions.specs.Content.{Message, Values}
+use Rattle.rt_actions.specs.Action.{Action, Leaves, Posts, Places, FindsFull, Readies, SetsAlarm}
 use Rattle.rt_actions.specs.Doing.{Doing, over, does}
 use Rattle.rt_app.specs.declared.expr.Atom.{Atom}
 use Rattle.rt_app.specs.declared.expr.Atom.TheVariants as atom
-use Rattle.rt_app.specs.Tree.{Spawn, Soon, After, Cancel, Move, Calc, Now, Call, Statement, Bind, Assign, Branch}
-use Rattle.rt_app.specs.Tree.{Repeat, Locked, Emit, Pend, Spawns, Block, Empty, Then, Task, App}
+use Rattle.rt_app.specs.Tree.{Expression, Spawn, Soon, After, Cancel, Move, Calc, Now, Call, Statement, Bind, Assign}
+use Rattle.rt_app.specs.Tree.{Branch, Repeat, Locked, Emit, Pend, Spawns, Block, Empty, Then, Task, App}
+use Rattle.rt_app.specs.Accepted.{IsAccepted}
 use Rattle.rt_app.specs.Variables.{variables, variables_in}
-use Rattle.rt_app.specs.Bodies.{Member}
-use Rattle.rt_app.specs.Level.{is_software}
+use Rattle.rt_app.specs.Bodies.{Member, task_priority}
+use Rattle.rt_app.specs.Level.{levels}
 use Rattle.rt_app.specs.Handlers.{irq_number}
-use Rattle.rt_app.specs.Sending.{Rest}
+use Rattle.rt_app.specs.Sending.{Rest, act_all, has_place, place_actions, ready_actions, dispatcher_number}
+use Rattle.rt_app.specs.Sending.{spawn_actions}
 use Rattle.rt_app.specs.Meaning.{Later, value_in, assign, turns_from, run, run_block}
 use Rattle.rt_app.specs.Sound.{IsSoundSpawn, IsSoundStatement, IsSoundBlock}
+use Rattle.rt_laws.proofs.Fine.{Queued}
+use Rattle.rt_respond.specs.Form.{is_of_form}
 use Rattle.rt_respond.specs.Number.{plus, greater_of, times}
-use Rattle.rt_respond.specs.Work.{statement_sends, block_sends}
+use Rattle.rt_respond.specs.Pends.{statement_pends, block_pends}
+use Rattle.rt_respond.specs.Work.{spawn_sends, statement_sends, block_sends}
+use Rattle.rt_respond.specs.declared.handler.Release.{Release}
+use Rattle.rt_respond.specs.declared.handler.Release.TheVariants as released_by
 use Rattle.rt_respond.specs.declared.number.TheConstants.{MOST_WORK}
+use Rattle.rt_respond_laws.proofs.Tasks.{software_level, task_priority_is, no_mono}
 
--- what a post of an interrupt of this number asks for
-abbrev pub Posting : Type 0
-Posting = ℕ → Option ℕ
+-- what a post of an interrupt of this number asks for, and a message of this task that becomes ready
+pub record Posting : Type 0 where
+  pub irq : ℕ → Option ℕ
+  pub task : ℕ → Option ℕ
 
 -- what an action releases; one that sets the alarm has no number, since no code does where there is no monotonic
 abbrev pub released : Posting → Action → Option ℕ
-released posts (Posts irq) = posts irq
+released posts (Posts irq) = posts.irq irq
+released posts (Readies q m) = posts.task m.task
 released posts SetsAlarm = None
 released posts action = Some 0
 
 -- a Doing releases at most so much: its next action a part of it, and all that follows at most another
-abbrev pub AtMost : Posting → ℕ → Doing Values → Type 0
-AtMost posts n over = Unit {0}
-AtMost posts n (does action made next) =
+abbrev pub AtMost : App → Posting → ℕ → Doing Values → Type 0
+AtMost app posts n over = Unit {0}
+AtMost app posts n (does action made next) =
     (now : ℕ) × (later : ℕ) × (released posts action ≡ Some now) × (now + later ≤ n)
-    × ((answer : ℕ) (vs : Values) → AtMost posts later (next answer vs))
+    × ((answer : ℕ) (vs : Values) → Queued app vs → AtMost app posts later (next answer vs))
 
 -- at most more
-pub at_most_more : (posts : Posting) (n m : ℕ) (d : Doing Values) → AtMost posts n d → n ≤ m → AtMost posts m d
-at_most_more posts n m over most less = tt
-at_most_more posts n m (does action made next) most less =
+pub at_most_more : (app : App) (posts : Posting) (n m : ℕ) (d : Doing Values) → AtMost app posts n d → n ≤ m
+    → AtMost app posts m d
+at_most_more app posts n m over most less = tt
+at_most_more app posts n m (does action made next) most less =
     let within = most.3 in (most.0, most.1, most.2, omega (arith, within, less), most.4)
 
-abbrev pub RestAtMost : Posting → ℕ → Rest → Type 0
-RestAtMost posts n rest = (vs : Values) → AtMost posts n (rest vs)
+abbrev pub RestAtMost : App → Posting → ℕ → Rest → Type 0
+RestAtMost app posts n rest = (vs : Values) → AtMost app posts n (rest vs)
 
-abbrev pub LaterAtMost : Posting → ℕ → Later → Type 0
-LaterAtMost posts n later = (vars : List ℕ) → RestAtMost posts n (later vars)
+abbrev pub LaterAtMost : App → Posting → ℕ → Later → Type 0
+LaterAtMost app posts n later = (vars : List ℕ) → RestAtMost app posts n (later vars)
 
 -- two numbers whose sum is this one
 pub record Sums (a b : Option ℕ) (k : ℕ) : Type 0 where
@@ -111,45 +122,49 @@ multiple count (Some one) k some is below =
     let same : min (count * one) MOST_WORK ≡ k = same_Some (min (count * one) MOST_WORK) k is in
     record { one = one; one_is = refl; all = omega (arith, same, below) }
 
-module _ (app : App) (hardware : list_any is_software app.tasks ≡ false) (m : Member) (pends : ℕ → Option ℕ)
-    (posts : Posting)
-    (agree : (i : ℕ) → i < length app.irqs → posts (or_zero (irq_number app i)) ≡ pends i) where
-  no_software : (n : ℕ) (t : Task) → slice_get app.tasks n ≡ Some t → is_software t ≡ true → ⊥
-  no_software n t at software =
-      true_and_false (list_any is_software app.tasks) (any_passes is_software app.tasks n t at software) hardware
+-- what posts and messages ask for is what `pend` and `spawn` statements do: of the interrupts that code may pend, and
+-- of all tasks; the dispatchers' interrupts, which go with messages, ask for nothing of their own
+pub record Agrees (app : App) (asks : Release → Option ℕ) (posts : Posting) (Allowed : ℕ → Type 0) : Type 0 where
+  pub pends : (j : ℕ) → j < length app.irqs → Allowed j
+      → posts.irq (or_zero (irq_number app j)) ≡ asks (released_by.Request j)
+  pub sends : (n : ℕ) → posts.task n ≡ asks (released_by.Message n)
+  pub turns : (r : ℕ) → Contains (levels app) r → posts.irq (dispatcher_number app r) ≡ Some 0
 
-  no_spawn : (locked : List ℕ) (s : Spawn) → IsSoundSpawn app m locked s → ⊥
-  no_spawn locked (Soon n args at) sound = no_software n sound.0 sound.1.is_there sound.1.software
-  no_spawn locked (After word delay n args at) sound = no_software n sound.0 sound.1.is_there sound.1.software
-  no_spawn locked (Cancel word n handle at) sound = no_software n sound.0 sound.1.is_there sound.1.software
-  no_spawn locked (Move word delay n handle at) sound = no_software n sound.0 sound.1.is_there sound.1.software
+-- a block pends such interrupts alone
+abbrev pub PendsOnly : (ℕ → Type 0) → Block → Type 0
+PendsOnly Allowed b = (j : ℕ) → block_pends j b ≡ true → Allowed j
 
+abbrev pub StatementPendsOnly : (ℕ → Type 0) → Statement → Type 0
+StatementPendsOnly Allowed s = (j : ℕ) → statement_pends j s ≡ true → Allowed j
+
+module _ (app : App) (accepted : IsAccepted app) (form : is_of_form app ≡ true) (m : Member)
+    (asks : Release → Option ℕ) (posts : Posting) (Allowed : ℕ → Type 0) (agree : Agrees app asks posts Allowed) where
   -- the turns of a loop, of which each releases at most so much
   turns_at_most : (count one n x i : ℕ) (turn : Later → Later) (later : Later)
-      → ((k : ℕ) (next : Later) → LaterAtMost posts k next → LaterAtMost posts (one + k) (turn next))
-      → LaterAtMost posts n later
-      → LaterAtMost posts (count * one + n) (turns_from count x i turn later)
+      → ((k : ℕ) (next : Later) → LaterAtMost app posts k next → LaterAtMost app posts (one + k) (turn next))
+      → LaterAtMost app posts n later
+      → LaterAtMost app posts (count * one + n) (turns_from count x i turn later)
   turns_at_most zero one n x i turn later each most vars vs =
-      at_most_more posts n (0 * one + n) _ (most (slice_set vars x i) vs) (omega arith)
+      at_most_more app posts n (0 * one + n) _ (most (slice_set vars x i) vs) (omega arith)
   turns_at_most (suc count) one n x i turn later each most vars vs =
-      at_most_more posts (one + (count * one + n)) (suc count * one + n) _
+      at_most_more app posts (one + (count * one + n)) (suc count * one + n) _
       (each (count * one + n) (turns_from count x (suc i) turn later)
       (turns_at_most count one n x (suc i) turn later each most) (slice_set vars x i) vs)
       (omega arith)
 
   -- a loop whose turn releases so much
   loop_at_most : (w : Option ℕ) (k n count x i : ℕ) (turn : Later → Later) (later : Later)
-      → ((one : ℕ) → w ≡ Some one → one < MOST_WORK → (m : ℕ) (next : Later) → LaterAtMost posts m next
-      → LaterAtMost posts (one + m) (turn next))
-      → times count w ≡ Some k → k < MOST_WORK → LaterAtMost posts n later
-      → LaterAtMost posts (k + n) (turns_from count x i turn later)
+      → ((one : ℕ) → w ≡ Some one → one < MOST_WORK → (m : ℕ) (next : Later) → LaterAtMost app posts m next
+      → LaterAtMost app posts (one + m) (turn next))
+      → times count w ≡ Some k → k < MOST_WORK → LaterAtMost app posts n later
+      → LaterAtMost app posts (k + n) (turns_from count x i turn later)
   loop_at_most w k n zero x i turn later each is below most vars vs =
-      at_most_more posts n (k + n) _ (most (slice_set vars x i) vs) (omega arith)
+      at_most_more app posts n (k + n) _ (most (slice_set vars x i) vs) (omega arith)
   loop_at_most w k n (suc count) x i turn later each is below most vars vs =
       let many = multiple (suc count) w k (omega arith) is below in
       let all = many.all in
       let more = one_within count many.one in
-      at_most_more posts (suc count * many.one + n) (k + n) _
+      at_most_more app posts (suc count * many.one + n) (k + n) _
       (turns_at_most (suc count) many.one n x i turn later (each many.one many.one_is (omega (arith, all, below, more)))
       most vars vs)
       (omega (arith, all))
@@ -157,69 +172,137 @@ module _ (app : App) (hardware : list_any is_software app.tasks ≡ false) (m : 
       one_within : (count one : ℕ) → one ≤ suc count * one
       one_within count one = omega arith
 
-  assign_at_most : (n : ℕ) (x : Atom) (v : ℕ) (later : Later) → LaterAtMost posts n later
-      → LaterAtMost posts n (assign x v later)
+  assign_at_most : (n : ℕ) (x : Atom) (v : ℕ) (later : Later) → LaterAtMost app posts n later
+      → LaterAtMost app posts n (assign x v later)
   assign_at_most n (atom.Var x) v later most vars vs = most (slice_set vars x v) vs
   assign_at_most n (atom.Shared r) v later most vars vs = most vars _
   assign_at_most n (atom.Local l) v later most vars vs = most vars _
 
+  -- a message becomes ready
+  ready_at_most : (r : ℕ) (message : Message) (k n : ℕ) (rest : Rest) → Contains (levels app) r
+      → posts.task message.task ≡ Some k → RestAtMost app posts n rest
+      → RestAtMost app posts (k + n) (act_all (ready_actions app r message) rest)
+  ready_at_most r message k n rest known is later vs = (
+    0,
+    k + n,
+    refl,
+    omega arith,
+    λ a us good. (
+      k,
+      n,
+      is,
+      omega arith,
+      λ b ws fine. (
+        0,
+        n,
+        agree.turns r known,
+        omega arith,
+        λ c xs well. (
+          0,
+          n,
+          refl,
+          omega arith,
+          λ d ys sound. later ys,
+        ),
+      ),
+    ),
+  )
+
+  place_at_most : (t n : ℕ) (granted refused : Rest) → RestAtMost app posts n granted → RestAtMost app posts n refused
+      → RestAtMost app posts n (place_actions app t granted refused)
+  place_at_most t n granted refused first second vs =
+      (0, n, refl, omega arith, λ a us good. go (has_place app t us) us)
+    where
+      go : (b : Bool) (ws : Values) → AtMost app posts n
+          (if b then act_all (Places t ∷ Leaves (section.Free t) ∷ []) granted ws
+          else act_all (FindsFull t ∷ Leaves (section.Free t) ∷ []) refused ws)
+      go true ws = (0, n, refl, omega arith, λ b xs good. (0, n, refl, omega arith, λ c ys fine. first ys))
+      go false ws = (0, n, refl, omega arith, λ b xs good. (0, n, refl, omega arith, λ c ys fine. second ys))
+
+  -- a spawn releases its message, where it finds a place
+  spawn_at_most : (locked : List ℕ) (value : Expression → ℕ) (s : Spawn) (k n : ℕ) (rest : ℕ → Rest)
+      → IsSoundSpawn app m locked s → spawn_sends asks s ≡ Some k → ((a : ℕ) → RestAtMost app posts n (rest a))
+      → RestAtMost app posts (k + n) (spawn_actions app value s rest)
+  spawn_at_most locked value (Soon t args at) k n rest sound is later =
+      let task : Task = sound.0 in
+      let known : Contains (levels app) (task_priority app t) =
+      subst (Contains (levels app)) (sym (task_priority_is app accepted t task sound.1.is_there))
+      (software_level app accepted t task sound.1.is_there sound.1.software) in
+      let message : Message = record { task = t; args = map value args } in
+      place_at_most t (k + n) (act_all (ready_actions app (task_priority app t) message) (rest 1)) (rest 0)
+      (ready_at_most (task_priority app t) message k n (rest 1) known (agree.sends t ∙ is) (later 1))
+      (λ vs. at_most_more app posts n (k + n) _ (later 0 vs) (omega arith))
+  spawn_at_most locked value (After word delay t args at) k n rest sound is later =
+      absurd (no_mono app accepted form sound.4.0 sound.4.1)
+  spawn_at_most locked value (Cancel word t handle at) k n rest sound is later =
+      absurd (no_mono app accepted form sound.1.timed.0 sound.1.timed.1)
+  spawn_at_most locked value (Move word delay t handle at) k n rest sound is later =
+      absurd (no_mono app accepted form sound.1.timed.0 sound.1.timed.1)
+
   mutual
     -- a statement releases at most what is counted of it
     pub statement_at_most : (s : Statement) (v : ℕ) (locked fixed : List ℕ) (k n : ℕ) (later : Later)
-        → IsSoundStatement app m v locked fixed s → statement_sends pends s ≡ Some k → k < MOST_WORK
-        → LaterAtMost posts n later → LaterAtMost posts (k + n) (run app s later)
-    statement_at_most (Bind x (Calc e)) v locked fixed k n later sound is below most vars vs =
-        at_most_more posts n (k + n) _ (most (slice_set vars x (value_in vars vs e)) vs) (omega arith)
-    statement_at_most (Bind x (Now at)) v locked fixed k n later sound is below most vars vs =
-        (0, n, refl, omega arith, λ time ws. most (slice_set vars x time) ws)
-    statement_at_most (Bind x (Call s)) v locked fixed k n later sound is below most vars vs =
-        absurd (no_spawn locked s sound.1)
-    statement_at_most (Assign x e at) v locked fixed k n later sound is below most vars vs =
-        at_most_more posts n (k + n) _ (assign_at_most n x (value_in vars vs e) later most vars vs) (omega arith)
-    statement_at_most (Branch e first second) v locked fixed k n later sound is below most vars vs =
-        let both = both_within (block_sends pends first) (block_sends pends second) k is in
+        → IsSoundStatement app m v locked fixed s → StatementPendsOnly Allowed s → statement_sends asks s ≡ Some k
+        → k < MOST_WORK → LaterAtMost app posts n later → LaterAtMost app posts (k + n) (run app s later)
+    statement_at_most (Bind x (Calc e)) v locked fixed k n later sound only is below most vars vs =
+        at_most_more app posts n (k + n) _ (most (slice_set vars x (value_in vars vs e)) vs) (omega arith)
+    statement_at_most (Bind x (Now at)) v locked fixed k n later sound only is below most vars vs =
+        (0, n, refl, omega arith, λ time ws good. most (slice_set vars x time) ws)
+    statement_at_most (Bind x (Call s)) v locked fixed k n later sound only is below most vars vs =
+        spawn_at_most locked (value_in vars vs) s k n (λ answer. later (slice_set vars x answer)) sound.1 is
+        (λ answer. most (slice_set vars x answer)) vs
+    statement_at_most (Assign x e at) v locked fixed k n later sound only is below most vars vs =
+        at_most_more app posts n (k + n) _ (assign_at_most n x (value_in vars vs e) later most vars vs) (omega arith)
+    statement_at_most (Branch e first second) v locked fixed k n later sound only is below most vars vs =
+        let both = both_within (block_sends asks first) (block_sends asks second) k is in
         let few_first = both.first_within in
         let few_second = both.second_within in
-        elim (value_in vars vs e == 0) as (λ b. AtMost posts (k + n)
+        elim (value_in vars vs e == 0) as (λ b. AtMost app posts (k + n)
         (if b then run_block app second later vars vs else run_block app first later vars vs)) [
-          | true ↦ at_most_more posts (both.second + n) (k + n) _
-              (block_at_most second (v + variables first) locked fixed both.second n later sound.2 both.second_is
-              (omega arith) most vars vs) (omega arith)
-          | false ↦ at_most_more posts (both.first + n) (k + n) _
-              (block_at_most first v locked fixed both.first n later sound.1 both.first_is (omega arith) most vars vs)
-              (omega arith)
+          | true ↦ at_most_more app posts (both.second + n) (k + n) _
+              (block_at_most second (v + variables first) locked fixed both.second n later sound.2
+              (λ j there. only j (or_right (block_pends j first) (block_pends j second) there)) both.second_is
+              (omega (arith, few_second, below)) most vars vs) (omega (arith, few_second))
+          | false ↦ at_most_more app posts (both.first + n) (k + n) _
+              (block_at_most first v locked fixed both.first n later sound.1
+              (λ j there. only j (or_left (block_pends j first) (block_pends j second) there)) both.first_is
+              (omega (arith, few_first, below)) most vars vs) (omega (arith, few_first))
         ]
-    statement_at_most (Repeat x first last turn) v locked fixed k n later sound is below most vars vs =
-        loop_at_most (block_sends pends turn) k n (last - first) x first (run_block app turn) later
-        (λ one is few more next good. block_at_most turn (v + 1) locked (x ∷ fixed) one more next sound.4 is few good)
+    statement_at_most (Repeat x first last turn) v locked fixed k n later sound only is below most vars vs =
+        loop_at_most (block_sends asks turn) k n (last - first) x first (run_block app turn) later
+        (λ one is few more next good. block_at_most turn (v + 1) locked (x ∷ fixed) one more next sound.4 only is few
+        good)
         is below most vars vs
-    statement_at_most (Locked r inner at) v locked fixed k n later sound is below most vars vs = (
+    statement_at_most (Locked r inner at) v locked fixed k n later sound only is below most vars vs = (
       0,
       k + n,
       refl,
       omega arith,
-      λ answer ws.
-          block_at_most inner v (r ∷ locked) fixed k n _ sound.1 is below
-          (λ vars vs. (0, n, refl, omega arith, λ answer ws. most vars ws)) vars ws,
+      λ answer ws good.
+          block_at_most inner v (r ∷ locked) fixed k n _ sound.1 only is below
+          (λ vars vs. (0, n, refl, omega arith, λ answer ws good. most vars ws)) vars ws,
     )
-    statement_at_most (Emit e) v locked fixed k n later sound is below most vars vs =
-        (0, k + n, refl, omega arith, λ answer ws. at_most_more posts n (k + n) _ (most vars ws) (omega arith))
-    statement_at_most (Pend i) v locked fixed k n later sound is below most vars vs =
-        (k, n, agree i sound ∙ is, omega arith, λ answer ws. most vars ws)
-    statement_at_most (Spawns s) v locked fixed k n later sound is below most vars vs = absurd (no_spawn locked s sound)
+    statement_at_most (Emit e) v locked fixed k n later sound only is below most vars vs =
+        (0, k + n, refl, omega arith, λ answer ws good. at_most_more app posts n (k + n) _ (most vars ws) (omega arith))
+    statement_at_most (Pend i) v locked fixed k n later sound only is below most vars vs =
+        (k, n, agree.pends i sound (only i (eq-eqb i i refl)) ∙ is, omega arith, λ answer ws good. most vars ws)
+    statement_at_most (Spawns s) v locked fixed k n later sound only is below most vars vs =
+        spawn_at_most locked (value_in vars vs) s k n (λ answer. later vars) sound is (λ answer. most vars) vs
 
     -- and so does a block
     pub block_at_most : (b : Block) (v : ℕ) (locked fixed : List ℕ) (k n : ℕ) (later : Later)
-        → IsSoundBlock app m v locked fixed b → block_sends pends b ≡ Some k → k < MOST_WORK
-        → LaterAtMost posts n later → LaterAtMost posts (k + n) (run_block app b later)
-    block_at_most Empty v locked fixed k n later sound is below most vars vs =
-        at_most_more posts n (k + n) _ (most vars vs) (omega arith)
-    block_at_most (Then s rest) v locked fixed k n later sound is below most vars vs =
-        let parts = sums (statement_sends pends s) (block_sends pends rest) k is below in
+        → IsSoundBlock app m v locked fixed b → PendsOnly Allowed b → block_sends asks b ≡ Some k → k < MOST_WORK
+        → LaterAtMost app posts n later → LaterAtMost app posts (k + n) (run_block app b later)
+    block_at_most Empty v locked fixed k n later sound only is below most vars vs =
+        at_most_more app posts n (k + n) _ (most vars vs) (omega arith)
+    block_at_most (Then s rest) v locked fixed k n later sound only is below most vars vs =
+        let parts = sums (statement_sends asks s) (block_sends asks rest) k is below in
         let all = parts.sum in
-        at_most_more posts (parts.first + (parts.second + n)) (k + n) _
+        at_most_more app posts (parts.first + (parts.second + n)) (k + n) _
         (statement_at_most s v locked fixed parts.first (parts.second + n) (run_block app rest later) sound.0
-        parts.first_is (omega (arith, all, below))
-        (block_at_most rest (v + variables_in s) locked fixed parts.second n later sound.1 parts.second_is
+        (λ j there. only j (or_left (statement_pends j s) (block_pends j rest) there)) parts.first_is
+        (omega (arith, all, below))
+        (block_at_most rest (v + variables_in s) locked fixed parts.second n later sound.1
+        (λ j there. only j (or_right (statement_pends j s) (block_pends j rest) there)) parts.second_is
         (omega (arith, all, below)) most) vars vs)
         (omega (arith, all))

@@ -1,30 +1,28 @@
 -- A stretch of a run in which something is left of a handler: it is over before the response time has passed.
 use Rattle.std.proofs.Common.{◌≡◌, ℕ, suc, ◌+◌, ◌-◌, ◌*◌, ◌≤◌, ◌<◌, ◌==◌, inl, inr, Bool, true, false}
-use Rattle.std.proofs.Common.{if◌then◌else◌, List, find, slice_get, slice_set, option_map}
+use Rattle.std.proofs.Common.{if◌then◌else◌, Contains, List, find, slice_get, slice_set, option_map}
 use Rattle.std.proofs.Common.{Option, Some, None, IsSome, refl, sym, ap, subst, ◌∙◌, arith, eq-eqb}
 use Rattle.std.proofs.lemmas.Bool.{eqb-true, cases_lt}
 use Rattle.std.proofs.lemmas.Nat.{le-div}
 use Rattle.std.proofs.lemmas.Option.{same_Some, none-some}
 use Rattle.rt_lemmas.proofs.Bools.{true_and_false}
 use Rattle.rt_lemmas.proofs.Lists.{find_has, found, found_passes, mapped_at}
-use Rattle.rt_lemmas.proofs.Membership.{all_at}
+use Rattle.rt_lemmas.proofs.Membership.{all_at, any_one}
 use Rattle.rt_ids.specs.Choice.{IsIn}
-use Rattle.rt_ids.specs.Lists.{or_zero}
+use Rattle.rt_ids.specs.Lists.{is_some_and, then_from}
 use Rattle.rt_trace.specs.Label.{Arrived, Stepped}
 use Rattle.rt_trace.specs.declared.item.What.{What}
-use Rattle.rt_trace.specs.declared.item.What.TheVariants as what
-use Rattle.rt_app.specs.Tree.{App}
+use Rattle.rt_app.specs.Tree.{Task, App}
 use Rattle.rt_app.specs.Accepted.{IsAccepted}
-use Rattle.rt_app.specs.Handlers.{Service}
-use Rattle.rt_laws.specs.Services.{service_at, priority_of}
+use Rattle.rt_app.specs.Handlers.{irq_number, bound_number}
+use Rattle.rt_app.specs.Level.{levels}
+use Rattle.rt_app.specs.Sending.{dispatcher_number}
+use Rattle.std.specs.List.{AllByRecursion}
 use Rattle.rt_laws.specs.State.{State}
-use Rattle.rt_laws.specs.Preemption.{candidate}
-use Rattle.rt_laws.specs.Allowed.{HasStep, MayStep, May, state_after_start, after}
-use Rattle.rt_laws.specs.Observer.{Observer, sees}
+use Rattle.rt_laws.specs.Allowed.{May, state_after_start, after}
+use Rattle.rt_laws.specs.Observer.{Observer}
 use Rattle.rt_laws.proofs.FineHandlers.{all_in}
 use Rattle.rt_laws.proofs.Well.{StateWell}
-use Rattle.rt_laws.proofs.Pending.{starts_above}
-use Rattle.rt_laws.proofs.Happens.{Step, turn_silent, given_step}
 use Rattle.rt_rta.specs.Limits as rta
 use Rattle.rt_rta.specs.Response.{most_requests}
 use Rattle.rt_rta.specs.declared.limits.Limit.{Limit}
@@ -33,19 +31,26 @@ use Rattle.rt_rta.proofs.Owing.{Counts, one_more, other_set}
 use Rattle.rt_rta.proofs.Spacing.{Waits, requested, a_step_on}
 use Rattle.rt_respond.specs.Form.{is_of_form}
 use Rattle.rt_respond.specs.Handlers.{handlers}
-use Rattle.rt_respond.specs.Work.{start}
+use Rattle.rt_respond.specs.Work.{handler_asks, work, start}
 use Rattle.rt_respond.specs.Blocking.{blocking}
 use Rattle.rt_respond.specs.Response.{demand, backlog, Suffices}
 use Rattle.rt_respond.specs.declared.handler.Handler.{Handler}
 use Rattle.rt_respond.specs.declared.number.TheConstants.{MOST_WORK}
 use Rattle.rt_respond_laws.proofs.Sending.{sums, both_within}
 use Rattle.rt_respond_laws.proofs.Works.{behind_asks}
-use Rattle.rt_respond_laws.proofs.Asking.{distinct, posts, found_handler}
-use Rattle.rt_respond_laws.proofs.Passing.{SetsNone, Passed, step_passes}
+use Rattle.rt_respond_laws.proofs.Tasks.{not_bound}
+use Rattle.rt_respond_laws.proofs.Handled.{of_level}
+use Rattle.rt_respond_laws.proofs.Asking.{wired, distinct, posts, found_wired, found_alike}
 use Rattle.rt_respond_laws.proofs.Claims.{owe_more, sets_none}
+use Rattle.rt_respond_laws.proofs.Cases.{StepCase, Takes, Goes}
+use Rattle.rt_respond_laws.proofs.Turning.{turn}
+use Rattle.rt_respond_laws.proofs.Levels.{ready_same}
 use Rattle.rt_respond_laws.proofs.Owed.{asks_in, pend_raises, raised, raised_none, raised_one, raised_within}
-use Rattle.rt_respond_laws.proofs.Lowering.{asked, Owes, Numbered, Lowers, some_handlers, take_lowers_it}
-use Rattle.rt_respond_laws.proofs.Lowering.{take_quiet, job_lowers, job_quiet}
+use Rattle.rt_respond_laws.proofs.Lowering.{load, Owes, Numbered, Knows, some_handlers}
+use Rattle.rt_respond_laws.proofs.Waits.{Paid, Pays, Lowers}
+use Rattle.rt_respond_laws.proofs.Taking.{take_lowers_it, take_quiet}
+use Rattle.rt_respond_laws.proofs.Loads.{job_lowers, job_quiet}
+use Rattle.rt_respond_laws.proofs.Paying.{paid_behind, take_same, pays_on, paid_on, IsLimited}
 
 -- the numbers of a response time
 pub record Bounded (app : App) (limits : List Limit) (i : Handler) (least : ℕ) : Type 0 where
@@ -122,56 +127,28 @@ fits_within (Some n) every count steps waits most is fits less =
     let short = fits.1 in
     let some = fits.2 in le-div count (most + (n - 1)) n some (omega (arith, few, short, some, less)))
 
--- how a core step comes about
-module _ (app : App) (accepted : IsAccepted app) (s : State) (v : Observer) (shown : Option What) where
-  pub data StepCase : Type 0 where
-    Takes : (irq : ℕ) → candidate app s ≡ Some irq → (x : Service) → (at : service_at app irq ≡ Some x)
-        → (depth : ℕ) → shown ≡ Some (what.Take irq depth) → StepCase
-    Goes : (given : Option What) → (u : Observer) → (step : Step app s v given (after app s (Stepped shown)) u)
-        → HasStep step.job.role step.job.left
-        → (SetsNone step.job.rest → Passed app s step.job step.others shown (after app s (Stepped shown))) → StepCase
-
-pub is_served : (app : App) (s : State) (irq : ℕ) → candidate app s ≡ Some irq
-    → (v : Service) × (service_at app irq ≡ Some v)
-is_served app s irq is = by (service_at app irq) refl
-  where
-    by : (o : Option Service) → service_at app irq ≡ o → (v : Service) × (o ≡ Some v)
-    by (Some v) at = (v, refl)
-    by None at =
-        let over = starts_above app s irq is in
-        let none : priority_of app irq ≡ 0 = ap (λ o. or_zero (option_map (λ (x : Service). x.priority) o)) at in
-        absurd (omega (arith, over, none))
-
-pub step_case : (app : App) (accepted : IsAccepted app) (s : State) (v : Observer) → StateWell app s v
-    → (shown : Option What) → May app s (Stepped shown) → StepCase app accepted s v shown
-step_case app accepted s v well None may =
-    let step = turn_silent app accepted s v s.jobs v.jobs refl refl well.stack well.pending well.queued well.order
-    may.step may.quiet in
-    Goes None (sees app v (Stepped None)) step (subst MayStep step.jobs_are may.step).0
-    (λ none. step_passes app s step.job step.others step.jobs_are none None may (λ irq depth e. none-some _ e))
-step_case app accepted s v well (Some (what.Take irq depth)) may =
-    let x = is_served app s irq may.1 in Takes irq may.1 x.0 x.1 depth refl
-step_case app accepted s v well (Some w) may =
-    let step = given_step app accepted s v well w may.0 may.1 in
-    Goes (Some w) (sees app v (Stepped (Some w))) step (subst MayStep step.jobs_are may.0.step).0
-    (λ none. step_passes app s step.job step.others step.jobs_are none (Some w) may (λ irq depth e. cc))
-
 module _ (app : App) (accepted : IsAccepted app) (form : is_of_form app ≡ true) (limits : List Limit)
     (fine : rta.AreLimits app limits) (i : Handler) (declared : IsIn (handlers app) i) (least : ℕ)
     (bound : Bounded app limits i least) where
   abbrev hold : ℕ
   hold = bound.hold
 
-  abbrev pub asks_now : List Bool → ℕ
-  asks_now = asked app accepted form i declared hold bound.hold_is bound.few
+  abbrev wires : List Handler
+  wires = wired app accepted form
+
+  abbrev pub load_now : State → (ℕ → ℕ) → ℕ
+  load_now = load app accepted form i declared hold bound.hold_is bound.few
 
   abbrev pub OweAt : ℕ → ℕ → State → Type 0
   OweAt reserve all s = Owes app accepted form i declared hold bound.hold_is bound.few reserve all s.jobs
 
+  abbrev pub PaidNow : State → (ℕ → ℕ) → Type 0
+  PaidNow = Paid app accepted form i declared hold bound.hold_is bound.few
+
   abbrev pub HaveNumbers : List Bool → Type 0
   HaveNumbers = Numbered app accepted form i declared hold bound.hold_is bound.few
 
-  abbrev Lowered : State → State → ℕ → ℕ → ℕ → Type 0
+  abbrev Lowered : State → State → (ℕ → ℕ) → (ℕ → ℕ) → ℕ → ℕ → ℕ → Type 0
   Lowered = Lowers app accepted form i declared hold bound.hold_is bound.few
 
   -- every interrupt with a limit may be requested again within it
@@ -182,11 +159,13 @@ module _ (app : App) (accepted : IsAccepted app) (form : is_of_form app ≡ true
   pub record Stretch (s : State) (waits : Waits) (steps : ℕ) : Type 0 where
     pub short_of : steps < least
     pub counts : Counts
+    pub paid : ℕ → ℕ
+    pub now : PaidNow s paid
     pub reserve : ℕ
     pub all : ℕ
     pub within : reserve ≤ hold
     pub owe : OweAt reserve all s
-    pub owing : all + asks_now s.pending + reserve + steps ≤ bound.base + raised app i counts limits
+    pub owing : all + load_now s paid + reserve + steps ≤ bound.base + raised app i wires counts limits
     pub fits : (irq : ℕ) → Fits (rta.every_of limits irq) (counts irq) steps (waits irq)
 
   -- a limit says what is said of its interrupt
@@ -208,116 +187,166 @@ module _ (app : App) (accepted : IsAccepted app) (form : is_of_form app ≡ true
   positive_every : (row : Limit) → IsIn limits row → 1 ≤ row.every
   positive_every row there = all_at (λ l. 1 ≤ l.every) limits there.0 row fine.positive there.1
 
-  -- what was requested asks for no more than is demanded, and for numbers
-  demands : (s : State) (waits : Waits) (steps : ℕ) (counts : Counts) → steps < least
-      → ((irq : ℕ) → Fits (rta.every_of limits irq) (counts irq) steps (waits irq))
-      → raised app i counts limits ≤ bound.demanded
-  demands s waits steps counts short fits =
+  -- an interrupt with a limit is no dispatcher's
+  limited_alike : (row : Limit) → IsIn limits row
+      → find (λ h. h.number == row.irq) (handlers app) ≡ find (λ h. h.number == row.irq) wires
+  limited_alike row there =
+      found_alike app accepted form row.irq (λ h is dispatches same.
+      let level = of_level app accepted h is dispatches in
+      let bound_it = all_at (λ l. rta.is_bound app l.irq ≡ true) limits there.0 row fine.bound there.1 in
+      let one = any_one (λ t. is_some_and (λ n. n == row.irq) (bound_number app t)) app.tasks bound_it in
+      task h.priority level.known one.0 one.1 one.2 (number row.irq (sym same ∙ level.number) (bound_number app one.1)
+      one.3) one.1.binds refl)
+    where
+      number : {d : ℕ} → (n : ℕ) → n ≡ d → (o : Option ℕ) → is_some_and (λ k. k == n) o ≡ true → o ≡ Some d
+      number n own None h = cc
+      number n own (Some k) h = ap Some (eqb-true k n h ∙ own)
+
+      task : (q : ℕ) → (known : Contains (levels app) q) → (n : ℕ) (t : Task) → slice_get app.tasks n ≡ Some t
+          → bound_number app t ≡ Some (dispatcher_number app q) → (o : Option ℕ) → t.binds ≡ o → ⊥
+      task q known n t at is None binds =
+          none-some (dispatcher_number app q) (sym (ap (λ o. then_from o (irq_number app)) binds) ∙ is)
+      task q known n t at is (Some j) binds =
+          not_bound app accepted form q known n t j at binds
+          (sym (ap (λ o. then_from o (irq_number app)) binds) ∙ is)
+
+  some_begin : (row : Limit) → IsIn limits row → 1 ≤ most_requests least row.every
+  some_begin row there =
+      let positive = positive_every row there in
+      let some = bound.some in
+      le-div 1 (least + (row.every - 1)) row.every positive (omega (arith, some, positive))
+
+  abbrev WithinAll : Counts → List Limit → Type 0
+  WithinAll counts ls = AllByRecursion (λ l. (1 ≤ most_requests least l.every) × (counts l.irq ≤ most_requests least
+      l.every)
+      × (find (λ h. h.number == l.irq) (handlers app) ≡ find (λ h. h.number == l.irq) wires)) ls
+
+  all_within : (counts : Counts) → WithinAll counts limits
+      → (raised app i wires counts limits ≤ bound.demanded) × AllByRecursion (λ l. IsSome (handler_asks (work app i)
+      (find (λ h. h.number == l.irq) wires))) limits
+  all_within counts each =
       let room = bound.room in
       let small = bound.small in
-      (raised_within app i (λ h there behind. behind_asks app i h
+      raised_within app i wires (λ h there behind. behind_asks app i h
       (some_handlers app accepted form i declared hold bound.hold_is bound.few) behind)
-      (λ n h is. (found_handler app accepted form n h is).0) limits least counts limits bound.demanded
-      (all_in (λ l. (1 ≤ most_requests least l.every) × (counts l.irq ≤ most_requests least l.every)) limits
+      (λ n h is. (found_wired app accepted form n h is).0) limits least counts limits bound.demanded each
+      bound.demand_is (omega (arith, room, small))
+
+  -- what was requested asks for no more than is demanded
+  demands : (waits : Waits) (steps : ℕ) (counts : Counts) → steps < least
+      → ((irq : ℕ) → Fits (rta.every_of limits irq) (counts irq) steps (waits irq))
+      → raised app i wires counts limits ≤ bound.demanded
+  demands waits steps counts short fits =
+      (all_within counts
+      (all_in (λ l. (1 ≤ most_requests least l.every) × (counts l.irq ≤ most_requests least l.every)
+      × (find (λ h. h.number == l.irq) (handlers app) ≡ find (λ h. h.number == l.irq) wires)) limits
       (λ row there. (
         some_begin row there,
         fits_within (rta.every_of limits row.irq) row.every (counts row.irq) steps (waits row.irq) least
             (own_every row there) (fits row.irq) short,
-      )))
-      bound.demand_is (omega (arith, room, small))).0
-    where
-      some_begin : (row : Limit) → IsIn limits row → 1 ≤ most_requests least row.every
-      some_begin row there =
-          let positive = positive_every row there in
-          let some = bound.some in
-          le-div 1 (least + (row.every - 1)) row.every positive (omega (arith, some, positive))
+        limited_alike row there,
+      )))).0
 
   -- each interrupt that may be requested asks for a number
-  requests_ask : (irq every : ℕ) → rta.every_of limits irq ≡ Some every → IsSome (posts app accepted form i irq)
+  requests_ask : (irq every : ℕ) → rta.every_of limits irq ≡ Some every → IsSome ((posts app accepted form i).irq irq)
   requests_ask irq every is = by (find (λ (l : Limit). l.irq == irq) limits) refl is
     where
-      some_begin : (row : Limit) → IsIn limits row → 1 ≤ most_requests least row.every
-      some_begin row there =
-          let positive = positive_every row there in
-          let some = bound.some in
-          le-div 1 (least + (row.every - 1)) row.every positive (omega (arith, some, positive))
-
-      room_small : bound.demanded < MOST_WORK
-      room_small = let room = bound.room in let small = bound.small in omega (arith, room, small)
-
       by : (o : Option Limit) → find (λ (l : Limit). l.irq == irq) limits ≡ o
-          → option_map (λ (l : Limit). l.every) o ≡ Some every → IsSome (posts app accepted form i irq)
+          → option_map (λ (l : Limit). l.every) o ≡ Some every → IsSome ((posts app accepted form i).irq irq)
       by None none same = absurd (none-some every same)
       by (Some row) there same =
           let passes : row.irq ≡ irq = eqb-true row.irq irq
           (found_passes (λ (l : Limit). l.irq == irq) limits row there)
           in
-          subst (λ n. IsSome (posts app accepted form i n)) passes
-          (find_has (λ l. IsSome (posts app accepted form i l.irq)) (λ (l : Limit). l.irq == irq) limits row
-          (raised_within app i (λ h there behind. behind_asks app i h
-          (some_handlers app accepted form i declared hold bound.hold_is bound.few) behind)
-          (λ n h is. (found_handler app accepted form n h is).0) limits least (λ n. 0) limits bound.demanded
-          (all_in (λ l. (1 ≤ most_requests least l.every) × (0 ≤ most_requests least l.every)) limits
-          (λ row there. (some_begin row there, omega arith)))
-          bound.demand_is room_small).1 there)
+          subst (λ n. IsSome ((posts app accepted form i).irq n)) passes
+          (find_has (λ l. IsSome ((posts app accepted form i).irq l.irq)) (λ (l : Limit). l.irq == irq) limits row
+          (all_within (λ n. 0)
+          (all_in (λ l. (1 ≤ most_requests least l.every) × (0 ≤ most_requests least l.every)
+          × (find (λ h. h.number == l.irq) (handlers app) ≡ find (λ h. h.number == l.irq) wires)) limits
+          (λ row there. (some_begin row there, omega arith, limited_alike row there)))).1 there)
 
   -- what is asked for is a number that did not stop
-  small_asked : (s : State) (waits : Waits) (steps : ℕ) → (stretch : Stretch s waits steps)
-      → asks_now s.pending < MOST_WORK
-  small_asked s waits steps stretch =
+  small_all : (s : State) (waits : Waits) (steps : ℕ) → (stretch : Stretch s waits steps)
+      → stretch.all + load_now s stretch.paid + stretch.reserve < MOST_WORK
+  small_all s waits steps stretch =
       let owing = stretch.owing in
-      let few = demands s waits steps stretch.counts stretch.short_of stretch.fits in
+      let most = demands waits steps stretch.counts stretch.short_of stretch.fits in
       let room = bound.room in
-      let small = bound.small in omega (arith, owing, few, room, small)
+      let small = bound.small in omega (arith, owing, most, room, small)
 
   -- it begins where nothing is left
-  pub fresh : (s : State) (waits : Waits) (reserve all : ℕ) → Short waits → reserve ≤ hold → OweAt reserve all s
-      → all ≡ 0 → asks_now s.pending ≡ 0 → Stretch s waits 0
-  fresh s waits reserve all short within owe none clear =
+  pub fresh : (s : State) (waits : Waits) (paid : ℕ → ℕ) (reserve all : ℕ) → PaidNow s paid → Short waits
+      → reserve ≤ hold → OweAt reserve all s → all ≡ 0 → load_now s paid ≡ 0 → Stretch s waits 0
+  fresh s waits paid reserve all now short within owe none clear =
       let some = bound.some in
       let base = bound.hold_within in
+      let zero = raised_none app i wires limits in
       record {
         short_of = omega (arith, some);
         counts = λ irq. 0;
+        paid = paid;
+        now = now;
         reserve = hold;
         all = all;
         within = omega arith;
         owe = owe_more app i (posts app accepted form i) hold reserve hold all s.jobs within owe;
-        owing = omega (arith, none, clear, base, raised_none app i limits);
+        owing = omega (arith, none, clear, base, zero);
         fits = λ irq. fits_start (rta.every_of limits irq) (waits irq) (short irq);
       }
 
   -- a request
-  pub on_request : (s : State) (waits : Waits) (steps irq every : ℕ) → Short waits
-      → rta.every_of limits irq ≡ Some every → waits irq ≡ 0 → Stretch s waits steps
+  pub on_request : (s : State) (v : Observer) → StateWell app s v → (waits : Waits) (steps irq every : ℕ) → Short waits
+      → May app s (Arrived irq) → rta.every_of limits irq ≡ Some every → waits irq ≡ 0 → Stretch s waits steps
       → Stretch (after app s (Arrived irq)) (requested irq every waits) steps
-  on_request s waits steps irq every short row now stretch =
-      let raises = pend_raises app i s.pending irq (handlers app) (distinct app accepted form) in
+  on_request s v well waits steps irq every short may row now stretch =
+      let raises = pend_raises app i s.pending irq wires (distinct app accepted form) in
       let one = request_counts (find (λ (l : Limit). l.irq == irq) limits) refl row in
       let owing = stretch.owing in
+      let same_load = ready_same app i (posts app accepted form i) s.values s.values stretch.paid
+      (paid_behind app (Arrived irq) stretch.paid) (λ q. refl) (λ q at. omega arith) in
       record {
         short_of = stretch.short_of;
         counts = one_more irq stretch.counts;
+        paid = paid_behind app (Arrived irq) stretch.paid;
+        now = paid_on app accepted form i declared hold bound.hold_is bound.few limits fine s v well (Arrived irq) may
+            limited stretch.paid stretch.now (numbers_requested stretch.now.numbered) stretch.now.known;
         reserve = stretch.reserve;
         all = stretch.all;
         within = stretch.within;
         owe = stretch.owe;
-        owing = omega (arith, raises, one, owing);
+        owing = omega (arith, raises, one, owing, same_load);
         fits = λ k. by k (k == irq) refl;
       }
     where
+      limited : (k : ℕ) → Arrived irq ≡ Arrived k → IsSome (rta.every_of limits k)
+      limited k same =
+          subst (λ n. IsSome (rta.every_of limits n)) (arrived_same irq k same) (subst IsSome (sym row) refl)
+        where
+          arrived_same : (a b : ℕ) → Arrived a ≡ Arrived b → a ≡ b
+          arrived_same a b same = cc
+
+      numbers_requested : HaveNumbers s.pending → HaveNumbers (slice_set s.pending irq true)
+      numbers_requested numbered n set = by (n == irq) refl
+        where
+          by : (b : Bool) → (n == irq) ≡ b → IsSome ((posts app accepted form i).irq n)
+          by true test = subst (λ k. IsSome ((posts app accepted form i).irq k)) (sym (eqb-true n irq test))
+              (requests_ask irq every row)
+          by false test =
+              numbered n (sym (other_set s.pending irq n true
+              (λ e. true_and_false (n == irq) (eq-eqb n irq e) test)) ∙ set)
+
       request_counts : (o : Option Limit) → find (λ (l : Limit). l.irq == irq) limits ≡ o
           → option_map (λ (l : Limit). l.every) o ≡ Some every
-          → raised app i stretch.counts limits + asks_in app i irq (handlers app)
-          ≤ raised app i (one_more irq stretch.counts) limits
+          → raised app i wires stretch.counts limits + asks_in app i irq wires
+          ≤ raised app i wires (one_more irq stretch.counts) limits
       request_counts None none same = absurd (none-some every same)
-      request_counts (Some l) there same = raised_one app i irq stretch.counts limits l there
+      request_counts (Some l) there same = raised_one app i wires irq stretch.counts limits l there
 
       of_row : (o : Option ℕ) (count : ℕ) → o ≡ Some every → Fits o count steps 0 → (1 ≤ every)
           → Fits o (suc count) steps every
       of_row o count is fits some =
           subst (λ q. Fits q (suc count) steps every) (sym is)
-          (let few = (subst (λ q. Fits q count steps 0) is fits).0 in (omega (arith, few), omega arith, some))
+          (let less = (subst (λ q. Fits q count steps 0) is fits).0 in (omega (arith, less), omega arith, some))
 
       by : (k : ℕ) (b : Bool) → (k == irq) ≡ b
           → Fits (rta.every_of limits k) (if b then suc (stretch.counts k) else stretch.counts k) steps
@@ -329,77 +358,101 @@ module _ (app : App) (accepted : IsAccepted app) (form : is_of_form app ≡ true
           (short irq every row).1
       by k false test = stretch.fits k
 
-  pub numbers_requested : (ps : List Bool) (irq every : ℕ) → rta.every_of limits irq ≡ Some every → HaveNumbers ps
-      → HaveNumbers (slice_set ps irq true)
-  numbers_requested ps irq every row numbered n set = by (n == irq) refl
-    where
-      by : (b : Bool) → (n == irq) ≡ b → IsSome (posts app accepted form i n)
-      by true test = subst (λ k. IsSome (posts app accepted form i k)) (sym (eqb-true n irq test))
-          (requests_ask irq every row)
-      by false test =
-          numbered n (sym (other_set ps irq n true (λ e. true_and_false (n == irq) (eq-eqb n irq e) test)) ∙ set)
-
   -- what a step lowers, while something is left
-  module _ (s : State) (v : Observer) (shown : Option What) (case : StepCase app accepted s v shown) (waits : Waits)
-      (steps : ℕ) (stretch : Stretch s waits steps) (numbered : HaveNumbers s.pending) where
+  module _ (s : State) (v : Observer) (well : StateWell app s v) (shown : Option What) (may : May app s (Stepped shown))
+      (case : StepCase app accepted s v shown) (waits : Waits) (steps : ℕ) (stretch : Stretch s waits steps) where
     abbrev pub t : State
     t = after app s (Stepped shown)
 
+    abbrev pub then_paid : ℕ → ℕ
+    then_paid = paid_behind app (Stepped shown) stretch.paid
+
     -- what is left
     abbrev pub left : ℕ
-    left = stretch.all + asks_now s.pending
+    left = stretch.all + load_now s stretch.paid
 
-    pub lowers_left : 0 < left → Lowered s t stretch.reserve stretch.all 1
+    no_request : IsLimited app accepted form i declared hold bound.hold_is bound.few limits fine (Stepped shown)
+    no_request irq is = cc
+
+    pub paid_then : HaveNumbers t.pending → Knows app accepted form i declared hold bound.hold_is bound.few t.values
+        → PaidNow t then_paid
+    paid_then numbered known =
+        paid_on app accepted form i declared hold bound.hold_is bound.few limits fine s v well (Stepped shown) may
+        no_request stretch.paid stretch.now numbered known
+
+    pays : Pays app accepted form i declared hold bound.hold_is bound.few (Stepped shown) stretch.paid then_paid
+    pays = pays_on app accepted form i declared hold bound.hold_is bound.few limits fine s v well (Stepped shown) may
+        no_request stretch.paid stretch.now
+
+    pub lowers_left : 0 < left → Lowered s t stretch.paid then_paid stretch.reserve stretch.all 1
     lowers_left some = by case
       where
-        by : StepCase app accepted s v shown → Lowered s t stretch.reserve stretch.all 1
+        small : stretch.all + load_now s stretch.paid + stretch.reserve < MOST_WORK
+        small = small_all s waits steps stretch
+
+        by : StepCase app accepted s v shown → Lowered s t stretch.paid then_paid stretch.reserve stretch.all 1
         by (Takes irq is x at depth shown_is) =
-            subst (λ (w : Option What). Lowered s (after app s (Stepped w)) stretch.reserve stretch.all 1)
+            subst (λ (w : Option What). Lowered s (after app s (Stepped w)) stretch.paid then_paid stretch.reserve
+            stretch.all 1)
             (sym shown_is)
             (subst (λ o. Lowered s (state_after_start app (record s { pending = slice_set s.pending irq false }) irq o)
-            stretch.reserve stretch.all 1) (sym at)
-            (take_lowers_it app accepted form i declared hold bound.hold_is bound.few s irq is x at stretch.reserve
-            stretch.all stretch.owe numbered some (small_asked s waits steps stretch)))
-        by (Goes given u step has passed) =
+            stretch.paid then_paid stretch.reserve stretch.all 1) (sym at)
+            (take_lowers_it app accepted form i declared hold bound.hold_is bound.few s stretch.paid stretch.now irq
+            depth
+            is x at (take_same app accepted s well.queued irq x at) then_paid
+            (subst (λ w. Pays app accepted form i declared hold bound.hold_is bound.few (Stepped w) stretch.paid
+            then_paid)
+            shown_is pays) stretch.reserve stretch.all stretch.owe some
+            (omega (arith, small))))
+        by (Goes given u step has no_take passed) =
             let own = subst (Owes app accepted form i declared hold bound.hold_is bound.few stretch.reserve stretch.all)
             step.jobs_are stretch.owe in
             job_lowers app accepted form i declared hold bound.hold_is bound.few s v given shown t u step
             (passed (sets_none app i (posts app accepted form i) hold stretch.reserve own.0 step.job own.3))
-            stretch.reserve stretch.all numbered stretch.owe has some
+            stretch.reserve stretch.all stretch.paid then_paid stretch.now (λ q. no_take (turn app q)) pays
+            (omega (arith, small)) stretch.owe has some
 
     -- and where nothing is
-    pub lowers_quiet : left ≡ 0 → Lowered s t hold stretch.all 0
+    pub lowers_quiet : left ≡ 0 → Lowered s t stretch.paid then_paid hold stretch.all 0
     lowers_quiet none = by case
       where
         full : OweAt hold stretch.all s
         full = owe_more app i (posts app accepted form i) hold stretch.reserve hold stretch.all s.jobs stretch.within
             stretch.owe
 
-        by : StepCase app accepted s v shown → Lowered s t hold stretch.all 0
+        by : StepCase app accepted s v shown → Lowered s t stretch.paid then_paid hold stretch.all 0
         by (Takes irq is x at depth shown_is) =
-            subst (λ (w : Option What). Lowered s (after app s (Stepped w)) hold stretch.all 0) (sym shown_is)
+            subst (λ (w : Option What). Lowered s (after app s (Stepped w)) stretch.paid then_paid hold stretch.all 0)
+            (sym shown_is)
             (subst (λ o. Lowered s (state_after_start app (record s { pending = slice_set s.pending irq false }) irq o)
-            hold stretch.all 0) (sym at)
-            (take_quiet app accepted form i declared hold bound.hold_is bound.few s irq is x at stretch.all full
-            numbered
-            (omega (arith, none)) (omega (arith, none))))
-        by (Goes given u step has passed) =
+            stretch.paid then_paid hold stretch.all 0) (sym at)
+            (take_quiet app accepted form i declared hold bound.hold_is bound.few s stretch.paid stretch.now irq depth
+            is
+            x at (take_same app accepted s well.queued irq x at) then_paid
+            (subst (λ w. Pays app accepted form i declared hold bound.hold_is bound.few (Stepped w) stretch.paid
+            then_paid)
+            shown_is pays) stretch.all full (omega (arith, none)) (omega (arith, none))))
+        by (Goes given u step has no_take passed) =
             let own = subst (Owes app accepted form i declared hold bound.hold_is bound.few hold stretch.all)
             step.jobs_are full in
+            let few = bound.few in
             job_quiet app accepted form i declared hold bound.hold_is bound.few s v given shown t u step
             (passed (sets_none app i (posts app accepted form i) hold hold own.0 step.job own.3)) hold stretch.all
-            numbered full has refl
+            stretch.paid then_paid stretch.now (λ q. no_take (turn app q)) pays (omega (arith, few, none)) full has refl
 
     -- behind it nothing is left, or the stretch goes on
     pub data Behind : Type 0 where
-      Over : (reserve all : ℕ) → reserve ≤ hold → OweAt reserve all t → all ≡ 0 → asks_now t.pending ≡ 0 → Behind
-      On : (on : Stretch t (a_step_on waits) (steps + 1)) → 0 < on.all + asks_now t.pending → Behind
+      Over : (paid : ℕ → ℕ) → (reserve all : ℕ) → PaidNow t paid → reserve ≤ hold → OweAt reserve all t → all ≡ 0
+          → load_now t paid ≡ 0 → Behind
+      On : (on : Stretch t (a_step_on waits) (steps + 1)) → 0 < on.all + load_now t on.paid → Behind
 
-    pub behind_left : Lowered s t stretch.reserve stretch.all 1 → Behind
-    behind_left lowers = elim (cases_lt 0 (lowers.all_then + asks_now t.pending)) [
+    pub behind_left : Lowered s t stretch.paid then_paid stretch.reserve stretch.all 1 → Behind
+    behind_left lowers = elim (cases_lt 0 (lowers.all_then + load_now t then_paid)) [
       | inl more ↦ On (record {
         short_of = still more;
         counts = stretch.counts;
+        paid = then_paid;
+        now = paid_then lowers.numbered lowers.known;
         reserve = lowers.reserve_then;
         all = lowers.all_then;
         within = let within = stretch.within in let less = lowers.less in omega (arith, within, less);
@@ -407,40 +460,43 @@ module _ (app : App) (accepted : IsAccepted app) (form : is_of_form app ≡ true
         owing = within_room;
         fits = λ irq. fits_step (rta.every_of limits irq) (stretch.counts irq) steps (waits irq) (stretch.fits irq);
       }) more
-      | inr none ↦ Over lowers.reserve_then lowers.all_then
+      | inr none ↦ Over then_paid lowers.reserve_then lowers.all_then (paid_then lowers.numbered lowers.known)
           (let within = stretch.within in let less = lowers.less in omega (arith, within, less))
           lowers.owe (omega (arith, none)) (omega (arith, none))
     ]
       where
-        within_room : lowers.all_then + asks_now t.pending + lowers.reserve_then + (steps + 1)
-            ≤ bound.base + raised app i stretch.counts limits
+        within_room : lowers.all_then + load_now t then_paid + lowers.reserve_then + (steps + 1)
+            ≤ bound.base + raised app i wires stretch.counts limits
         within_room = let sum = lowers.sum in let owing = stretch.owing in omega (arith, sum, owing)
 
-        still : 0 < lowers.all_then + asks_now t.pending → steps + 1 < least
+        still : 0 < lowers.all_then + load_now t then_paid → steps + 1 < least
         still more = elim (cases_lt (steps + 1) least) [
           | inl short ↦ short
           | inr past ↦
               let short = stretch.short_of in
-              let few = demands s waits steps stretch.counts stretch.short_of stretch.fits in
+              let most = demands waits steps stretch.counts stretch.short_of stretch.fits in
               let room = bound.room in
-              absurd (omega (arith, within_room, more, past, short, few, room))
+              absurd (omega (arith, within_room, more, past, short, most, room))
         ]
 
     -- where nothing is left the stretch begins anew
-    pub behind_quiet : Short (a_step_on waits) → Lowered s t hold stretch.all 0 → left ≡ 0
+    pub behind_quiet : Short (a_step_on waits) → Lowered s t stretch.paid then_paid hold stretch.all 0 → left ≡ 0
         → Stretch t (a_step_on waits) 0
     behind_quiet short lowers none =
         let some = bound.some in
         let base = bound.hold_within in
         let sum = lowers.sum in
+        let zero = raised_none app i wires limits in
         record {
           short_of = omega (arith, some);
           counts = λ irq. 0;
+          paid = then_paid;
+          now = paid_then lowers.numbered lowers.known;
           reserve = lowers.reserve_then;
           all = lowers.all_then;
           within = lowers.less;
           owe = lowers.owe;
-          owing = omega (arith, sum, none, base, raised_none app i limits);
+          owing = omega (arith, sum, none, base, zero);
           fits = λ irq. fits_start (rta.every_of limits irq) (a_step_on waits irq) (short irq);
         }
 
@@ -452,20 +508,24 @@ module _ (app : App) (accepted : IsAccepted app) (form : is_of_form app ≡ true
     ]
       where
         by : Behind → (n : ℕ) × Stretch t (a_step_on waits) n
-        by (Over reserve all within owe none clear) =
-            (0, fresh t (a_step_on waits) reserve all short within owe none clear)
+        by (Over paid reserve all now within owe none clear) =
+            (0, fresh t (a_step_on waits) paid reserve all now short within owe none clear)
         by (On on more) = (steps + 1, on)
 
-    -- what is pending behind it has numbers
-    pub numbers_behind : HaveNumbers t.pending
-    numbers_behind = elim (cases_lt 0 left) [
-      | inl more ↦ (lowers_left more).numbered
-      | inr none ↦ (lowers_quiet (omega (arith, none))).numbered
-    ]
-
+    -- no alarm is set by it
     pub calm_behind : s.alarm ≡ None → s.owing ≡ false → (t.alarm ≡ None) × (t.owing ≡ false)
-    calm_behind alarm owing = elim (cases_lt 0 left) [
-      | inl more ↦ ((lowers_left more).alarm ∙ alarm, (lowers_left more).owing ∙ owing)
-      | inr none ↦
-          let lowers = lowers_quiet (omega (arith, none)) in (lowers.alarm ∙ alarm, lowers.owing ∙ owing)
-    ]
+    calm_behind alarm owing = by case
+      where
+        by : StepCase app accepted s v shown → (t.alarm ≡ None) × (t.owing ≡ false)
+        by (Takes irq is x at depth shown_is) =
+            subst (λ (w : Option What). ((after app s (Stepped w)).alarm ≡ None)
+            × ((after app s (Stepped w)).owing ≡ false)) (sym shown_is)
+            (subst (λ o. ((state_after_start app (record s { pending = slice_set s.pending irq false }) irq o).alarm
+            ≡ None) × ((state_after_start app (record s { pending = slice_set s.pending irq false }) irq o).owing
+            ≡ false)) (sym at) (alarm, owing))
+        by (Goes given u step has no_take passed) =
+            let own = subst (Owes app accepted form i declared hold bound.hold_is bound.few stretch.reserve stretch.all)
+            step.jobs_are stretch.owe in
+            let passes = passed (sets_none app i (posts app accepted form i) hold stretch.reserve own.0 step.job own.3)
+            in
+            (passes.alarm ∙ alarm, passes.owing ∙ owing)

@@ -1,208 +1,100 @@
--- Where there are hardware tasks alone, what serves an interrupt is the handler of a task, and the other way round.
-use Rattle.std.proofs.Common.{◌≡◌, ℕ, zero, suc, ◌+◌, arith, eq-eqb, ◌==◌, true, false, List, [], ◌∷◌}
-use Rattle.std.proofs.Common.{slice_get, Option, Some, None, refl, sym, ap, subst, ◌∙◌}
+-- What serves an interrupt is a task that binds it, or the dispatcher of a level of software tasks; and the handlers of
+-- an application are those of its tasks, by what serves their interrupts.
+use Rattle.std.proofs.Common.{◌≡◌, ℕ, zero, suc, ◌+◌, ◌≤◌, ◌<◌, ◌==◌, ◌^◌, Bool, true, false, Contains, inl}
+use Rattle.std.proofs.Common.{inr, List, [], ◌∷◌, map, slice_get, option_map, Option, Some, None, refl, sym, ap}
+use Rattle.std.proofs.Common.{subst, ◌∙◌, arith, eq-eqb}
+use Rattle.std.proofs.Math.Pow.{pow_mono}
 use Rattle.std.specs.Prelude.{is_none}
 use Rattle.std.specs.List.{AllByRecursion, list_any}
-use Rattle.std.proofs.lemmas.Option.{same_Some, none-some}
-use Rattle.rt_lemmas.proofs.Bools.{and_left, and_parts, not_true, true_and_false}
-use Rattle.rt_lemmas.proofs.Lists.{AreFrom, all_from, first_from, rest_from, find_has, found, found_passes}
-use Rattle.rt_lemmas.proofs.Membership.{all_append, all_flat_map, all_at, any_one, any_passes}
-use Rattle.rt_ids.specs.Lists.{is_some_and, then_from}
+use Rattle.std.proofs.lemmas.Bool.{cases_lt, eqb-true}
+use Rattle.std.proofs.lemmas.List.Elements.{Contains-append_left, Contains-append_right}
+use Rattle.std.proofs.lemmas.Option.{none-some, same_Some}
+use Rattle.rt_lemmas.proofs.Bools.{and_left, and_right, and_parts, and_both, not_true, true_and_false}
+use Rattle.rt_lemmas.proofs.Lists.{AreFrom, all_from, first_from, rest_from, find_has, found_passes, mapped_at}
+use Rattle.rt_lemmas.proofs.Membership.{all_append, all_flat_map, all_at, all_from_members, any_one}
+use Rattle.rt_lemmas.proofs.Membership.{any_passes, contains_at, contains_here}
+use Rattle.rt_ids.specs.Lists.{is_some_and, or_zero, those_below}
 use Rattle.rt_ids.specs.Choice.{IsIn}
-use Rattle.rt_app.proofs.SoundCeilings.{those_all}
+use Rattle.rt_app.proofs.Parts.{parts}
+use Rattle.rt_app.proofs.SoundCeilings.{those_all, tasks_in_range}
 use Rattle.rt_app.specs.declared.app.Mono.{Mono}
 use Rattle.rt_app.specs.Tree.{Task, App}
+use Rattle.rt_app.specs.Bodies.{task_priority}
 use Rattle.rt_app.specs.Level.{is_software, is_of_level, levels}
-use Rattle.rt_app.specs.BodyCost.{body_cost, cost_measure}
-use Rattle.rt_app.specs.Handlers.{Runs, Service, dispatcher_of, bound_service, task_services, dispatcher_service}
-use Rattle.rt_app.specs.Handlers.{timer_service, services, irq_number, bound_number, has_no_monotonic}
-use Rattle.rt_app.specs.Forms.{has_no_software}
+use Rattle.rt_app.specs.Handlers.{Runs, Dispatches, Service, dispatcher_of, bound_service}
+use Rattle.rt_app.specs.Handlers.{task_services, dispatcher_service, timer_service, services, irq_number}
+use Rattle.rt_app.specs.Handlers.{has_no_monotonic}
+use Rattle.rt_app.specs.Sending.{dispatcher_number}
 use Rattle.rt_app.specs.Accepted.{IsAccepted}
+use Rattle.rt_app.specs.Acceptance.{IsSound}
 use Rattle.rt_app.proofs.Members.{in_front, in_back}
+use Rattle.rt_app.proofs.Sound.{accepted_are_sound}
 use Rattle.rt_laws.specs.Services.{service_at}
-use Rattle.rt_laws.proofs.Pending.{some_number}
-use Rattle.rt_laws.proofs.Dispatchers.{only_service}
-use Rattle.rt_respond.specs.Form.{is_of_form}
-use Rattle.rt_respond.specs.Handlers.{bound_handler, task_handlers, handlers}
-use Rattle.rt_respond.specs.declared.handler.Handler.{Handler}
+use Rattle.rt_laws.proofs.Pending.{some_number, made_number}
+use Rattle.rt_laws.proofs.Dispatchers.{only_service, dispatcher_serves, dispatcher_served}
+use Rattle.rt_respond.specs.Pends.{is_pended}
+use Rattle.rt_respond.specs.Form.{is_of_form, dispatcher_is_pended}
 
-module _ (app : App) (accepted : IsAccepted app) (form : is_of_form app ≡ true) where
-  forms : (has_no_software app ≡ true) × (has_no_monotonic app ≡ true)
-  forms = and_parts (has_no_software app) (has_no_monotonic app) form
+-- a number that passes is among those that pass
+among_those : (test : ℕ → Bool) (n p : ℕ) → p < n → test p ≡ true → Contains (those_below test n) p
+unfolding those_below
+among_those test zero p below is = absurd (omega arith)
+among_those test (suc n) p below is =
+    elim (cases_lt p n) [
+      | inl less ↦ Contains-append_left (those_below test n) _ p (among_those test n p less is)
+      | inr least ↦
+          (let same : n ≡ p = omega arith in
+          Contains-append_right (those_below test n) _ p (rw (same, is) (contains_here p [])))
+    ]
 
-  pub hardware : list_any is_software app.tasks ≡ false
-  hardware = not_true (list_any is_software app.tasks) forms.0
+module _ (app : App) (accepted : IsAccepted app) where
+  sound : IsSound app
+  sound = accepted_are_sound app accepted
 
-  pub untimed : app.mono ≡ None
-  untimed = none_from app.mono forms.1
-    where
-      none_from : {X : Type 0} (o : Option X) → is_none o ≡ true → o ≡ None
-      none_from None is = refl
-      none_from (Some x) is = cc
+  -- a level has a task
+  pub level_task : (p : ℕ) → Contains (levels app) p → list_any (is_of_level p) app.tasks ≡ true
+  level_task p level =
+      let there = contains_at (levels app) p level in
+      all_at (λ q. list_any (is_of_level q) app.tasks ≡ true) (levels app) there.0 p
+      (those_all (λ q. list_any (is_of_level q) app.tasks ≡ true) (λ q. list_any (is_of_level q) app.tasks) _
+      (λ q below is. is)) there.1
 
-  -- it runs a task
-  pub record RunsTask (v : Service) : Type 0 where
-    pub task : ℕ
-    pub row : Task
-    pub at : slice_get app.tasks task ≡ Some row
-    pub binds : row.binds ≡ Some v.irq
-    pub handler : v.handler ≡ Runs task
-    pub priority : v.priority ≡ row.priority
+  -- a software task is of a level
+  pub software_level : (n : ℕ) (t : Task) → slice_get app.tasks n ≡ Some t → is_software t ≡ true
+      → Contains (levels app) t.priority
+  software_level n t at soft =
+      let range = all_at _ app.tasks n t (tasks_in_range app accepted (parts app accepted.rules)) at in
+      let bits : 2 ^ app.bits ≤ 2 ^ 7 = pow_mono {j = 7} (omega (arith, accepted.limits.most_bits)) in
+      among_those (λ p. list_any (is_of_level p) app.tasks) 256 t.priority (omega (arith, range.1, bits))
+      (any_passes (is_of_level t.priority) app.tasks n t at
+      (and_both (is_software t) (t.priority == t.priority) soft (eq-eqb t.priority t.priority refl)))
 
-  tasks_run : (n : ℕ) (ts : List Task) → AreFrom app.tasks n ts → AllByRecursion RunsTask (task_services n ts)
-  tasks_run n [] from = tt
-  tasks_run n (t ∷ ts) from =
-      all_append RunsTask (bound_service n t t.binds) (task_services (n + 1) ts)
-      (own t.binds refl) (tasks_run (n + 1) ts (rest_from app.tasks n t ts from))
-    where
-      own : (o : Option ℕ) → t.binds ≡ o → AllByRecursion RunsTask (bound_service n t o)
-      own None is = tt
-      own (Some i) is = (
-        record {
-          task = n;
-          row = t;
-          at = first_from app.tasks n t ts from;
-          binds = is;
-          handler = refl;
-          priority = refl;
-        },
-        tt,
-      )
+  pub task_priority_is : (n : ℕ) (t : Task) → slice_get app.tasks n ≡ Some t → task_priority app n ≡ t.priority
+  task_priority_is n t at = ap (λ o. or_zero (option_map (λ (t : Task). t.priority) o)) at
 
-  no_handler : (p : ℕ) → list_any (is_of_level p) app.tasks ≡ true → ⊥
-  no_handler p some =
-      let one = any_one (is_of_level p) app.tasks some in
-      true_and_false (list_any is_software app.tasks)
-      (any_passes is_software app.tasks one.0 one.1 one.2 (and_left (is_software one.1) (one.1.priority == p) one.3))
-      hardware
+  pub number_at : (j n : ℕ) → irq_number app j ≡ Some n → slice_get (map (λ d. d.number) app.irqs) j ≡ Some n
+  number_at j n is =
+      let row = made_number (λ d. d.number) (slice_get app.irqs j) n is in
+      mapped_at (λ d. d.number) app.irqs j row.0 row.1 ∙ ap Some row.2
 
-  no_timer : (o : Option Mono) → app.mono ≡ o → AllByRecursion RunsTask (timer_service o)
-  no_timer None is = tt
-  no_timer (Some mono) is = absurd (none-some mono (sym untimed ∙ is))
+  pub same_irq : (j k n : ℕ) → irq_number app j ≡ Some n → irq_number app k ≡ Some n → j ≡ k
+  same_irq j k n first second = sound.numbers_differ j k n (number_at j n first) (number_at k n second)
 
-  all_run : AllByRecursion RunsTask (services app)
-  all_run =
-      all_append RunsTask (task_services 0 app.tasks) _ (tasks_run 0 app.tasks (all_from app.tasks))
-      (all_append RunsTask _ (timer_service app.mono)
-      (all_flat_map RunsTask (λ p. dispatcher_service p (dispatcher_of app p)) (levels app)
-      (those_all (λ p. AllByRecursion RunsTask (dispatcher_service p (dispatcher_of app p)))
-      (λ p. list_any (is_of_level p) app.tasks) _
-      (λ p below some. absurd (no_handler p some))))
-      (no_timer app.mono refl))
+  same_level : (p q : ℕ) → Dispatches p ≡ Dispatches q → p ≡ q
+  same_level p q same = cc
 
-  -- what serves an interrupt runs a task that binds it
-  pub served_runs : (irq : ℕ) (v : Service) → service_at app irq ≡ Some v → RunsTask v
-  served_runs irq v at = find_has RunsTask _ (services app) v all_run at
+  -- the dispatchers of two levels have numbers of their own
+  pub levels_apart : (p q : ℕ) → Contains (levels app) p → Contains (levels app) q
+      → dispatcher_number app p ≡ dispatcher_number app q → p ≡ q
+  levels_apart p q first second same =
+      let one = dispatcher_served app accepted p first in
+      let own = dispatcher_serves app accepted p first one.0 one.1 in
+      let other = dispatcher_serves app accepted q second one.0
+      (subst (λ n. service_at app n ≡ Some one.0) same one.1) in
+      same_level p q (sym own.0 ∙ other.0)
 
-  pub served_number : (irq : ℕ) (v : Service) (at : service_at app irq ≡ Some v)
-      → bound_number app (served_runs irq v at).row ≡ Some irq
-  served_number irq v at =
-      let runs = served_runs irq v at in
-      let passes = found_passes (λ (s : Service). is_some_and (λ n. n == irq) (irq_number app s.irq)) (services app) v
-      at in
-      ap (λ o. then_from o (irq_number app)) runs.binds ∙ some_number (irq_number app v.irq) irq passes
-
-  -- the handler of a task that binds an interrupt of this index and number
-  abbrev pub handler_for : ℕ → Task → ℕ → ℕ → Handler
-  handler_for n t irq number =
-      record {
-        irq = irq;
-        number = number;
-        priority = t.priority;
-        task = n;
-        steps = body_cost (cost_measure app) t.body;
-      }
-
-  handlers_have : (n : ℕ) (ts : List Task) (k : ℕ) (t : Task) (irq number : ℕ) → slice_get ts k ≡ Some t
-      → t.binds ≡ Some irq → bound_number app t ≡ Some number
-      → IsIn (task_handlers app n ts) (handler_for (n + k) t irq number)
-  handlers_have n [] k t irq number at binds is = absurd (none-some t at)
-  handlers_have n (u ∷ ts) zero t irq number at binds is =
-      let same : u ≡ t = same_Some u t at in
-      in_front (bound_handler app n u u.binds (bound_number app u)) (task_handlers app (n + 1) ts)
-      (handler_for (n + 0) t irq number)
-      (subst (λ x. IsIn (bound_handler app n x x.binds (bound_number app x)) (handler_for (n + 0) t irq number))
-      (sym same)
-      (subst (λ o. IsIn (bound_handler app n t o (bound_number app t)) (handler_for (n + 0) t irq number)) (sym binds)
-      (subst (λ o. IsIn (bound_handler app n t (Some irq) o) (handler_for (n + 0) t irq number)) (sym is) (
-        0,
-        ap (λ k. Some (handler_for k t irq number)) (zero_more n),
-      ))))
-    where
-      zero_more : (n : ℕ) → n ≡ n + 0
-      zero_more n = omega arith
-  handlers_have n (u ∷ ts) (suc k) t irq number at binds is =
-      in_back (bound_handler app n u u.binds (bound_number app u)) (task_handlers app (n + 1) ts)
-      (handler_for (n + suc k) t irq number)
-      (subst (λ m. IsIn (task_handlers app (n + 1) ts) (handler_for m t irq number)) (one_more n k)
-      (handlers_have (n + 1) ts k t irq number at binds is))
-    where
-      one_more : (n k : ℕ) → n + 1 + k ≡ n + suc k
-      one_more n k = omega arith
-
-  -- what serves an interrupt is the handler of its task
-  pub record IsHandled (irq : ℕ) (v : Service) : Type 0 where
-    pub task : ℕ
-    pub row : Task
-    pub at : slice_get app.tasks task ≡ Some row
-    pub service : v.handler ≡ Runs task
-    pub priority : v.priority ≡ row.priority
-    pub index : ℕ
-    pub declared : IsIn (handlers app) (handler_for task row index irq)
-
-  pub served_handled : (irq : ℕ) (v : Service) → service_at app irq ≡ Some v → IsHandled irq v
-  served_handled irq v at =
-      let runs = served_runs irq v at in
-      record {
-        task = runs.task;
-        row = runs.row;
-        at = runs.at;
-        service = runs.handler;
-        priority = runs.priority;
-        index = v.irq;
-        declared = subst (λ n. IsIn (handlers app) (handler_for n runs.row v.irq irq)) (none_more runs.task)
-            (handlers_have 0 app.tasks runs.task runs.row v.irq irq runs.at runs.binds (served_number irq v at));
-      }
-    where
-      none_more : (n : ℕ) → 0 + n ≡ n
-      none_more n = omega arith
-
-  -- a handler is that of a task
-  pub record IsOfTask (h : Handler) : Type 0 where
-    pub row : Task
-    pub at : slice_get app.tasks h.task ≡ Some row
-    pub binds : row.binds ≡ Some h.irq
-    pub number : bound_number app row ≡ Some h.number
-    pub priority : h.priority ≡ row.priority
-    pub steps : h.steps ≡ body_cost (cost_measure app) row.body
-
-  of_tasks : (n : ℕ) (ts : List Task) → AreFrom app.tasks n ts → AllByRecursion IsOfTask (task_handlers app n ts)
-  of_tasks n [] from = tt
-  of_tasks n (t ∷ ts) from =
-      all_append IsOfTask (bound_handler app n t t.binds (bound_number app t)) (task_handlers app (n + 1) ts)
-      (own t.binds refl (bound_number app t) refl) (of_tasks (n + 1) ts (rest_from app.tasks n t ts from))
-    where
-      own : (o : Option ℕ) → t.binds ≡ o → (m : Option ℕ) → bound_number app t ≡ m
-          → AllByRecursion IsOfTask (bound_handler app n t o m)
-      own None is m number = tt
-      own (Some i) is None number = tt
-      own (Some i) is (Some k) number = (
-        record {
-          row = t;
-          at = first_from app.tasks n t ts from;
-          binds = is;
-          number = number;
-          priority = refl;
-          steps = refl;
-        },
-        tt,
-      )
-
-  pub handler_of_task : (h : Handler) → IsIn (handlers app) h → IsOfTask h
-  handler_of_task h is =
-      all_at IsOfTask (handlers app) is.0 h (of_tasks 0 app.tasks (all_from app.tasks)) is.1
-
-  services_have : (n : ℕ) (ts : List Task) (k : ℕ) (t : Task) (irq : ℕ) → slice_get ts k ≡ Some t → t.binds ≡ Some irq
+  pub services_have : (n : ℕ) (ts : List Task) (k : ℕ) (t : Task) (irq : ℕ) → slice_get ts k ≡ Some t → t.binds ≡ Some
+      irq
       → IsIn (task_services n ts) (record { irq = irq; handler = Runs (n + k); priority = t.priority })
   services_have n [] k t irq at binds = absurd (none-some t at)
   services_have n (u ∷ ts) zero t irq at binds =
@@ -225,31 +117,155 @@ module _ (app : App) (accepted : IsAccepted app) (form : is_of_form app ≡ true
       (record { irq = irq; handler = Runs k; priority = t.priority })) e
       (services_have (n + 1) ts k t irq at binds))
 
-  -- a handler serves its interrupt
-  pub record ServesAs (h : Handler) : Type 0 where
-    pub service : Service
-    pub at : service_at app h.number ≡ Some service
-    pub handler : service.handler ≡ Runs h.task
-    pub priority : service.priority ≡ h.priority
+module _ (app : App) (accepted : IsAccepted app) (form : is_of_form app ≡ true) where
+  forms : (has_no_monotonic app ≡ true) × (list_any (dispatcher_is_pended app) app.tasks ≡ false)
+  forms = (
+    and_left (has_no_monotonic app) _ form,
+    not_true (list_any (dispatcher_is_pended app) app.tasks) (and_right (has_no_monotonic app) _ form),
+  )
 
-  pub handler_serves : (h : Handler) → IsIn (handlers app) h → ServesAs h
-  handler_serves h is =
-      let of = handler_of_task h is in
-      let w : Service = record { irq = h.irq; handler = Runs (0 + h.task); priority = of.row.priority } in
-      let there : IsIn (services app) w =
-      in_front (task_services 0 app.tasks) _ w (services_have 0 app.tasks h.task of.row h.irq of.at of.binds) in
-      let number : irq_number app h.irq ≡ Some h.number =
-      sym (ap (λ o. then_from o (irq_number app)) of.binds) ∙ of.number in
-      let one = found (λ (s : Service). is_some_and (λ n. n == h.number) (irq_number app s.irq)) (services app)
-      there.0 w
-      there.1 (ap (is_some_and (λ n. n == h.number)) number ∙ eq-eqb h.number h.number refl) in
-      let same : one.0 ≡ w = only_service app accepted h.number one.0 w there number one.1 in
-      record {
-        service = one.0;
-        at = one.1;
-        handler = ap (λ (v : Service). v.handler) same ∙ ap Runs (none_more h.task);
-        priority = ap (λ (v : Service). v.priority) same ∙ sym of.priority;
-      }
+  pub untimed : app.mono ≡ None
+  untimed = none_from app.mono forms.0
     where
-      none_more : (n : ℕ) → 0 + n ≡ n
-      none_more n = omega arith
+      none_from : {X : Type 0} (o : Option X) → is_none o ≡ true → o ≡ None
+      none_from None is = refl
+      none_from (Some x) is = cc
+
+  pub no_mono : (mono : Mono) → app.mono ≡ Some mono → ⊥
+  no_mono mono is = none-some mono (sym untimed ∙ is)
+
+  -- it runs a task
+  pub record RunsTask (v : Service) : Type 0 where
+    pub task : ℕ
+    pub row : Task
+    pub at : slice_get app.tasks task ≡ Some row
+    pub binds : row.binds ≡ Some v.irq
+    pub handler : v.handler ≡ Runs task
+    pub priority : v.priority ≡ row.priority
+
+  -- it is the dispatcher of a level
+  pub record RunsLevel (v : Service) : Type 0 where
+    pub level : ℕ
+    pub known : Contains (levels app) level
+    pub of : dispatcher_of app level ≡ Some v.irq
+    pub handler : v.handler ≡ Dispatches level
+    pub priority : v.priority ≡ level
+
+  pub data IsServing (v : Service) : Type 0 where
+    ByTask : RunsTask v → IsServing v
+    ByLevel : RunsLevel v → IsServing v
+
+  tasks_run : (n : ℕ) (ts : List Task) → AreFrom app.tasks n ts → AllByRecursion IsServing (task_services n ts)
+  tasks_run n [] from = tt
+  tasks_run n (t ∷ ts) from =
+      all_append IsServing (bound_service n t t.binds) (task_services (n + 1) ts)
+      (own t.binds refl) (tasks_run (n + 1) ts (rest_from app.tasks n t ts from))
+    where
+      own : (o : Option ℕ) → t.binds ≡ o → AllByRecursion IsServing (bound_service n t o)
+      own None is = tt
+      own (Some i) is = (
+        ByTask (record {
+          task = n;
+          row = t;
+          at = first_from app.tasks n t ts from;
+          binds = is;
+          handler = refl;
+          priority = refl;
+        }),
+        tt,
+      )
+
+  level_runs : (p : ℕ) → Contains (levels app) p → (o : Option ℕ) → dispatcher_of app p ≡ o
+      → AllByRecursion IsServing (dispatcher_service p o)
+  level_runs p known None is = tt
+  level_runs p known (Some i) is =
+      (ByLevel (record { level = p; known = known; of = is; handler = refl; priority = refl }), tt)
+
+  no_timer : (o : Option Mono) → app.mono ≡ o → AllByRecursion IsServing (timer_service o)
+  no_timer None is = tt
+  no_timer (Some mono) is = absurd (no_mono mono is)
+
+  all_serve : AllByRecursion IsServing (services app)
+  all_serve =
+      all_append IsServing (task_services 0 app.tasks) _ (tasks_run 0 app.tasks (all_from app.tasks))
+      (all_append IsServing _ (timer_service app.mono)
+      (all_flat_map IsServing (λ p. dispatcher_service p (dispatcher_of app p)) (levels app)
+      (all_from_members (λ p. AllByRecursion IsServing (dispatcher_service p (dispatcher_of app p))) (levels app)
+      (λ p known. level_runs p known (dispatcher_of app p) refl)))
+      (no_timer app.mono refl))
+
+  -- what serves an interrupt runs a task that binds it, or is a dispatcher
+  pub is_serving : (irq : ℕ) (v : Service) → service_at app irq ≡ Some v → IsServing v
+  is_serving irq v at = find_has IsServing _ (services app) v all_serve at
+
+  pub service_number : (irq : ℕ) (v : Service) → service_at app irq ≡ Some v → irq_number app v.irq ≡ Some irq
+  service_number irq v at =
+      some_number (irq_number app v.irq) irq
+      (found_passes (λ (s : Service). is_some_and (λ n. n == irq) (irq_number app s.irq)) (services app) v at)
+
+  module _ (p : ℕ) (level : Contains (levels app) p) where
+    -- the interrupt of a level's dispatcher, which no body pends
+    pub record Named : Type 0 where
+      pub index : ℕ
+      pub of : dispatcher_of app p ≡ Some index
+      pub number : irq_number app index ≡ Some (dispatcher_number app p)
+      pub unpended : is_pended app index ≡ false
+
+    unpended_at : (j : ℕ) → dispatcher_of app p ≡ Some j → is_pended app j ≡ false
+    unpended_at j of = by (is_pended app j) refl
+      where
+        task : (i : ℕ) × (x : Task) × (slice_get app.tasks i ≡ Some x) × (is_of_level p x ≡ true)
+        task = any_one (is_of_level p) app.tasks (level_task app accepted p level)
+
+        own : (is_software task.1 ≡ true) × ((task.1.priority == p) ≡ true)
+        own = and_parts (is_software task.1) (task.1.priority == p) task.3
+
+        pended : is_pended app j ≡ true → dispatcher_is_pended app task.1 ≡ true
+        pended is =
+            and_both (is_software task.1) (is_some_and (is_pended app) (dispatcher_of app task.1.priority)) own.0
+            (ap (λ q. is_some_and (is_pended app) (dispatcher_of app q)) (eqb-true task.1.priority p own.1)
+            ∙ ap (is_some_and (is_pended app)) of ∙ is)
+
+        by : (b : Bool) → is_pended app j ≡ b → b ≡ false
+        by false is = refl
+        by true is =
+            absurd (true_and_false (list_any (dispatcher_is_pended app) app.tasks)
+            (any_passes (dispatcher_is_pended app) app.tasks task.0 task.1 task.2 (pended is)) forms.1)
+
+    no_task : (n q : ℕ) → ¬ (Runs n ≡ Dispatches q)
+    no_task n q same = cc
+
+    pub named : Named
+    named = by (is_serving (dispatcher_number app p) served.0 served.1)
+      where
+        served : (v : Service) × (service_at app (dispatcher_number app p) ≡ Some v) × (v.priority ≡ p)
+        served = dispatcher_served app accepted p level
+
+        own : (served.0.handler ≡ Dispatches p) × (served.0.priority ≡ p)
+        own = dispatcher_serves app accepted p level served.0 served.1
+
+        by : IsServing served.0 → Named
+        by (ByTask runs) = absurd (no_task runs.task p (sym runs.handler ∙ own.0))
+        by (ByLevel runs) =
+            let same : runs.level ≡ p = same_level app accepted runs.level p (sym runs.handler ∙ own.0) in
+            let of : dispatcher_of app p ≡ Some served.0.irq =
+            subst (λ q. dispatcher_of app q ≡ Some served.0.irq) same runs.of in
+            record {
+              index = served.0.irq;
+              of = of;
+              number = service_number (dispatcher_number app p) served.0 served.1;
+              unpended = unpended_at served.0.irq of;
+            }
+
+    -- what a task binds is another interrupt
+    pub not_bound : (n : ℕ) (t : Task) (j : ℕ) → slice_get app.tasks n ≡ Some t → t.binds ≡ Some j
+        → ¬ (irq_number app j ≡ Some (dispatcher_number app p))
+    not_bound n t j at binds is =
+        let served = dispatcher_served app accepted p level in
+        let own = dispatcher_serves app accepted p level served.0 served.1 in
+        let w : Service = record { irq = j; handler = Runs (0 + n); priority = t.priority } in
+        let same : served.0 ≡ w =
+        only_service app accepted (dispatcher_number app p) served.0 w
+        (in_front (task_services 0 app.tasks) _ w (services_have app accepted 0 app.tasks n t j at binds)) is served.1
+        in
+        no_task (0 + n) p (sym (ap (λ (v : Service). v.handler) same) ∙ own.0)

@@ -4,11 +4,14 @@ use Rattle.std.proofs.Common.{◌≡◌, ℕ, zero, suc, ◌+◌, ◌-◌, ◌*�
 use Rattle.std.proofs.Common.{length, find, Option, Some, None, refl, sym, ap, subst, ◌∙◌, arith}
 use Rattle.std.proofs.lemmas.Bool.{eqb-true}
 use Rattle.std.proofs.lemmas.Option.{none-some, same_Some}
-use Rattle.rt_app.specs.Tree.{Statement, Bind, Assign, Branch, Repeat, Locked, Emit, Pend, Spawns, Block, Empty, Then}
-use Rattle.rt_app.specs.Tree.{App}
+use Rattle.rt_app.specs.Tree.{Spawn, Soon, After, Cancel, Move, Value, Calc, Now, Call, Statement, Bind, Assign, Branch}
+use Rattle.rt_app.specs.Tree.{Repeat, Locked, Emit, Pend, Spawns, Block, Empty, Then, App}
 use Rattle.rt_respond.specs.Number.{capped, plus, greater_of, times}
 use Rattle.rt_respond.specs.Handlers.{handlers, handled_block, is_at}
-use Rattle.rt_respond.specs.Work.{statement_sends, block_sends, handler_asks, pend_asks, work_within, work, sends}
+use Rattle.rt_respond.specs.Work.{spawn_sends, value_sends, statement_sends, block_sends, handler_asks, takes}
+use Rattle.rt_respond.specs.Work.{release_asks, work_within, work, sends}
+use Rattle.rt_respond.specs.declared.handler.Release.{Release}
+use Rattle.rt_respond.specs.declared.handler.Release.TheVariants as released_by
 use Rattle.rt_respond.specs.declared.handler.Handler.{Handler}
 use Rattle.rt_respond.specs.declared.number.TheConstants.{MOST_WORK}
 use Rattle.rt_respond_laws.proofs.Sending.{sums}
@@ -41,11 +44,22 @@ times_extends k None c first n is = by (k == 0) refl is
     by true test same = ap (λ m. times m c) (eqb-true k 0 test) ∙ times_none c ∙ same
     by false test same = absurd (none-some n same)
 
--- of code, where each `pend` that asks for a number asks for the same one
-module _ (f g : ℕ → Option ℕ) (more : (j : ℕ) → Extends (f j) (g j)) where
+-- of code, where each release that asks for a number asks for the same one
+module _ (f g : Release → Option ℕ) (more : (r : Release) → Extends (f r) (g r)) where
+  spawn_extends : (s : Spawn) → Extends (spawn_sends f s) (spawn_sends g s)
+  spawn_extends (Soon t args at) n is = more (released_by.Message t) n is
+  spawn_extends (After word delay t args at) n is = is
+  spawn_extends (Cancel word t handle at) n is = is
+  spawn_extends (Move word delay t handle at) n is = is
+
+  value_extends : (v : Value) → Extends (value_sends f v) (value_sends g v)
+  value_extends (Calc e) n is = is
+  value_extends (Now at) n is = is
+  value_extends (Call s) n is = spawn_extends s n is
+
   mutual
     statement_extends : (s : Statement) → Extends (statement_sends f s) (statement_sends g s)
-    statement_extends (Bind x v) n is = is
+    statement_extends (Bind x v) n is = value_extends v n is
     statement_extends (Assign x e at) n is = is
     statement_extends (Branch e first second) n is =
         greater_extends (block_sends f first) (block_sends f second) (block_sends g first) (block_sends g second)
@@ -54,8 +68,8 @@ module _ (f g : ℕ → Option ℕ) (more : (j : ℕ) → Extends (f j) (g j)) w
         times_extends (last - first) (block_sends f turn) (block_sends g turn) (block_extends turn) n is
     statement_extends (Locked r inner at) n is = block_extends inner n is
     statement_extends (Emit e) n is = is
-    statement_extends (Pend j) n is = more j n is
-    statement_extends (Spawns s) n is = is
+    statement_extends (Pend j) n is = more (released_by.Request j) n is
+    statement_extends (Spawns s) n is = spawn_extends s n is
 
     block_extends : (b : Block) → Extends (block_sends f b) (block_sends g b)
     block_extends Empty n is = is
@@ -80,14 +94,15 @@ module _ (app : App) (i : Handler) where
   within_more zero h n is = absurd (none-some n is)
   within_more (suc depth) h n is =
       choice_extends (is_at i h)
-      (plus (Some (h.steps + 1)) (block_sends (pend_asks app (work_within app i depth)) (handled_block app h)))
-      (plus (Some (h.steps + 1)) (block_sends (pend_asks app (work_within app i (suc depth))) (handled_block app h)))
-      (plus_extends (Some (h.steps + 1)) (block_sends (pend_asks app (work_within app i depth)) (handled_block app h))
-      (Some (h.steps + 1)) (block_sends (pend_asks app (work_within app i (suc depth))) (handled_block app h))
+      (plus (Some (h.steps + 1)) (block_sends (release_asks app (work_within app i depth)) (handled_block app h)))
+      (plus (Some (h.steps + 1)) (block_sends (release_asks app (work_within app i (suc depth))) (handled_block app h)))
+      (plus_extends (Some (h.steps + 1)) (block_sends (release_asks app (work_within app i depth)) (handled_block app
+      h))
+      (Some (h.steps + 1)) (block_sends (release_asks app (work_within app i (suc depth))) (handled_block app h))
       (λ n is. is)
-      (block_extends (pend_asks app (work_within app i depth)) (pend_asks app (work_within app i (suc depth)))
-      (λ irq. asks_extend (work_within app i depth) (work_within app i (suc depth)) (within_more depth)
-      (find (λ h. h.irq == irq) (handlers app))) (handled_block app h)))
+      (block_extends (release_asks app (work_within app i depth)) (release_asks app (work_within app i (suc depth)))
+      (λ r. asks_extend (work_within app i depth) (work_within app i (suc depth)) (within_more depth)
+      (find (takes r) (handlers app))) (handled_block app h)))
       n is
 
   -- the parts of a work
@@ -101,21 +116,23 @@ module _ (app : App) (i : Handler) where
   unfolding work_within
   parts_of h w zero all some at is below = absurd (omega (arith, some))
   parts_of h w (suc depth) all some at is below =
-      let own : plus (Some (h.steps + 1)) (block_sends (pend_asks app (work_within app i depth)) (handled_block app h))
+      let own : plus (Some (h.steps + 1)) (block_sends (release_asks app (work_within app i depth)) (handled_block app
+      h))
       ≡ Some w =
       sym (ap (λ b. if b then plus (Some (h.steps + 1))
-      (block_sends (pend_asks app (work_within app i depth)) (handled_block app h)) else Some 0) at) ∙ is in
+      (block_sends (release_asks app (work_within app i depth)) (handled_block app h)) else Some 0) at) ∙ is in
       let parts = sums (Some (h.steps + 1))
-      (block_sends (pend_asks app (work_within app i depth)) (handled_block app h)) w own below in
+      (block_sends (release_asks app (work_within app i depth)) (handled_block app h)) w own below in
       let first = same_Some (h.steps + 1) parts.first parts.first_is in
       let sum = parts.sum in
       record {
         releases = parts.second;
-        is = subst (λ n. block_sends (pend_asks app (work_within app i n)) (handled_block app h) ≡ Some parts.second)
+        is = subst (λ n. block_sends (release_asks app (work_within app i n)) (handled_block app h) ≡ Some parts.second)
             (sym all)
-            (block_extends (pend_asks app (work_within app i depth)) (pend_asks app (work_within app i (suc depth)))
-            (λ irq. asks_extend (work_within app i depth) (work_within app i (suc depth)) (within_more depth)
-            (find (λ h. h.irq == irq) (handlers app))) (handled_block app h) parts.second parts.second_is);
+            (block_extends (release_asks app (work_within app i depth)) (release_asks app (work_within app i (suc
+            depth)))
+            (λ r. asks_extend (work_within app i depth) (work_within app i (suc depth)) (within_more depth)
+            (find (takes r) (handlers app))) (handled_block app h) parts.second parts.second_is);
         sum = omega (arith, first, sum);
       }
 
@@ -129,7 +146,7 @@ module _ (app : App) (i : Handler) where
   behind_within h zero some behind = absurd (omega (arith, some))
   behind_within h (suc depth) some behind =
       ap (λ b. if b then plus (Some (h.steps + 1))
-      (block_sends (pend_asks app (work_within app i depth)) (handled_block app h)) else Some 0) behind
+      (block_sends (release_asks app (work_within app i depth)) (handled_block app h)) else Some 0) behind
 
   pub behind_asks : (h : Handler) → 0 < length (handlers app) → is_at i h ≡ false → work app i h ≡ Some 0
   behind_asks h some behind = behind_within h (length (handlers app)) some behind

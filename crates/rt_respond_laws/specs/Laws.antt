@@ -1,5 +1,5 @@
--- What holds of the runs of Baker's machine whose requests keep limits, of applications of hardware tasks whose bodies
--- may pend interrupts.
+-- What holds of the runs of Baker's machine whose requests keep limits, of applications whose bodies may pend
+-- interrupts of hardware tasks and spawn messages.
 use Rattle.std.specs.Prelude.{◌≡◌, true, List}
 use Rattle.rt_trace.specs.Label.{Label}
 use Rattle.rt_app.specs.Tree.{App}
@@ -12,6 +12,8 @@ use Rattle.rt_respond.specs.Form.{is_of_form}
 use Rattle.rt_respond.specs.Limits.{Limits, AreLimits}
 use Rattle.rt_respond_laws.specs.Moments.{QuietMoments}
 use Rattle.rt_respond_laws.specs.Served.{RespondsEach}
+use Rattle.rt_respond_laws.specs.Started.{RunsEach}
+use Rattle.rt_respond_laws.specs.Coming.{CausesWithin}
 
 -- Where requests from outside keep the limits, and no job's cost is spent before it ends, nothing of a handler is left
 -- within its response time from any moment on.
@@ -25,3 +27,15 @@ abbrev pub RunsRespondEach : Type 0
 RunsRespondEach = (app : App) → IsAccepted app → is_of_form app ≡ true → (limits : Limits) → AreLimits app limits
     → (labels : List Label) → RunsOn app (first app) labels → Kept limits.every labels → NoneIsSpent app labels
     → RespondsEach app limits labels
+
+-- Each message is started and done within the response time of its level's dispatcher.
+abbrev pub RunsRunEach : Type 0
+RunsRunEach = (app : App) → IsAccepted app → is_of_form app ≡ true → (limits : Limits) → AreLimits app limits
+    → (labels : List Label) → RunsOn app (first app) labels → Kept limits.every labels → NoneIsSpent app labels
+    → RunsEach app limits labels
+
+-- And all that comes of a request is done within what the report says of the two.
+abbrev pub RunsCauseWithin : Type 0
+RunsCauseWithin = (app : App) → IsAccepted app → is_of_form app ≡ true → (limits : Limits) → AreLimits app limits
+    → (labels : List Label) → RunsOn app (first app) labels → Kept limits.every labels → NoneIsSpent app labels
+    → CausesWithin app limits labels

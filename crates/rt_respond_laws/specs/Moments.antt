@@ -1,9 +1,12 @@
 -- Moments of a run of Baker's machine at which nothing at a handler is left. Between two such moments lies a busy
 -- period of the handler (Lehoczky, Fixed Priority Scheduling of Periodic Task Sets with Arbitrary Deadlines, 1990). A
 -- handler is at another where it is that one, or stands before it in the order.
-use Rattle.std.specs.Prelude.{◌≡◌, ℕ, ◌≤◌, true, false, List, ◌∷◌, ◌++◌, slice_index_or}
+use Rattle.std.specs.Prelude.{◌≡◌, ℕ, ◌≤◌, true, false, List, [], ◌∷◌, ◌++◌, slice_index_or}
 use Rattle.std.specs.List.{AllByRecursion}
 use Rattle.rt_ids.specs.Choice.{IsIn}
+use Rattle.rt_ids.specs.declared.ids.Section.TheVariants as section
+use Rattle.rt_actions.specs.Location.{Guarded}
+use Rattle.rt_actions.specs.Content.{messages}
 use Rattle.rt_trace.specs.Label.{Label, steps_of}
 use Rattle.rt_app.specs.Tree.{App}
 use Rattle.rt_laws.specs.State.{Role, Init, Idle, Waiting, Serving, State, first}
@@ -34,10 +37,13 @@ module _ (app : App) (i : Handler) where
   IsRoleAt Waiting = ⊥
   IsRoleAt (Serving irq) = IsNumberAt irq
 
-  -- nothing is left: no started job is at the handler, and no interrupt of a handler at it is pending
+  -- nothing is left: no started job is at the handler, no interrupt of a handler at it is pending, and no message is
+  -- ready whose dispatcher is at it
   pub record NothingIsLeft (s : State) : Type 0 where
     pub jobs : AllByRecursion (λ job. ¬ IsRoleAt job.role) s.jobs
     pub pending : (irq : ℕ) → IsNumberAt irq → slice_index_or s.pending irq false ≡ false
+    pub ready : (h : Handler) → IsIn (handlers app) h → h.is_dispatcher ≡ true → is_at i h ≡ true
+        → messages (s.values (Guarded (section.Ready h.priority))) ≡ []
 
   -- within so many core steps of these labels, behind those of a run, comes a moment at which nothing is left
   pub record ComesToNothing (before : List Label) (steps : ℕ) (labels : List Label) : Type 0 where

@@ -19,16 +19,26 @@ use Rattle.rt_core.specs.Core.{Core, reset}
 use Rattle.rt_core.specs.Stepping.{step}
 use Rattle.rt_core.specs.Trace.{tick, happen, labels}
 use Rattle.rt_core.specs.Transfer.{core_after_pend}
+use Rattle.rt_laws.specs.Run.{RunsOn}
 use Rattle.rt_laws.specs.Services.{is_declared}
+use Rattle.rt_laws.specs.State.{first}
+use Rattle.rt_laws.specs.Unspent.{NoneIsSpent}
 use Rattle.rt_laws.proofs.Pending.{some_number, made_number}
+use Rattle.rt_rta.specs.Kept.{Kept}
 use Rattle.rt_rta.specs.Limits.{is_bound, every_of}
 use Rattle.rt_rta.specs.Limits as rta
 use Rattle.rt_rta.specs.declared.limits.Limit.{Limit}
 use Rattle.rt_respond.specs.Form.{is_of_form}
 use Rattle.rt_respond.specs.Limits.{Limits, AreLimits}
+use Rattle.rt_respond_laws.specs.Coming.{CausesWithin}
+use Rattle.rt_respond_laws.specs.Moments.{QuietMoments}
+use Rattle.rt_respond_laws.specs.Served.{RespondsEach}
+use Rattle.rt_respond_laws.specs.Started.{RunsEach}
+use Rattle.rt_respond_laws.proofs.Caused.{runs_cause_within}
 use Rattle.rt_respond_laws.proofs.Coming.{runs_come_to_nothing}
+use Rattle.rt_respond_laws.proofs.Messages.{runs_run_each}
 use Rattle.rt_respond_laws.proofs.Responding.{runs_respond_each}
-use Rattle.rt_sim.specs.Good.{AreDeclared}
+use Rattle.rt_sim.specs.Good.{AreDeclared, CountsFit}
 use Rattle.rt_sim.proofs.Good.{images_are_good}
 use Rattle.rt_sim.proofs.Unspent.{images_leave_steps}
 use Rattle.rt_topx.specs.Responded.{RespondsEachInTime}
@@ -83,17 +93,24 @@ module _ (app : App) (limits : List Limit) (are : rta.AreLimits app limits) wher
       requests_declared img events (step img c).0
       (limits_behind (Stepped (step img c).1 ∷ []) (labels img (step img c).0 events) have)
 
+module _ (app : App) (img : Image) (accepted : IsAccepted app) (is_image : IsImageOf app img) (limits : Limits)
+    (are : AreLimits app limits) where
+  -- what holds of the runs of Baker's machine that keep the limits holds of what the image shows
+  of_runs : (Holds : List Label → Type 0) → ((ls : List Label) → RunsOn app (first app) ls → Kept limits.every ls
+      → NoneIsSpent app ls → Holds ls)
+      → (events : List Event) → CountsFit app img events → Kept limits.every (labels img (reset img) events)
+      → Holds (labels img (reset img) events)
+  of_runs Holds law events fit kept =
+      let declared = requests_declared app limits.every are.every img events (reset img) kept.limited in
+      law (labels img (reset img) events) ((images_are_good app img accepted is_image).each events fit declared).runs
+      kept (images_leave_steps app img accepted is_image events fit declared)
+
 pub images_respond_each : (app : App) (img : Image) → IsAccepted app → IsImageOf app img → is_of_form app ≡ true
     → (limits : Limits) → AreLimits app limits → RespondsEachInTime app limits img
-images_respond_each app img accepted is_image form limits are = record {
-  quiet = λ events fit kept.
-      let declared = requests_declared app limits.every are.every img events (reset img) kept.limited in
-      runs_come_to_nothing app accepted form limits are (labels img (reset img) events)
-      ((images_are_good app img accepted is_image).each events fit declared).runs kept
-      (images_leave_steps app img accepted is_image events fit declared);
-  served = λ events fit kept.
-      let declared = requests_declared app limits.every are.every img events (reset img) kept.limited in
-      runs_respond_each app accepted form limits are (labels img (reset img) events)
-      ((images_are_good app img accepted is_image).each events fit declared).runs kept
-      (images_leave_steps app img accepted is_image events fit declared);
-}
+images_respond_each app img accepted is_image form limits are =
+    let shown = of_runs app img accepted is_image limits are in record {
+      quiet = shown (QuietMoments app limits.every) (runs_come_to_nothing app accepted form limits are);
+      served = shown (RespondsEach app limits) (runs_respond_each app accepted form limits are);
+      run = shown (RunsEach app limits) (runs_run_each app accepted form limits are);
+      caused = shown (CausesWithin app limits) (runs_cause_within app accepted form limits are);
+    }

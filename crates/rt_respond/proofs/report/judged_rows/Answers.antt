@@ -30,7 +30,7 @@ loop-index-preserved c app hs_are each =
       | in-Some+in_ok-push w ↦
           let d = w.index-handlers-index-in-Some.result in
           let row : Judged = record {
-            irq = (get_or hs i d).irq;
+            task = (get_or hs i d).task;
             deadline = w.in-Some.deadline;
             is_met = w.is_within.result;
           } in
@@ -40,7 +40,7 @@ loop-index-preserved c app hs_are each =
           (judged_one app limits hs i h within is rows so_far w.in-Some.deadline (due ∙ sym w.in-Some.ensures) row
           w.push.new.self.items
           (record {
-            irq = ap (λ (h : Handler). h.irq) (get_or_other hs i d h within ∙ sym is);
+            task = ap (λ (h : Handler). h.task) (get_or_other hs i d h within ∙ sym is);
             deadline = due ∙ sym w.in-Some.ensures;
             response = get_or rs i (response.Steps 0);
             is_response = subst (λ h. IsResponse app limits.every h (get_or rs i (response.Steps 0))) (sym is)

@@ -28,6 +28,7 @@ loop-to-preserved c app limits graph before so_far from is =
     let to = get_or hs i c.index-handlers-to.result in
     let to_at = slice_get-get_or hs i c.index-handlers-to.result within in
     let irq_of : Handler → ℕ = λ h. h.irq in
+    let task_of_row : Handler → ℕ = λ h. h.task in
     let now = c.loop-to.invariant app limits graph before so_far from is in
     elim c.if-handlers-to.branch [
       | then-handlers-to+in-Some+in_ok-push w ↦
@@ -39,11 +40,11 @@ loop-to-preserved c app limits graph before so_far from is =
           w.in-Some.ensures.joined w.in-Some.lowest w.in-Some.ensures.lowest
           (record {
             from = (get_or hs f w.index-handlers-from-in-Some.result).irq;
-            to = (get_or hs i w.index-handlers-to-in-Some.result).irq;
+            to = (get_or hs i w.index-handlers-to-in-Some.result).task;
             response = get_or rs w.in-Some.lowest (response.Steps 0);
           })
           (response.Steps 0) w.push.new.self.items (ap irq_of (of_from w.index-handlers-from-in-Some.result))
-          (ap irq_of (get_or_other hs i w.index-handlers-to-in-Some.result c.index-handlers-to.result within)) refl
+          (ap task_of_row (get_or_other hs i w.index-handlers-to-in-Some.result c.index-handlers-to.result within)) refl
           w.in_ok-push.ensures.items)
       | then-handlers-to+in_default w ↦
           subst (λ (v : Vec Caused Global). AreCaused app limits

@@ -23,7 +23,7 @@ loop-index-preserved c =
     belong_next (IsServed (app_of c.args.app.now) c.args.limits.now) c.args.handlers.now c.loop-index.index
     c.index-handlers-index.result c.loop-index.rows.items c.push.new.self.items _ c.loop-index-test.true
     c.index-handlers-index.is c.loop-index.invariant (record {
-      irq = refl;
+      task = refl;
       priority = refl;
       response = subst (λ h. IsResponse (app_of c.args.app.now) c.args.limits.now.every h
           (get_or c.args.responses.now c.loop-index.index (response.Steps 0))) (sym c.index-handlers-index.is)
