@@ -1,7 +1,9 @@
 #!/usr/bin/env python3
-"""Tries the answers of `rticx bounds` on random listings, half of them with loops. Where the seven rules hold each line
-is compared with a reference of its own in bench/bounds, and the first of these images run under chance events on the
-core of bench/cortex: no job, section, wait or stack may exceed its bound. Where a rule is broken the answer is `no K`.
+"""Tries the answers of `rticx bounds` on random listings, half of them with loops, each without limits and under some.
+Where the seven rules hold each line is compared with a reference of its own in bench/bounds, and the first of these
+images run under chance events on the core of bench/cortex: no job, section, wait or stack may exceed its bound, and
+where requests keep the limits none may be served later than its response time says. Where a rule is broken the answer
+is `no K`.
 
     python3 bounding.py PROGRAM FOLDER [COUNT [SEED]]
 
@@ -26,6 +28,7 @@ from making import looping
 from reference import differs, read
 from rules import least_broken
 from runs import RATES, exceeding
+from times import differs_timed, is_pended, late, limits_text, read_limits
 
 COUNT = 5_000
 SEED = 7
@@ -33,9 +36,9 @@ RUN = 1_000
 DONE, REFUSED, BROKEN = 0, 3, 4
 
 
-def told(program, path):
-    """What the program answers to a listing, and its status."""
-    ran = subprocess.run([program, "bounds", path], capture_output=True, text=True, timeout=60, check=False)
+def told(program, *paths):
+    """What the program answers to a listing, and its status; a second file has limits."""
+    ran = subprocess.run([program, "bounds", *paths], capture_output=True, text=True, timeout=60, check=False)
     return ran.stdout, ran.returncode
 
 
@@ -56,15 +59,31 @@ def judged(text, answer, status):
     return differs(text, answer), "bounds with loops" if " - " in answer else "bounds"
 
 
-def tried(program, folder, number, text):
-    """What a listing counts as, what is wrong with its answer, if something is, and the answer where it has bounds."""
-    path = pathlib.Path(folder) / f"{number}.listing"
+def wrong_under(text, limits, plain, answer):
+    """What is wrong with the answer to a listing under limits, if something is; `plain` is that without them."""
+    names = [row.name for row in read(text)[1] if row]
+    known, refusal = read_limits(names, limits)
+    if refusal or plain[1] != DONE:
+        due = plain if plain[1] == REFUSED else (refusal, REFUSED) if refusal else plain
+        return None if answer == due else f"{answer} under limits, wanted {due}"
+    if is_pended(text):
+        return None if answer == ("no\n", BROKEN) else f"{answer} where a `post` stands"
+    wrong = differs_timed(text, known, answer[0])
+    return wrong if answer[1] == DONE else f"status {answer[1]} under limits"
+
+
+def tried(program, folder, number, text, limits):
+    """What a listing counts as, what is wrong with its answers, if something is, and these where it has bounds."""
+    path, beside = (pathlib.Path(folder) / f"{number}.{ending}" for ending in ("listing", "limits"))
     path.write_text(text)
-    answer, status = told(program, path)
-    wrong, kind = judged(text, answer, status)
+    beside.write_bytes(limits.encode())
+    plain, answer = told(program, path), told(program, path, beside)
+    wrong, kind = judged(text, *plain)
+    wrong = wrong or kind != "too many points" and wrong_under(text, limits, plain, answer)
     if not wrong:
         path.unlink()
-    return kind, wrong and f"{path}: {wrong}", answer if status == DONE else None
+        beside.unlink()
+    return kind, wrong and f"{path}: {wrong}", (plain[0], answer) if plain[1] == DONE else None
 
 
 def numbers(answer):
@@ -74,21 +93,26 @@ def numbers(answer):
             for row in rows}
 
 
-def ran(number, text, answer, seed):
+def ran(number, text, limits, answers, seed):
     """What runs of an image exceed."""
     notes = [line.note for line in read(text)[2]]
-    found = exceeding(text, notes, numbers(answer), random.Random(f"{seed} {number}"))
+    plain, (timed, status) = answers
+    found = exceeding(text, notes, numbers(plain), random.Random(f"{seed} {number}"))
+    if status == DONE:
+        names = [row.name for row in read(text)[1] if row]
+        found += late(text, read_limits(names, limits)[0], timed, random.Random(f"{seed} {number} limits"))
     return [f"{number}: {one}" for one in found]
 
 
 def main(program, folder, count=COUNT, seed=SEED):
     chance = random.Random(int(seed))
     texts = [some(chance) if number % 2 else looping(chance) for number in range(int(count))]
+    limits = [limits_text(text, chance) for text in texts]
     pathlib.Path(folder).mkdir(parents=True, exist_ok=True)
     with concurrent.futures.ThreadPoolExecutor(os.cpu_count()) as pool:
-        ends = list(pool.map(lambda one: tried(program, folder, *one), enumerate(texts)))
+        ends = list(pool.map(lambda at: tried(program, folder, at, texts[at], limits[at]), range(len(texts))))
     wrong = [one for _, one, _ in ends if one]
-    able = [(number, texts[number], answer, seed) for number, (_, _, answer) in enumerate(ends) if answer][:RUN]
+    able = [(at, texts[at], limits[at], answers, seed) for at, (_, _, answers) in enumerate(ends) if answers][:RUN]
     with concurrent.futures.ProcessPoolExecutor() as pool:
         exceeded = [one for found in pool.map(ran, *zip(*able)) for one in found] if able else []
     for line in [*wrong, *exceeded]:

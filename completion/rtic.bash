@@ -35,7 +35,8 @@ _rtic() {
     rticx:run | rticx:live) endings=(rtic board script) ;;
     rticx:audit) endings=(rtic board trace) ;;
     rticx:native) endings=(rtic board) ;;
-    rticx:why | rticx:bounds) endings=(listing) ;;
+    rticx:why) endings=(listing) ;;
+    rticx:bounds) endings=(listing limits) ;;
     rticx:cycles) endings=(rtic) ;;
     rticx:respond) endings=(rtic limits) ;;
     rticx:*) ;;

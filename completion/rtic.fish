@@ -11,8 +11,10 @@ function __rtic_wants --argument-names ending
             set endings rtic board trace
         case 'rticx native'
             set endings rtic board
-        case 'rticx why' 'rticx bounds'
+        case 'rticx why'
             set endings listing
+        case 'rticx bounds'
+            set endings listing limits
         case 'rticx cycles'
             set endings rtic
         case 'rticx respond'
@@ -78,8 +80,8 @@ for row in \
         'native:write an executable of an image for the ARMv7-M core of a board' \
         'why:judge as rtic verify does, and say where an image breaks a rule' \
         'cycles:write what an image costs on a Cortex-M4, in cycles' \
-        'bounds:write how many steps handlers and sections of an image can take, and its stack' \
-        'respond:write the response time of each interrupt, and what comes of requests'
+        'bounds:write the steps of handlers and sections of an image, its stack, and response times' \
+        'respond:write the response time of each task, and what comes of requests'
     set -l parts (string split -m 1 : $row)
     complete -c rticx -n __fish_is_first_token -a $parts[1] -d $parts[2]
 end

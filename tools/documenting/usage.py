@@ -12,7 +12,7 @@ ENDINGS = {
 }
 # the programs, each with the source of its top call and the page that has its tables of commands and of statuses
 PROGRAMS = {"rtic": ("crates/rt_top/src/top.rt", "README.md"), "rticx": ("crates/rt_topx/src/top.rt", "docs/RTICX.md")}
-FORM = r"\w+(?: [A-Z]+\d?)*"
+FORM = r"\w+(?: \[?[A-Z]+\d?\]?)*"
 
 
 def usage_line(program="rtic"):

@@ -11,12 +11,12 @@ NEEDS = {
     "monotonic": "there is no monotonic",
     "pend": {"times": "no body has a `pend`", "deepest": "`init` has no `pend`"},
     "cost": f"`init` costs at most {DEEPEST_INIT:,} core steps",
+    "turn": "no body has a `pend` of a dispatcher's interrupt",
 }
 WHY = {
     "software": {
         "times": "a message comes from a body, and not from outside with a least distance",
         "deepest": "only a run says whether a software task ever starts on top of the others",
-        "rticx respond": "it has no numbers for messages",
     },
     "monotonic": {
         "times": "the timer's requests come from ticks, and not with a least distance in core steps",
@@ -28,6 +28,7 @@ WHY = {
         "deepest": "such a request would fill the stack in an order of its own",
     },
     "cost": {"deepest": "a script has 1,000,000 events at most, and `init` takes its steps first"},
+    "turn": {"rticx respond": "it has no numbers for a dispatcher that finds no message"},
 }
 
 
@@ -41,9 +42,11 @@ class Failed:
 
 def failed(app, command):
     """The conditions of a command that an application does not meet."""
-    rows = [("software", software(app)), ("monotonic", monotonic(app))]
+    rows = [("software", software(app))] if command in WHY["software"] else []
+    rows += [("monotonic", monotonic(app))]
     rows += [("pend", pends(app, command))] if command in NEEDS["pend"] else []
     rows += [("cost", cost(app))] if command == "deepest" else []
+    rows += [("turn", turns(app))] if command in WHY["turn"] else []
     return [Failed(key, places) for key, places in rows if places]
 
 
@@ -56,16 +59,22 @@ def monotonic(app):
     return [(app.monotonic[0], f"the monotonic binds `{app.monotonic[1].text}`")] if app.monotonic else []
 
 
+def pends_of(body):
+    """The places of a body that pend, by the interrupt."""
+    return [(use.token.text, (Token("word", "pend", use.node.at),
+                              f"`{body.name.text}` requests `{use.token.text}` here"))
+            for use in uses_of(body) if use.role == "pend"]
+
+
 def pends(app, command):
-    found = []
-    for body in app.bodies:
-        if command == "deepest" and body.kind != "init":
-            continue
-        for use in uses_of(body):
-            if use.role == "pend":
-                label = f"`{body.name.text}` requests `{use.token.text}` here"
-                found.append((Token("word", "pend", use.node.at), label))
-    return found
+    bodies = [body for body in app.bodies if command != "deepest" or body.kind == "init"]
+    return [place for body in bodies for _, place in pends_of(body)]
+
+
+def turns(app):
+    """The places that pend the interrupt of a dispatcher in use."""
+    used = {token.text for token, _ in zip(app.dispatchers, app.levels())}
+    return [place for body in app.bodies for name, place in pends_of(body) if name in used]
 
 
 def cost(app):

@@ -1,10 +1,24 @@
 """Refused lines of limits texts: which word, and what is due."""
 import re
+from collections import namedtuple
 
 from .scripts import HASH, NUMERAL, Line, similar, words_with_places, write
 from .table import Phrase
 
 NAME = re.compile(r"[A-Za-z_][A-Za-z0-9_]*")
+ENABLED = re.compile(r"irq ([A-Za-z_][A-Za-z0-9_]*) \d+ \d", re.MULTILINE)
+Bound, Row = namedtuple("Bound", "text"), namedtuple("Row", "binds")
+
+
+class Rows:
+    """The enabled interrupts of a listing, as tasks that bind them."""
+
+    def __init__(self, text):
+        self.tasks = [Row(Bound(name)) for name in ENABLED.findall(text)]
+
+    def task(self, name):
+        """No interrupt of a listing is a task of a name."""
+        return None
 
 
 def limits_line(app, number, source, lines, size, table, takes):
@@ -67,8 +81,9 @@ def unknown(app, said, name, table):
     """No task binds the interrupt."""
     bound = [task.binds.text for task in app.tasks if task.binds]
     told = ", ".join(f"`{one}`" for one in bound[:12]) + (" and others" if len(bound) > 12 else "")
-    said.at(name, table.cause("limits 3", N=name))
-    said.helps = [table.mending("limits 3", I=Phrase(told or "none"))]
+    said.at(name, f"no interrupt `{name}` is enabled" if isinstance(app, Rows) else table.cause("limits 3", N=name))
+    enabled = f"those that are enabled are {told or 'none'}"
+    said.helps = [enabled if isinstance(app, Rows) else table.mending("limits 3", I=Phrase(told or "none"))]
     task = app.task(name)
     if task and task.binds:
         said.helps = [f"`{name}` is a task, and binds the interrupt `{task.binds.text}`"]

@@ -26,6 +26,7 @@ DONE, REFUSED, USAGE, BAD_LINE, NO, UNREAD = range(6)
 FORMLESS = b"- form\n"
 # the commands that judge the image of a listing
 JUDGING = ("verify", "rticx why", "rticx bounds")
+POST = re.compile(r"code \d+ post ")
 
 
 class Explained:
@@ -81,6 +82,9 @@ class Explained:
             self.page(pages.COMMANDS)
         elif status == BAD_LINE and (found := LINE_REFUSAL.match(front.decode("latin-1"))):
             self.bad_lines(found[1], int(found[2]), int(found[3]), found[4])
+        elif status == NO and front == b"no\n" and self.words[0] in JUDGING:
+            self.own_requests()
+            self.page(pages.VERIFY_TIMES)
         elif status == NO and self.words[0] in JUDGING:
             self.broken_rule(int(front.split()[1]))
             self.page(pages.VERIFY)
@@ -191,6 +195,8 @@ class Explained:
         if which == "image":
             text = self.text(0)
             said = images.image_line(number, lines, line, text[:FRONT], text.endswith("\n"), size, self.table, takes)
+        elif which == "limits" and self.words[0] in JUDGING:
+            said = limits.limits_line(limits.Rows(self.text(0)), number, source, lines, size, self.table, takes)
         elif which == "board":
             said = boards.board_line(tree_of(self.text(0)), number, source, lines, size, self.table, takes)
         elif said := self.beside_board(which, number, source):
@@ -206,7 +212,7 @@ class Explained:
         self.report.head(self.names[place], line, said.start + 1, f"{which} {number} {words}")
         self.report.rows([(line, source)], said.start, said.length, "")
         self.report.sentences([("cause", said.cause)] + [("help", one) for one in said.helps])
-        self.page(pages.of_line(which, self.is_beside))
+        self.page(pages.of_line(which, self.is_beside and not (which == "limits" and self.words[0] in JUDGING)))
 
     def page(self, section):
         """The section of the documents that says more."""
@@ -218,6 +224,18 @@ class Explained:
             return None
         of_line = boards.given_line if which == "script" else boards.shown_line
         return of_line(tree_of(self.text(0)), self.text(1).splitlines(), number, source, self.table)
+
+    def own_requests(self):
+        """Where an image requests interrupts itself."""
+        text, report = self.text(0), self.report
+        report.line(wording.FORMS[self.words[0]])
+        found = [at for at, line in enumerate(text.splitlines(), 1) if POST.match(line)]
+        for at in found[:PLACES]:
+            line = text.splitlines()[at - 1]
+            report.head(self.names[0], at, 1, "no")
+            report.rows([(at, line)], 0, len(line), "this instruction requests an interrupt")
+        if len(found) > PLACES:
+            report.say("note", f"{len(found) - PLACES} more places are not shown")
 
     def broken_rule(self, number):
         """The least rule that an image breaks, and where."""

@@ -2,7 +2,7 @@
 GRAMMAR, FORMS = ("LANGUAGE", "Applications"), ("LANGUAGE", "Each form by an example")
 NAMES, USERS = ("LANGUAGE", "What names mean"), ("LANGUAGE", "Who may use a resource")
 REFUSALS = ("LANGUAGE", "Refusals")
-RESPOND = ("TIMES", "Where bodies pend: `rticx respond`")
+RESPOND = ("TIMES", "Where bodies pend or spawn: `rticx respond`")
 OF_RULES = {
     5: NAMES, 6: NAMES, 7: USERS, 8: USERS, 9: USERS, 10: USERS, 11: USERS, 12: FORMS, 13: USERS, 14: USERS, 15: USERS,
     16: ("LANGUAGE", "Messages that wait"), 17: ("BOUNDS", "Costs: core steps of a run that is not interrupted"),
@@ -15,7 +15,7 @@ OF_LINES = {
 AUDITS, COMMANDS = ("LANGUAGE", "Audits"), ("LANGUAGE", "What each command takes")
 OF_FORMS = {"times": ("TIMES", "For which applications"), "deepest": ("DEEPEST", "For which applications"),
             "rticx respond": RESPOND}
-VERIFY = ("VERIFY", "The seven rules")
+VERIFY, VERIFY_TIMES = ("VERIFY", "The seven rules"), ("VERIFY", "How long it takes: `rticx bounds`")
 
 
 def of_refusal(number, in_body):
@@ -40,5 +40,5 @@ def named(section):
 
 def all_sections():
     """Every section that is told of."""
-    rows = [GRAMMAR, FORMS, REFUSALS, AUDITS, COMMANDS, VERIFY]
+    rows = [GRAMMAR, FORMS, REFUSALS, AUDITS, COMMANDS, VERIFY, VERIFY_TIMES]
     return rows + [row for table in (OF_RULES, OF_LINES, OF_FORMS) for row in table.values()]

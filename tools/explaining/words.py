@@ -8,13 +8,13 @@ COMMANDS = {
     "live": ("APP", "SCRIPT"), "soak": ("APP", "NUMBER", "COUNT", "WORKERS"), "demo": ("N",), "deepest": ("APP",),
     "times": ("APP", "LIMITS"), "verify": ("IMAGE",), "pair": ("APP1", "APP2", "SCRIPT"),
 }
-# the second program's name, and its commands, each behind that name
+# the second program's name, and its commands, each behind that name; a word in brackets may be left out
 BESIDE = "rticx"
 COMMANDS_BESIDE = {
     "rticx run": ("APP", "BOARD", "SCRIPT"), "rticx audit": ("APP", "BOARD", "TRACE"),
     "rticx live": ("APP", "BOARD", "SCRIPT"), "rticx native": ("APP", "BOARD"), "rticx why": ("IMAGE",),
     "rticx cycles": ("APP",),
-    "rticx bounds": ("IMAGE",),
+    "rticx bounds": ("IMAGE", "[LIMITS]"),
     "rticx respond": ("APP", "LIMITS"),
 }
 TAKEN = {**COMMANDS, **COMMANDS_BESIDE}
@@ -27,7 +27,9 @@ FORMS = {
     "deepest": "`deepest` is for hardware tasks alone, without a monotonic, and an `init` that has no `pend` and costs "
                "at most 900,000",
     "times": "`times` is for hardware tasks alone, without a monotonic and without a `pend`",
-    "rticx respond": "`rticx respond` is for hardware tasks alone, without a monotonic",
+    "rticx respond": "`rticx respond` is for applications without a monotonic and without a `pend` of a dispatcher's "
+                     "interrupt",
+    "rticx bounds": "`rticx bounds` has response times of images whose requests come from outside alone",
 }
 
 
@@ -53,6 +55,16 @@ def is_of_beside(words):
     return bool(words) and words[0].split(" ")[0] == BESIDE
 
 
+def is_count(words, wanted):
+    """Whether there are as many words behind the first as a command that wants these takes."""
+    return fewest(wanted) <= len(words) - 1 <= len(wanted)
+
+
+def fewest(wanted):
+    """How many words there are at least."""
+    return sum(not kind.startswith("[") for kind in wanted)
+
+
 def files_of(words):
     """Those of the words after a command that name its files."""
     return [word for word, kind in zip(words[1:], TAKEN.get(words[0] if words else "", ())) if kind not in RANGES]
@@ -60,7 +72,7 @@ def files_of(words):
 
 def inputs_of(words):
     """The positions of the files that are standard input, where the words are as many as their command takes."""
-    if not words or len(words) != 1 + len(TAKEN.get(words[0], ())):
+    if not words or not is_count(words, TAKEN.get(words[0], ())):
         return []
     return [place for place, name in enumerate(files_of(words), 1) if name == INPUT]
 
@@ -76,7 +88,7 @@ def is_in_range(word, kind):
 def is_command(words):
     """Whether the words are a command."""
     wanted = TAKEN.get(words[0] if words else "")
-    return wanted is not None and len(words) - 1 == len(wanted) and all(map(is_in_range, words[1:], wanted))
+    return wanted is not None and is_count(words, wanted) and all(map(is_in_range, words[1:], wanted))
 
 
 def without_all(words):
@@ -95,7 +107,7 @@ def wrong_word(words):
     if len(inputs := inputs_of(words)) > 1:
         return inputs[1]
     wanted = TAKEN[words[0]]
-    if len(words) - 1 == len(wanted):
+    if is_count(words, wanted):
         for place, (word, kind) in enumerate(zip(words[1:], wanted)):
             if not is_in_range(word, kind):
                 return place + 1
@@ -107,14 +119,15 @@ def of_command(words):
     wanted, given = TAKEN[words[0]], len(words) - 1
     if len(inputs_of(words)) > 1:
         return ONE_INPUT
-    if given == len(wanted):
+    if is_count(words, wanted):
         place = wrong_word(words)
         least, most = RANGES[wanted[place - 1]]
         return f"{wanted[place - 1]} is {least} to {most:,}, in one to twenty digits, and `{words[place]}` is not"
     kind = "file" if not RANGES.keys() & set(wanted) else "word"
     noun, verb = kind if len(wanted) == 1 else kind + "s", "is" if given == 1 else "are"
     listed = ", ".join(wanted[:-1]) + " and " + wanted[-1] if len(wanted) > 1 else wanted[0]
-    return f"`{words[0]}` takes {len(wanted)} {noun}, {listed}, and {given or 'none'} {verb} here"
+    count = f"{fewest(wanted)} or {len(wanted)}" if fewest(wanted) < len(wanted) else len(wanted)
+    return f"`{words[0]}` takes {count} {noun}, {listed}, and {given or 'none'} {verb} here"
 
 
 def of_words(words):

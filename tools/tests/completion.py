@@ -115,9 +115,10 @@ SHELLS = {"bash": by_bash, "zsh": by_zsh, "fish": by_fish}
 
 def due_of_place(operand):
     """The names that are due first for an operand, and those that may come after them."""
-    if operand not in ENDINGS:
+    # an operand in brackets may be left out
+    if operand.strip("[]") not in ENDINGS:
         return [], set()
-    ending = ENDINGS[operand]
+    ending = ENDINGS[operand.strip("[]")]
     others = {f"one.{other}" for other in ENDINGS.values() if other != ending} | {OTHER}
     return [f"one.{ending}", FOLDER], set() if ending == "rtic" else others
 

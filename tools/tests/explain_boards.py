@@ -132,7 +132,18 @@ LISTINGS = (
      "there is no slot 9: the frame of the handler of `LO` has 4 words, the last number of its `irq` row, in line 3"),
     (APP, 3, "image:1 2 bad line", "an application begins so, and the listing of an image is due"),
 )
-FORMLESS = "`rticx respond` asks that all tasks bind an interrupt, because it has no numbers for messages"
+TURN = APP.replace("spawn digest(received);", "spawn digest(received); pend D;")
+FORMLESS = ("`rticx respond` asks that no body has a `pend` of a dispatcher's interrupt, because it has no numbers for "
+            "a dispatcher that finds no message")
+# A row: a listing, limits of it, the status, the answer, and sentences that must come.
+TIMED = (
+    (GUARDED, "every LO 100\nevery XX 9", 3, "limits:2 3 unknown interrupt", "no interrupt `XX` is enabled",
+     "those that are enabled are `LO`, `HI`"),
+    (GUARDED, "every LO 0", 3, "limits:1 2 bad line", "requests lie at least 1 core step apart"),
+    (GUARDED.replace("code 10 set 0 0", "code 10 post LO"), "every LO 100", 4, "no",
+     "`rticx bounds` has response times of images whose requests come from outside alone",
+     "this instruction requests an interrupt"),
+)
 # A row: limits, the status, the answer, and sentences that must come.
 LIMITS = (
     ("every UART0 0", 3, "limits:1 2 bad line", "the least number is 1, and this one is of core steps"),
@@ -149,17 +160,22 @@ LIMITS = (
     ("deadline PIN", 3, "limits:1 2 bad line", "the form is `deadline X N`"),
     ("period PIN 50", 3, "limits:1 2 bad line", "no line of limits begins with `period`",
      "the lines are `every I N`, `tick N`, `delay T N`, `deadline X N` and `# ..`"),
-    ("every PIN 50", 0, "- form", FORMLESS, "`digest` binds no interrupt, so it is a software task"),
+)
+# The same of an application with a turn of a dispatcher that may find no message.
+TURNS = (
+    ("every PIN 50", 0, "- form", FORMLESS, "`rx` requests `D` here"),
     ("deadline digest 50", 4, "- form\nlate digest 50", FORMLESS),
 )
 WORDS = (
     (["rticx"], "the commands are `rticx run APP BOARD SCRIPT`, `rticx audit APP BOARD TRACE`, "
                 "`rticx live APP BOARD SCRIPT`, `rticx native APP BOARD`, `rticx why IMAGE`, `rticx cycles APP`, "
-                "`rticx bounds IMAGE` and `rticx respond APP LIMITS`"),
+                "`rticx bounds IMAGE [LIMITS]` and `rticx respond APP LIMITS`"),
     (["rticx", "run", "app", "board"], "`rticx run` takes 3 files, APP, BOARD and SCRIPT, and 2 are here"),
     (["rticx", "rum", "app"], "a command of a similar name is `rticx run`"),
     (["run", "app", "board", "script"], "with a board it is the second program's: `rticx run app board script`"),
     (["rticx", "native", "app"], "`rticx native` takes 2 files, APP and BOARD, and 1 is here"),
+    (["rticx", "bounds", "image", "limits", "third"],
+     "`rticx bounds` takes 1 or 2 files, IMAGE and [LIMITS], and 3 are here"),
     (["rticx", "live", "app", "board"], "`rticx live` takes 3 files, APP, BOARD and SCRIPT, and 2 are here"),
 )
 
@@ -190,8 +206,11 @@ def rows():
         yield "audit", (APP, BOARD, trace), 4, f"no {number}", sentences
     for listing, status, answer, *sentences in LISTINGS:
         yield "why", (listing,), status, answer, sentences
-    for limits, status, answer, *sentences in LIMITS:
-        yield "respond", (APP, limits), status, answer, sentences
+    for app, table in ((APP, LIMITS), (TURN, TURNS)):
+        for limits, status, answer, *sentences in table:
+            yield "respond", (app, limits), status, answer, sentences
+    for listing, limits, status, answer, *sentences in TIMED:
+        yield "bounds", (listing, limits), status, answer, sentences
 
 
 def compare(folder, program):

@@ -105,7 +105,9 @@ def try_toolchain(place):
         if count:
             found = place.ended([command, "-", *words[1:]], TEXT)[:2]
             place.expect(f"{command} - to the toolchain", found == (0, due))
-        for other in (words[1:], words + ["file"]):
+        # an operand in brackets may be left out
+        free = sum(operand.startswith("[") for operand in operands)
+        for other in (words[1 + free:], words + ["file"]):
             found = place.ended([command, *other])[:2]
             place.expect(f"{command} with {len(other)} words", found == (2, usage))
     for words in ([], ["compile", "file"], ["--help", "file"], ["-"], ["run|check", "file"]):

@@ -9,6 +9,11 @@ abbrev when : Bool → Command → Option Command → Option Command
 when true c other = Some c
 when false c other = other
 
+-- `bounds`, by the words behind it
+abbrev bounds_named : List (List ℕ) → Command
+bounds_named (image ∷ []) = command.Bounds
+bounds_named words = command.TimedBounds
+
 -- the one command that words can name, by the first
 abbrev command_named : List (List ℕ) → Option Command
 command_named [] = None
@@ -16,7 +21,7 @@ command_named (verb ∷ words) =
     when (bytes_eq verb (codes "run")) command.Run (when (bytes_eq verb (codes "audit")) command.Audit
     (when (bytes_eq verb (codes "live")) command.Live (when (bytes_eq verb (codes "native")) command.Native
     (when (bytes_eq verb (codes "why")) command.Why (when (bytes_eq verb (codes "cycles")) command.Cycles
-    (when (bytes_eq verb (codes "bounds")) command.Bounds (when (bytes_eq verb (codes "respond")) command.Respond
+    (when (bytes_eq verb (codes "bounds")) (bounds_named words) (when (bytes_eq verb (codes "respond")) command.Respond
     None)))))))
 
 names_it : (words : List (List ℕ)) (c : Command) → NamesCommand words c → command_named words ≡ Some c
@@ -27,6 +32,7 @@ names_it words command.Native named = ap command_named named.2
 names_it words command.Why named = ap command_named named.1
 names_it words command.Cycles named = ap command_named named.1
 names_it words command.Bounds named = ap command_named named.1
+names_it words command.TimedBounds named = ap command_named named.2
 names_it words command.Respond named = ap command_named named.2
 
 -- words name one command at most

@@ -48,16 +48,18 @@ refused_beside app is board of_board r refused says = record {
   says = says;
 }
 
--- all commands but two begin with an application, and those with a third text go on with a board
-pub begins : (c : Command) → c ≢ command.Why → c ≢ command.Bounds → kinds_of c ≡ kind.Application ∷ drop 1 (kinds_of c)
-begins command.Run why bounds = refl
-begins command.Audit why bounds = refl
-begins command.Live why bounds = refl
-begins command.Native why bounds = refl
-begins command.Why why bounds = absurd (why refl)
-begins command.Cycles why bounds = refl
-begins command.Bounds why bounds = absurd (bounds refl)
-begins command.Respond why bounds = refl
+-- all commands but three begin with an application, and those with a third text go on with a board
+pub begins : (c : Command) → c ≢ command.Why → c ≢ command.Bounds → c ≢ command.TimedBounds
+    → kinds_of c ≡ kind.Application ∷ drop 1 (kinds_of c)
+begins command.Run why bounds timed = refl
+begins command.Audit why bounds timed = refl
+begins command.Live why bounds timed = refl
+begins command.Native why bounds timed = refl
+begins command.Why why bounds timed = absurd (why refl)
+begins command.Cycles why bounds timed = refl
+begins command.Bounds why bounds timed = absurd (bounds refl)
+begins command.TimedBounds why bounds timed = absurd (timed refl)
+begins command.Respond why bounds timed = refl
 
 pub goes_on : (b : Beside) → drop 1 (kinds_of (command_of b)) ≡ kind.Board ∷ drop 2 (kinds_of (command_of b))
 goes_on beside.Run = refl

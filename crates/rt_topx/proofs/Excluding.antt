@@ -2,6 +2,7 @@
 use Rattle.std.specs.Str.Lines.{lines}
 use Rattle.std.proofs.Common.{◌≡◌, ℕ, Bool, true, false, if◌then◌else◌, List, inl, inr, refl, sym, ap, subst, ◌∙◌}
 use Rattle.std.proofs.Common.{arith}
+use Rattle.rt_lemmas.proofs.Bools.{true_and_false}
 use Rattle.rt_ids.specs.declared.status.Status.{Status}
 use Rattle.rt_ids.specs.declared.status.Status.TheVariants as status
 use Rattle.rt_app.specs.Names.{names_of}
@@ -25,7 +26,13 @@ use Rattle.rt_inputs_audit.specs.Audit.{IsVerdictBeside, JudgedBeside}
 use Rattle.rt_inputs_audit.specs.Reading.{Told, Standing, IsInputsText, inputs_reader}
 use Rattle.rt_inputs_audit.specs.Reading as trace
 use Rattle.rt_inputs_audit.specs.declared.refusal.Cause as in_trace
+use Rattle.rt_image_times.specs.Form.{requests_itself}
+use Rattle.rt_image_times.specs.Text as image_limits
+use Rattle.rt_image_times.specs.Text.{IsImageLimitsText, image_limits_reader}
 use Rattle.rt_load.proofs.OneWay as listings
+use Rattle.rt_load.specs.Reading.{IsListingText}
+use Rattle.rt_rta.specs.declared.limits.Limit.{Limit}
+use Rattle.rt_rta.specs.declared.refusal.LimitsRefused.{LimitsRefused}
 use Rattle.rt_points.specs.Checked.{IsChecked}
 use Rattle.rt_respond.specs.Answer.{IsAnswer}
 use Rattle.rt_respond.specs.Limits.{Limits}
@@ -42,19 +49,21 @@ use Rattle.rt_target.specs.declared.refusal.Cause.{Cause}
 use Rattle.rt_target.specs.declared.refusal.Cause.TheVariants as cause
 use Rattle.rt_trace.specs.Reading.{total_of}
 use Rattle.rt_top.specs.Program.{Inputs, each_of}
+use Rattle.rt_top.specs.SecondRefusal.{SaysLimits as SaysImageLimits}
 use Rattle.rt_top.proofs.Due.{AreDue, due_as, SaysWhether, whether_once, AreOfKinds, IsLawful}
 use Rattle.rt_top.proofs.Excluding.{application_passes, application_only, image_read}
 use Rattle.rt_topx.specs.declared.command.Command.{Command}
 use Rattle.rt_topx.specs.declared.command.Command.TheVariants as command
 use Rattle.rt_topx.specs.Kinds.{TextKind, kinds_of, IsOfKind, IsRefusedBy}
 use Rattle.rt_topx.specs.Kinds as kind
-use Rattle.rt_topx.specs.Refusal.{RefusesBoard, RefusesTarget, RefusesLimits, RefusesBeside}
+use Rattle.rt_topx.specs.Refusal.{RefusesBoard, RefusesTarget, RefusesLimits, RefusesImageLimits}
+use Rattle.rt_topx.specs.Refusal.{RefusesBeside}
 use Rattle.rt_topx.specs.Refusal.{SaysBoard, SaysLimits, SaysScript, SaysTrace}
 use Rattle.rt_topx.specs.Responded.{IsResponded}
 use Rattle.rt_topx.specs.Outputs.{IsAudited, Says, IsMadeNative}
 use Rattle.rt_topx.specs.Executable.{Misfits, IsMade}
 use Rattle.rt_topx.specs.Bounded as bounded
-use Rattle.rt_topx.specs.Bounded.{TellsBounds}
+use Rattle.rt_topx.specs.Bounded.{TellsBounds, TellsTimedBounds, IsBoundedUnder}
 use Rattle.rt_topx.specs.Explained.{Explains}
 use Rattle.rt_topx.specs.Explained as explained
 use Rattle.rt_topx.specs.Target.{target_of}
@@ -86,6 +95,14 @@ limits_read app more line l r is (too_long long) says = omega (arith, is.short, 
 limits_read app more line l r is (first_wrong n w first) says =
     (read_one_way (limits_reader app)).not_both more l n w is first
 limits_read app more line l r is no_memory says = says
+
+-- limits for an image
+image_limits_read : (img : Image) (more line : List ℕ) (l : List Limit) (r : LimitsRefused)
+    → IsImageLimitsText img more l → image_limits.AreImageLimitsRefused img more r → SaysImageLimits r line → ⊥
+image_limits_read img more line l r is (image_limits.too_long long) says = omega (arith, is.short, long)
+image_limits_read img more line l r is (image_limits.first_wrong n w first) says =
+    (read_one_way (image_limits_reader img)).not_both more l n w is first
+image_limits_read img more line l r is image_limits.no_memory says = says
 
 -- a script, over an application and beside a board
 script_read : (app : App) (b : boards.Board) (more line : List ℕ) (s : List GivenLine) (r : TextRefused in_script.Cause)
@@ -142,6 +159,13 @@ limits_passes text more line app is l read r =
     limits_read r.app more line l r.refusal
     (subst (λ a. IsLimitsText a more l) (application_only text app r.app is r.of_text) read) r.refused r.says
 
+image_limits_passes : (text more line : List ℕ) (img : Image) → IsListingText text img → (l : List Limit)
+    → IsImageLimitsText img more l → RefusesImageLimits text more line → ⊥
+image_limits_passes text more line img is l read r =
+    image_limits_read r.image more line l r.refusal
+    (subst (λ i. IsImageLimitsText i more l) (listings.read_one_way.one_image text img r.image is r.of_text) read)
+    r.refused r.says
+
 -- what is of a kind over an application and beside a board is not refused there
 beside_passes : {S R : Type 0} (IsOf : App → boards.Board → List ℕ → S → Type 0)
     (IsRefused : App → boards.Board → List ℕ → R → Type 0) (Says : R → List ℕ → Type 0)
@@ -174,6 +198,8 @@ one_of_each kind.Trace t text ended line (app, is, b, of_board, told, read) (as_
     trace_read t.first t.second text line app is b of_board told read r
 one_of_each kind.Listing t text ended line (image, is) (told, (refusal, met, says)) =
     image_read text line image refusal is met says
+one_of_each kind.ImageLimits t text ended line (image, is, l, read) (told, r) =
+    image_limits_passes t.first text line image is l read r
 
 -- a verdict says whether the lines are right
 judged_so : (app : App) (b : boards.Board) (told : Told) (v : Verdict) (ended : Status) (bytes : List ℕ)
@@ -253,6 +279,31 @@ bounded_so image ended bytes (bounded.has_bounds b checked are hold) = inl (refl
 bounded_so image ended bytes (bounded.breaks rule least) =
     inr (refl, λ (checked : IsChecked image). least.broken (checked least.rule))
 
+-- so does one under limits, and whether requests come from outside alone
+timed_so : (image : Image) (limits : List Limit) (ended : Status) (bytes : List ℕ)
+    → TellsTimedBounds image limits ended bytes
+    → SaysWhether (IsChecked image × (requests_itself image ≡ false)) ended
+timed_so image limits ended bytes (bounded.has_times b rows checked none are hold times) =
+    inl (refl, (checked, none))
+timed_so image limits ended bytes (bounded.is_of_no_form checked asks) =
+    inr (
+      refl,
+      λ (both : IsChecked image × (requests_itself image ≡ false)).
+          true_and_false (requests_itself image) asks both.1,
+    )
+timed_so image limits ended bytes (bounded.breaks_one rule least) =
+    inr (refl, λ (both : IsChecked image × (requests_itself image ≡ false)). least.broken (both.0 least.rule))
+
+bounded_under_so : (text more : List ℕ) (a b : Status) (x y : List ℕ) → IsBoundedUnder text more a x
+    → IsBoundedUnder text more b y → AreDue a b
+bounded_under_so text more a b x y one other =
+    let image : other.image ≡ one.image =
+    listings.read_one_way.one_image text other.image one.image other.of_text one.of_text in
+    whether_once (IsChecked one.image × (requests_itself one.image ≡ false)) a b
+    (timed_so one.image one.limits a x one.tells)
+    (subst (λ i. SaysWhether (IsChecked i × (requests_itself i ≡ false)) b) image
+    (timed_so other.image other.limits b y other.tells))
+
 explained_so : (image : Image) (ended : Status) (bytes : List ℕ) → Explains image ended bytes
     → SaysWhether (IsChecked image) ended
 explained_so image ended bytes (explained.is_safe checked safe) = inl (refl, checked)
@@ -290,6 +341,7 @@ one_refusal kind.Limits t text a b x y r s = due_as status.Text a b tt r.0 s.0
 one_refusal kind.Script t text a b x y r s = due_as status.Text a b tt r.0 s.0
 one_refusal kind.Trace t text a b x y r s = due_as status.Text a b tt r.0 s.0
 one_refusal kind.Listing t text a b x y r s = due_as status.Text a b tt r.0 s.0
+one_refusal kind.ImageLimits t text a b x y r s = due_as status.Text a b tt r.0 s.0
 
 -- where there is an output each text is of its kind
 all_read : (c : Command) (t : Inputs) (ended : Status) (bytes : List ℕ) → IsOutputOf c t ended bytes
@@ -313,6 +365,10 @@ all_read command.Native t ended bytes w = (
 all_read command.Why t ended bytes (image, is, explains) = ((image, is), tt)
 all_read command.Cycles t ended bytes (is, w) = ((w.app, w.of_text), tt)
 all_read command.Bounds t ended bytes (image, is, tells) = ((image, is), tt)
+all_read command.TimedBounds t ended bytes w = (
+  (w.image, w.of_text),
+  ((w.image, w.of_text, w.limits, w.read), tt),
+)
 all_read command.Respond t ended bytes w = (
   (w.app, w.of_text),
   ((w.app, w.of_text, w.limits, w.read), tt),
@@ -333,6 +389,7 @@ one_output command.Bounds t a b x y (image, is, one) (other, is', told) =
     whether_once (IsChecked image) a b (bounded_so image a x one)
     (subst (λ i. SaysWhether (IsChecked i) b) (listings.read_one_way.one_image t.first other image is' is)
     (bounded_so other b y told))
+one_output command.TimedBounds t a b x y w v = bounded_under_so t.first t.second a b x y w v
 one_output command.Respond t a b x y w v = responded_so t.first t.second a b x y w v
 
 pub lawful : IsLawful rticx_program

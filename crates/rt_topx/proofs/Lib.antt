@@ -10,4 +10,5 @@ mod Making
 mod Reading
 mod Explaining
 mod Bounding
+mod Timing
 mod Responding

@@ -1,18 +1,24 @@
 -- What `bounds` writes of a text that is the listing of an image, whatever made it: bounds in core steps, which hold on
 -- every run of the image, or the rule that it breaks. The form is this project's own.
-use Rattle.std.specs.Prelude.{ℕ, ◌≤◌, List, Option, ◌++◌, codes, decimal}
+use Rattle.std.specs.Prelude.{◌≡◌, ℕ, ◌≤◌, true, false, List, Option, ◌++◌, codes, decimal}
 use Rattle.rt_ids.specs.Event.{Event}
 use Rattle.rt_ids.specs.declared.status.Status.{Status}
 use Rattle.rt_ids.specs.declared.status.Status.TheVariants as status
 use Rattle.rt_code.specs.Image.{Image}
 use Rattle.rt_core.specs.Core.{reset}
 use Rattle.rt_core.specs.Trace.{core_after, depth_after}
+use Rattle.rt_image_times.specs.Form.{requests_itself}
+use Rattle.rt_image_times.specs.Report.{times_text}
+use Rattle.rt_image_times.specs.Response.{AreTimes}
+use Rattle.rt_image_times.specs.Text.{IsImageLimitsText}
+use Rattle.rt_image_times.specs.declared.response.TimeBound.{TimeBound}
 use Rattle.rt_load.specs.Reading.{IsListingText}
 use Rattle.rt_points.specs.Checked.{IsChecked, IsLeastBroken}
 use Rattle.rt_bounds.specs.Bounds.{AreBounds}
 use Rattle.rt_bounds.specs.Text.{bounds_text}
 use Rattle.rt_bounds.specs.declared.bound.Bounds.{Bounds}
 use Rattle.rt_bounds.specs.declared.longest.Longest.{Longest}
+use Rattle.rt_rta.specs.declared.limits.Limit.{Limit}
 use Rattle.rt_timely.specs.InTime.{AreInTime, AreLeftInTime}
 use Rattle.rt_timely.specs.Told.{AreTold}
 use Rattle.rt_timely.specs.Waiting.{IsWaiting, LieInOneSection, RunsTheHighest, lower, steppers}
@@ -47,3 +53,24 @@ pub data TellsBounds (image : Image) : Status → List ℕ → Type 0 where
 -- `bounds`: the status and the text for the listing of an image
 abbrev pub IsBounded : List ℕ → Status → List ℕ → Type 0
 IsBounded text ended bytes = (image : Image) × IsListingText text image × TellsBounds image ended bytes
+
+-- the status and the text for an image under limits
+pub data TellsTimedBounds (image : Image) (limits : List Limit) : Status → List ℕ → Type 0 where
+  -- it keeps each rule, no instruction of it requests an interrupt, and these are its bounds and its response times
+  has_times : (b : Bounds) → (rows : List TimeBound) → IsChecked image → requests_itself image ≡ false
+      → AreBounds image b → HoldOnRuns image b → AreTimes image b limits rows
+      → TellsTimedBounds image limits status.Done (bounds_text image b ++ times_text rows)
+  -- an instruction of it does
+  is_of_no_form : IsChecked image → requests_itself image ≡ true
+      → TellsTimedBounds image limits status.No (codes "no\n")
+  -- the least of the rules that it breaks
+  breaks_one : (rule : ℕ) → IsLeastBroken image rule → TellsTimedBounds image limits status.No
+      (codes "no " ++ decimal rule ++ codes "\n")
+
+-- `bounds` with limits: the status and the text for the listing of an image and limits of its requests
+pub record IsBoundedUnder (text more : List ℕ) (ended : Status) (bytes : List ℕ) : Type 0 where
+  pub image : Image
+  pub of_text : IsListingText text image
+  pub limits : List Limit
+  pub read : IsImageLimitsText image more limits
+  pub tells : TellsTimedBounds image limits ended bytes

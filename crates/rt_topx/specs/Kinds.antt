@@ -11,9 +11,11 @@ use Rattle.rt_board.specs.Board as boards
 use Rattle.rt_code.specs.Image.{Image}
 use Rattle.rt_given.specs.Reading.{IsGivenText}
 use Rattle.rt_given.specs.declared.line.GivenLine.{GivenLine}
+use Rattle.rt_image_times.specs.Text.{IsImageLimitsText}
 use Rattle.rt_inputs_audit.specs.Reading.{Told, IsInputsText}
 use Rattle.rt_load.specs.Reading.{IsListingText}
 use Rattle.rt_load.specs.declared.refusal.TheConstants.{IMAGE_BYTES}
+use Rattle.rt_rta.specs.declared.limits.Limit.{Limit}
 use Rattle.rt_respond.specs.Limits as respond
 use Rattle.rt_respond.specs.Text.{IsLimitsText}
 use Rattle.rt_target.specs.Reading.{IsBoardOf, IsTargetOf}
@@ -23,7 +25,8 @@ use Rattle.rt_top.specs.Program.{Inputs}
 use Rattle.rt_top.specs.Verified.{RefusesListing}
 use Rattle.rt_topx.specs.declared.command.Command.{Command}
 use Rattle.rt_topx.specs.declared.command.Command.TheVariants as command
-use Rattle.rt_topx.specs.Refusal.{RefusesBoard, RefusesTarget, RefusesLimits, RefusesScript, RefusesTrace}
+use Rattle.rt_topx.specs.Refusal.{RefusesBoard, RefusesTarget, RefusesLimits, RefusesImageLimits, RefusesScript}
+use Rattle.rt_topx.specs.Refusal.{RefusesTrace}
 
 -- what a text is that a command reads
 pub data TextKind : Type 0 where
@@ -39,6 +42,8 @@ pub data TextKind : Type 0 where
   Trace : TextKind
   -- the listing of an image, whatever made it
   Listing : TextKind
+  -- limits on the requests of the interrupts of that image
+  ImageLimits : TextKind
 
 -- the kinds of the texts that a command reads
 abbrev pub kinds_of : Command → List TextKind
@@ -49,6 +54,7 @@ kinds_of command.Native = Application ∷ Target ∷ []
 kinds_of command.Why = Listing ∷ []
 kinds_of command.Cycles = Application ∷ []
 kinds_of command.Bounds = Listing ∷ []
+kinds_of command.TimedBounds = Listing ∷ ImageLimits ∷ []
 kinds_of command.Respond = Application ∷ Limits ∷ []
 
 -- the most bytes of a text of the kind
@@ -60,6 +66,7 @@ most_bytes Limits = SCRIPT_BYTES
 most_bytes Script = SCRIPT_BYTES
 most_bytes Trace = TRACE_BYTES
 most_bytes Listing = IMAGE_BYTES
+most_bytes ImageLimits = SCRIPT_BYTES
 
 -- the text is of the kind, where these are the texts that the command reads
 abbrev pub IsOfKind : TextKind → Inputs → List ℕ → Type 0
@@ -75,6 +82,8 @@ IsOfKind Trace t text =
     (app : App) × IsApplication t.first app × (board : boards.Board) × IsBoardOf app t.second board
     × (told : Told) × IsInputsText (names_of app) app board text told
 IsOfKind Listing t text = (image : Image) × IsListingText text image
+IsOfKind ImageLimits t text =
+    (image : Image) × IsListingText t.first image × (limits : List Limit) × IsImageLimitsText image text limits
 
 -- the text is none of the kind, and is refused with this status and this line
 abbrev pub IsRefusedBy : TextKind → Inputs → List ℕ → Status → List ℕ → Type 0
@@ -85,3 +94,4 @@ IsRefusedBy Limits t text ended line = (ended ≡ status.Text) × RefusesLimits 
 IsRefusedBy Script t text ended line = (ended ≡ status.Text) × RefusesScript t.first t.second text line
 IsRefusedBy Trace t text ended line = (ended ≡ status.Text) × RefusesTrace t.first t.second text line
 IsRefusedBy Listing t text ended line = (ended ≡ status.Text) × RefusesListing text line
+IsRefusedBy ImageLimits t text ended line = (ended ≡ status.Text) × RefusesImageLimits t.first text line

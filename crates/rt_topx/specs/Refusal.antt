@@ -7,18 +7,22 @@ use Rattle.rt_app.specs.Names.{names_of}
 use Rattle.rt_app.specs.Tree.{App}
 use Rattle.rt_build.specs.Accepted.{IsApplication}
 use Rattle.rt_board.specs.Board.{Board}
+use Rattle.rt_code.specs.Image.{Image}
 use Rattle.rt_given.specs.Reading as given
 use Rattle.rt_given.specs.Text as given_text
 use Rattle.rt_given.specs.declared.refusal.Cause as in_script
+use Rattle.rt_image_times.specs.Text.{AreImageLimitsRefused}
 use Rattle.rt_inputs_audit.specs.Reading as trace
 use Rattle.rt_inputs_audit.specs.Text as trace_text
 use Rattle.rt_inputs_audit.specs.declared.refusal.Cause as in_trace
+use Rattle.rt_load.specs.Reading.{IsListingText}
+use Rattle.rt_rta.specs.declared.refusal.LimitsRefused.{LimitsRefused}
 use Rattle.rt_respond.specs.Text as limits_text
 use Rattle.rt_respond.specs.declared.refusal.Cause as in_limits
 use Rattle.rt_target.specs.Reading as boards
 use Rattle.rt_target.specs.Text as board_text
 use Rattle.rt_target.specs.declared.refusal.Cause as in_board
-use Rattle.rt_top.specs.SecondRefusal.{RefusesOver}
+use Rattle.rt_top.specs.SecondRefusal.{RefusesOver, SaysLimits as SaysImageLimits}
 
 -- the line for the refusal of a board
 abbrev pub SaysBoard : TextRefused in_board.Cause → List ℕ → Type 0
@@ -51,6 +55,14 @@ RefusesTarget text more line = RefusesOver boards.IsTargetRefused SaysBoard text
 -- the line refuses a text that is no limits for an application
 abbrev pub RefusesLimits : List ℕ → List ℕ → List ℕ → Type 0
 RefusesLimits text more line = RefusesOver limits_text.IsRefused SaysLimits text more line
+
+-- the line refuses a text that is no limits for the image of another text
+pub record RefusesImageLimits (text more line : List ℕ) : Type 0 where
+  pub image : Image
+  pub of_text : IsListingText text image
+  pub refusal : LimitsRefused
+  pub refused : AreImageLimitsRefused image more refusal
+  pub says : SaysImageLimits refusal line
 
 -- The line refuses a text over the application of another and beside the board of a third: the refusal is the text's,
 -- and the line says it.

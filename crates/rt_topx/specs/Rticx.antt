@@ -8,7 +8,7 @@ use Rattle.rt_topx.specs.declared.command.Command.{Command}
 use Rattle.rt_topx.specs.declared.command.Command.TheVariants as command
 use Rattle.rt_topx.specs.Words.{NamesCommand}
 use Rattle.rt_topx.specs.Kinds.{TextKind, kinds_of, most_bytes, IsOfKind, IsRefusedBy}
-use Rattle.rt_topx.specs.Bounded.{IsBounded}
+use Rattle.rt_topx.specs.Bounded.{IsBounded, IsBoundedUnder}
 use Rattle.rt_topx.specs.Explained.{IsExplained}
 use Rattle.rt_topx.specs.Responded.{IsResponded}
 use Rattle.rt_topx.specs.Outputs.{IsRun, IsAudited, IsLiveBeside, IsMadeNative, IsCycles}
@@ -22,6 +22,7 @@ IsOutputOf command.Native t ended bytes = IsMadeNative t.first t.second ended by
 IsOutputOf command.Why t ended bytes = IsExplained t.first ended bytes
 IsOutputOf command.Cycles t ended bytes = (ended ≡ status.Done) × IsCycles t.first bytes
 IsOutputOf command.Bounds t ended bytes = IsBounded t.first ended bytes
+IsOutputOf command.TimedBounds t ended bytes = IsBoundedUnder t.first t.second ended bytes
 IsOutputOf command.Respond t ended bytes = IsResponded t.first t.second ended bytes
 
 -- the program: what a text is depends on all texts that its command reads

@@ -12,10 +12,11 @@ NamesCommand words command.Native = (app board : List ℕ) × (words ≡ codes "
 NamesCommand words command.Why = (image : List ℕ) × (words ≡ codes "why" ∷ image ∷ [])
 NamesCommand words command.Cycles = (app : List ℕ) × (words ≡ codes "cycles" ∷ app ∷ [])
 NamesCommand words command.Bounds = (image : List ℕ) × (words ≡ codes "bounds" ∷ image ∷ [])
+NamesCommand words command.TimedBounds = (image limits : List ℕ) × (words ≡ codes "bounds" ∷ image ∷ limits ∷ [])
 NamesCommand words command.Respond = (app limits : List ℕ) × (words ≡ codes "respond" ∷ app ∷ limits ∷ [])
 
 -- the line for all other words
 abbrev pub usage_line : List ℕ
 usage_line =
     codes "usage: rticx run APP BOARD SCRIPT | audit APP BOARD TRACE | live APP BOARD SCRIPT | native APP BOARD"
-    ++ codes " | why IMAGE | cycles APP | bounds IMAGE | respond APP LIMITS\n"
+    ++ codes " | why IMAGE | cycles APP | bounds IMAGE [LIMITS] | respond APP LIMITS\n"

@@ -23,6 +23,8 @@ pub enum Command {
     Cycles,
     /// `bounds IMAGE`
     Bounds,
+    /// `bounds IMAGE LIMITS`
+    TimedBounds,
     /// `respond APP LIMITS`
     Respond,
 }
@@ -40,6 +42,7 @@ pub(crate) fn command_of(words: &[&str]) -> Option<Command>
         ["why", _] => Some(Command::Why),
         ["cycles", _] => Some(Command::Cycles),
         ["bounds", _] => Some(Command::Bounds),
+        ["bounds", _, _] => Some(Command::TimedBounds),
         ["respond", _, _] => Some(Command::Respond),
         _ => None,
     }

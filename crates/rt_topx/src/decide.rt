@@ -23,13 +23,14 @@ use crate::live::live;
 use crate::native::native;
 use crate::respond::respond;
 use crate::run::run;
+use crate::timed::timed_bounds;
 use crate::why::why;
 use rt_app::App;
 use rt_board::Board;
 use rt_devices::Gate;
 use rt_ids::Status;
 use rt_outside::{Sink, Source};
-use rt_top::reading::read_accepted;
+use rt_top::reading::{read_accepted, read_listing};
 use rt_top::reply::finish;
 use std::alloc::Global;
 use std::thread::Threads;
@@ -64,6 +65,10 @@ pub(crate) fn decide<
     match command {
         Command::Why => finish(out, &why(alloc, first)),
         Command::Bounds => finish(out, &bounds(alloc, first)),
+        Command::TimedBounds => match read_listing(alloc, first) {
+            Ok(image) => finish(out, &timed_bounds(alloc, &image, second)),
+            Err(reply) => finish(out, &reply),
+        },
         other => match read_accepted(alloc, first) {
             Ok(app) => decide_of(rt, alloc, other, &app, second, third, out, gate),
             Err(reply) => finish(out, &reply),
@@ -93,6 +98,7 @@ fn decide_of<R: Threads + Sync, B: Source, C: Source, K: Sink + Send, G: Gate + 
     requires accepted { IsAccepted (app_of app.now) }
     requires why { command ≢ Command.Why }
     requires bounds { command ≢ Command.Bounds }
+    requires timed_bounds { command ≢ Command.TimedBounds }
     ensures { (first : List ℕ) → IsApplication first (app_of app.now) →
         let b = given_by B.past second.old second.new in
         let c = given_by C.past third.old third.new in
@@ -108,7 +114,7 @@ fn decide_of<R: Threads + Sync, B: Source, C: Source, K: Sink + Send, G: Gate + 
         Command::Native => finish(out, &native(alloc, app, second)),
         Command::Cycles => finish(out, &cycles(alloc, app)),
         Command::Respond => finish(out, &respond(alloc, app, second)),
-        Command::Why | Command::Bounds => unreachable!(),
+        Command::Why | Command::Bounds | Command::TimedBounds => unreachable!(),
     }
 }
 

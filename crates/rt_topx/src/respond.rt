@@ -33,7 +33,7 @@ const TOO_LONG: LimitsRefused = LimitsRefused::Wrong {
     cause: Cause::TooLong,
 };
 
-/// `respond APP LIMITS`: the response time of each interrupt, what comes of requests, the load and the deadlines.
+/// `respond APP LIMITS`: the response time of each task, what comes of requests, the load and the deadlines.
 #[inline(never)]
 pub(crate) fn respond<S: Source>(alloc: Global, app: &App, source: &mut S) -> Reply
     requires { IsAccepted (app_of app.now) }

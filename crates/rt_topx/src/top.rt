@@ -25,7 +25,7 @@ use std::thread::Threads;
 /// The line for words that are no command.
 const USAGE: &[u8] =
     b"usage: rticx run APP BOARD SCRIPT | audit APP BOARD TRACE | live APP BOARD SCRIPT | native APP BOARD \
-| why IMAGE | cycles APP | bounds IMAGE | respond APP LIMITS\n";
+| why IMAGE | cycles APP | bounds IMAGE [LIMITS] | respond APP LIMITS\n";
 
 /// Runs the command that the words name, and answers its status. `first` is the source of the application, of `why`
 /// and `bounds` that of the listing, `second` that of the board or the limits, `third` that of the script or the trace.

@@ -26,6 +26,10 @@ pub returns-in-bounds-clause-some : goal.returns-in-bounds-clause-some
 returns-in-bounds-clause-some c =
     (_, with_verb 1 _ c.in-bounds.is-bounds c.in-bounds.len_at_least c.in-bounds.len_below)
 
+pub returns-in-bounds-2-clause-some : goal.returns-in-bounds-2-clause-some
+returns-in-bounds-2-clause-some c =
+    (_, _, with_verb 2 _ c.in-bounds-2.is-bounds c.in-bounds-2.len_at_least c.in-bounds-2.len_below)
+
 pub returns-in-respond-clause-some : goal.returns-in-respond-clause-some
 returns-in-respond-clause-some c =
     (_, _, with_verb 2 _ c.in-respond.is-respond c.in-respond.len_at_least c.in-respond.len_below)
