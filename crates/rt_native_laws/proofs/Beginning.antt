@@ -5,19 +5,19 @@ use Rattle.std.proofs.Common.{append_assoc, length, replicate, flat_map}
 use Rattle.std.proofs.lemmas.Bool.Decides.{nat_tests}
 use Rattle.std.proofs.lemmas.List.{length-set}
 use Rattle.std.specs.List.{AllByRecursion, range_with_len}
-use Rattle.std.specs.Prelude.{if◌then◌else◌, ◌==◌, nat_le, nat_lt, slice_get, is_none}
+use Rattle.std.specs.Prelude.{if◌then◌else◌, ◌==◌, ◌||◌, nat_le, nat_lt, slice_get, is_none}
 use Rattle.rt_lemmas.proofs.Bools.{and_parts, and_both, not_so, true_and_false}
 use Rattle.rt_lemmas.proofs.Lists.{all_append}
 use Rattle.rt_lemmas.proofs.Membership.{all_weaker}
 use Rattle.rt_code.specs.Image.{Image}
-use Rattle.rt_code.specs.Stack.{words_of, caller_frame, last_slot}
+use Rattle.rt_code.specs.Stack.{words_of, arguments_fit, caller_frame, last_slot}
 use Rattle.rt_code.specs.declared.image.BodyRow.{BodyRow}
 use Rattle.rt_code.specs.declared.image.Handler.{Handler}
 use Rattle.rt_code.specs.declared.instr.Instr.TheVariants as instr
 use Rattle.rt_code.specs.declared.processor.Trap.TheVariants as trap
 use Rattle.rt_core.specs.Core.{Core}
 use Rattle.rt_core.specs.Outcome.{Outcome, Trapped, Done}
-use Rattle.rt_core.specs.Transfer.{core_after_call, call_row}
+use Rattle.rt_core.specs.Transfer.{core_after_call, call_row, has_room}
 use Rattle.rt_ids.specs.Operation.{wrapped_number as word}
 use Rattle.rt_native.specs.Pieces.{STEP, open_frame, fall, read_slot, write_slot, address}
 use Rattle.rt_native.specs.Sequences.{RETURN_SLOT, branch, call, read_arguments, write_arguments}
@@ -327,6 +327,7 @@ module _ (at : Outside) (bottom : ℕ) (img : Image) (places : List ℕ) (p : Pr
     result (On again) = record {
       core = c;
       words = same_words 0 c;
+      fresh = omega arith;
       phase = Entering (record {
         to = x.to;
         irq = x.irq;
@@ -346,6 +347,7 @@ module _ (at : Outside) (bottom : ℕ) (img : Image) (places : List ℕ) (p : Pr
     result (Ends e) = record {
       core = with_slots at bottom img places p opened.slots c;
       words = record { core = refl; long = opened.long ∙ sym x.opens.frame; words = λ k l. absurd (omega (arith, l)) };
+      fresh = omega arith;
       phase = AlreadyDone (record {
         left = [];
         steady = tt;
@@ -387,6 +389,14 @@ module _ (at : Outside) (bottom : ℕ) (img : Image) (places : List ℕ) (p : Pr
 
     abbrev called_last : Machine
     called_last = calls.last
+
+    few_called : x.body.args ≤ x.body.frame
+    few_called =
+        let arguments = (and_parts (arguments_fit x.before.processor.slots x.body x.slot)
+        (has_room img x.before x.body.frame) x.fits).0 in
+        at_most x.body.args x.body.frame
+        (and_parts ((x.body.args == 0) || nat_le (x.slot + x.body.args) (length x.before.processor.slots))
+        (nat_le x.body.args x.body.frame) arguments).1
 
     free : x.before.caller ≡ None
     free = is_free x.before.caller (and_parts (is_none x.before.caller) _ x.may).0
@@ -434,6 +444,7 @@ module _ (at : Outside) (bottom : ℕ) (img : Image) (places : List ℕ) (p : Pr
     call_result (On again) = record {
       core = c;
       words = same_words x.body.args c;
+      fresh = omega arith;
       phase = Calling (record {
         row = x.row;
         slot = x.slot;
@@ -464,6 +475,7 @@ module _ (at : Outside) (bottom : ℕ) (img : Image) (places : List ℕ) (p : Pr
         long = calls.long ∙ sym x.called.long;
         words = λ k l. calls.arguments k l ∙ sym (x.called.words k l);
       };
+      fresh = omega (arith, few_called, calls.long, x.called.long, x.frame);
       phase = AlreadyDone (record {
         left = [];
         steady = tt;

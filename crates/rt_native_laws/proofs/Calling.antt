@@ -3,12 +3,14 @@ use Rattle.std.proofs.Common.{◌≡◌, ◌∙◌, ℕ, suc, ◌+◌, ◌-◌, 
 use Rattle.std.proofs.Common.{List, [], ◌∷◌, ◌++◌, Option, Some, refl, sym, ap, subst, arith, length, ⊎_elim}
 use Rattle.std.proofs.lemmas.Bool.{cases_eq}
 use Rattle.std.proofs.lemmas.List.{length-set}
-use Rattle.std.specs.Prelude.{if◌then◌else◌, ◌==◌, ◌||◌, nat_le, slice_get, slice_index}
+use Rattle.std.specs.Prelude.{if◌then◌else◌, ◌==◌, ◌||◌, nat_le, option_map, slice_get, slice_index, unwrap_or}
 use Rattle.rt_lemmas.proofs.Bools.{and_parts}
 use Rattle.rt_code.specs.Image.{Image}
 use Rattle.rt_code.specs.Stack.{arguments_fit, caller_frame, last_slot}
 use Rattle.rt_code.specs.declared.image.BodyRow.{BodyRow}
+use Rattle.rt_code.specs.declared.instr.Instr.{Instr}
 use Rattle.rt_code.specs.declared.instr.Instr.TheVariants as instr
+use Rattle.rt_code.specs.declared.instr.Note.{Note}
 use Rattle.rt_code.specs.declared.processor.Trap.TheVariants as trap
 use Rattle.rt_core.specs.Core.{Core}
 use Rattle.rt_core.specs.Outcome.{Trapped}
@@ -25,6 +27,7 @@ use Rattle.rt_trace.specs.declared.item.What.{What}
 use Rattle.rt_native_laws.specs.Doing.{CanCall, UnlessTrapped, machine_code, seen_of}
 use Rattle.rt_native_laws.specs.Going.{HasCode, IsOneStepOrNone, Nothing, OneStep, StepsBy}
 use Rattle.rt_native_laws.specs.Leaving.{CallBegins}
+use Rattle.rt_native_laws.specs.Moments.{WasCalled, last_after, settled_words}
 use Rattle.rt_native_laws.specs.Own.{AreSteady, Executes, RunsPrivately, Spans}
 use Rattle.rt_native_laws.specs.Phases.{Calling, IsDone}
 use Rattle.rt_native_laws.specs.Standing.{HoldsWords, IsLaidOut, StandsFor, frames_end}
@@ -32,11 +35,12 @@ use Rattle.rt_native_laws.proofs.Calls.{by_tests, frame_length}
 use Rattle.rt_native_laws.proofs.Going.{goes_behind}
 use Rattle.rt_native_laws.proofs.Pieces.{moved, other, steps}
 use Rattle.rt_native_laws.proofs.Prefixes.{same_next}
+use Rattle.rt_native_laws.proofs.Settled.{fewer}
 use Rattle.rt_native_laws.proofs.Stepping.{after_step, outcome_is}
 use Rattle.rt_native_laws.proofs.Tests.{at_most}
 
 -- how the code of a call begins
-call_starts : (places : List ℕ) (to s : ℕ) (body : BodyRow)
+pub call_starts : (places : List ℕ) (to s : ℕ) (body : BodyRow)
     → (rest : List Instruction) × (call places to s (Some body)
     ≡ instruction.MoveWide 0 (word (to + 1) % 2 ^ 16) ∷ instruction.MoveTop 0 (word (to + 1) / 2 ^ 16) ∷ rest)
 unfolding call address
@@ -52,7 +56,8 @@ module _ (at : Outside) (bottom : ℕ) (img : Image) (places : List ℕ) (p : Pr
     (can : CanCall at bottom img places p body s c m) (exec : Executes p executed m n)
     (line : Spans p (slice_index places c.processor.address)
     (machine_code at bottom img places p (instr.Call row s) c) (slice_index places (suc c.processor.address)))
-    (may : may_call c ≡ true) (fits : call_fits img c body s ≡ true) where
+    (may : may_call c ≡ true) (fits : call_fits img c body s ≡ true) (note : Option Note)
+    (at_it : slice_get img.code c.processor.address ≡ Some (instr.Call row s, note)) where
   abbrev d : Core
   d = core_after_call c body s
 
@@ -95,6 +100,10 @@ module _ (at : Outside) (bottom : ℕ) (img : Image) (places : List ℕ) (p : Pr
       let same : y ≡ n = same_next p first executed m y n (record { found = there; does = refl }) exec in
       subst (λ (z : Machine). IsOneStepOrNone at bottom img places p c top m z (length c.processor.slots) d said) same
       (OneStep (record {
+        fresh = subst (λ (o : Option Instr). settled_words (last_after img o) (length d.processor.slots) ≤ body.args)
+            (sym (ap (option_map (λ l. l.0)) at_it))
+            (subst (λ (o : Option BodyRow). settled_words (WasCalled (unwrap_or (option_map (λ b. b.args) o) 0))
+            (length d.processor.slots) ≤ body.args) (sym found) (fewer body.args (length d.processor.slots)));
         phase = Calling (record {
           row = row;
           slot = s;
@@ -164,8 +173,8 @@ module _ (at : Outside) (bottom : ℕ) (img : Image) (places : List ℕ) (p : Pr
       (λ (o : Option BodyRow). UnlessTrapped (if may_call c then call_row img c o s else Trapped c trap.Stack) Holds)
       (sym found)
       (by_tests img c (may_call c) (call_fits img c body s) (core_after_call c body s) Holds (λ may fits same.
-      begins at bottom img places p row s body c said top m n executed code laid found can exec line may fits stands
-      ends settled words (sym same))))
+      begins at bottom img places p row s body c said top m n executed code laid found can exec line may fits st.note
+      st.line stands ends settled words (sym same))))
       (outcome_is img (instr.Call row s) c d said st).same
 
 pub call_begins : CallBegins

@@ -10,6 +10,7 @@ use Rattle.rt_code.specs.declared.instr.Instr.TheVariants as instr
 use Rattle.rt_code.specs.declared.instr.Note.{Note}
 use Rattle.rt_core.specs.Core.{Core}
 use Rattle.rt_core.specs.Outcome.{Done}
+use Rattle.rt_native.specs.Sequences.{sequence}
 use Rattle.rt_native.specs.declared.outside.Outside.{Outside}
 use Rattle.rt_thumb.specs.Exceptions.{systick}
 use Rattle.rt_thumb.specs.Machine.{Machine, Seen}
@@ -22,9 +23,10 @@ use Rattle.rt_native_laws.specs.Going.{HasCode, IsPlain, IsNothing, IsOneStepOrN
 use Rattle.rt_native_laws.specs.Going.{StepsBy, OneEventIsOneStepOrNone, WhatIsLateIsNothing}
 use Rattle.rt_native_laws.specs.Going.{MarkIsNoEvent}
 use Rattle.rt_native_laws.specs.Laws.{IsApart}
+use Rattle.rt_native_laws.specs.Moments.{instruction_at, last_after}
 use Rattle.rt_native_laws.specs.Own.{AreSteady, ChangesItsOwn, Executes, RunsPrivately, Spans, StepsPrivately}
 use Rattle.rt_native_laws.specs.Own.{is_steady}
-use Rattle.rt_native_laws.specs.Phases.{IsToCome, IsDone, Phase, ToCome, AlreadyDone}
+use Rattle.rt_native_laws.specs.Phases.{IsNoCall, IsToCome, IsDone, Phase, ToCome, AlreadyDone}
 use Rattle.rt_native_laws.specs.Phases.{Entering, Calling, kept_words}
 use Rattle.rt_native_laws.proofs.Beginning.{entering_goes, calling_goes, same_words}
 use Rattle.rt_native_laws.specs.Standing.{IsLaidOut, StandsFor, HoldsWords, IsBeside, frames_end}
@@ -39,6 +41,7 @@ use Rattle.rt_native_laws.proofs.Prefixes.{There, Past}
 use Rattle.rt_native_laws.proofs.Private.{private_is_unseen}
 use Rattle.rt_native_laws.proofs.Requests.{post_is_done, no_alarm_is_done}
 use Rattle.rt_native_laws.proofs.Runs.{runs_on}
+use Rattle.rt_native_laws.proofs.Settled.{settled_within}
 use Rattle.rt_native_laws.proofs.Shapes.{plain_is_steady, plain_has_first}
 use Rattle.rt_native_laws.proofs.Silent.{goes_silently, same_state}
 use Rattle.rt_native_laws.proofs.Steady.{stack_after, stack_run, words_after, words_run, steady_is_no_return}
@@ -71,6 +74,10 @@ module _ (at : Outside) (bottom : ℕ) (img : Image) (places : List ℕ) (p : Pr
   kind_of (instr.Call row s) h = absurd h
   kind_of instr.Back h = absurd h
   kind_of instr.Ret h = absurd h
+
+pub no_call : (i : Instr) → IsPlain i → IsNoCall i
+no_call (instr.Call row s) h = absurd h
+no_call i h = tt
 
 -- A plain instruction, from a state at its first place; the core steps by it.
 module _ (at : Outside) (bottom : ℕ) (img : Image) (places : List ℕ) (p : Program) (code : HasCode at img places p)
@@ -168,6 +175,46 @@ module _ (at : Outside) (bottom : ℕ) (img : Image) (places : List ℕ) (p : Pr
       (λ (x : DoesInOne at bottom img places p i).
       in_one (after_step img i c d said s (LeadsInOne at bottom img places p i c first) (x c first here))) k
 
+  -- the next one is no fault, wherever the code has come to
+  module _ (w : Whole) (passed : List Instruction) (next : Instruction) (left : List Instruction)
+      (parts : text ≡ passed ++ next ∷ left) (reached : Machine)
+      (prepares : RunsPrivately p floor top passed first reached) where
+    abbrev Next : Type 0
+    Next = (n : Machine) × Executes p next reached n
+
+    next_before : (rest : List Instruction) (o : Machine) → RunsPrivately p floor top (passed ++ next ∷ rest) first o
+        → Next
+    next_before rest o run =
+        let t = rest_of p floor top passed (next ∷ rest) first reached o run prepares in (t.0, t.1.executes)
+
+    next_by_commit : (r : RunsInOne p text floor top floor top first w.last)
+        → Place passed next left r.front r.commit r.back → Next
+    next_by_commit r (Before rest f g) =
+        next_before rest r.ready (subst (λ (zs : List Instruction). RunsPrivately p floor top zs first r.ready) f
+        r.prepares)
+    next_by_commit r (There f g h) =
+        let e : r.ready ≡ reached = same_run p floor top passed first r.ready reached
+        (subst (λ (zs : List Instruction). RunsPrivately p floor top zs first r.ready) (sym f) r.prepares) prepares in (
+          r.done,
+          subst (λ (j : Instruction). Executes p j reached r.done) (sym g)
+              (subst (λ (k : Machine). Executes p r.commit k r.done) e r.commits),
+        )
+    next_by_commit r (Past more f g) =
+        let t = rest_of p floor top r.front (r.commit ∷ more) first r.ready reached
+        (subst (λ (zs : List Instruction). RunsPrivately p floor top zs first reached) f prepares) r.prepares in
+        let e : t.0 ≡ r.done = same_next p r.commit r.commit r.ready t.0 r.done t.1.executes r.commits in
+        let u = rest_of p floor top more (next ∷ left) r.done reached w.last
+        (subst (λ (zs : List Instruction). RunsPrivately p floor top zs r.done w.last) g r.completes)
+        (subst (λ (k : Machine). RunsPrivately p floor top more k reached) e t.2) in
+        (u.0, u.1.executes)
+
+    next_is : Next
+    next_is =
+        ⊎_elim (λ (r : RunsPrivately p floor top text first w.last).
+        next_before left w.last (subst (λ (zs : List Instruction). RunsPrivately p floor top zs first w.last) parts r))
+        (λ (r : RunsInOne p text floor top floor top first w.last).
+        next_by_commit r (compare passed next left r.front r.commit r.back (sym parts ∙ r.parts))) w.run
+
   -- one machine instruction of it
   module _ (w : Whole) (passed : List Instruction) (next : Instruction) (left : List Instruction)
       (parts : text ≡ passed ++ next ∷ left) (reached n : Machine)
@@ -196,6 +243,7 @@ module _ (at : Outside) (bottom : ℕ) (img : Image) (places : List ℕ) (p : Pr
         let own = private_is_unseen p floor top behind n last apart (omega (arith, stack)) (omega (arith, stack, wide))
         completes in
         OneStep (record {
+          fresh = settled_within (last_after img (instruction_at img c)) (length d.processor.slots);
           phase = AlreadyDone (record {
             left = behind;
             steady = steady_behind;
@@ -239,8 +287,9 @@ module _ (at : Outside) (bottom : ℕ) (img : Image) (places : List ℕ) (p : Pr
     is_silent : (y : Instruction) (ys : List Instruction) → left ≡ y ∷ ys → StepsPrivately p floor top next reached n
         → IsOneStepOrNone at bottom img places p c top reached n all_words d said
     is_silent y ys e steps =
-        Nothing (goes_silently at bottom img places p i s.note c s.line top first here ends settled passed next y ys
-        (parts ∙ ap (λ (zs : List Instruction). passed ++ next ∷ zs) e) reached n prepares (omega (arith, there))
+        Nothing (goes_silently at bottom img places p i s.note c s.line top first here ends settled (no_call i plain)
+        passed next y ys (parts ∙ ap (λ (zs : List Instruction). passed ++ next ∷ zs) e) reached n prepares (omega
+        (arith, there))
         (omega (arith, there, wide)) steps)
 
     stack_now : executed ≡ next → n.register 13 ≡ floor
@@ -336,6 +385,30 @@ module _ (at : Outside) (bottom : ℕ) (img : Image) (places : List ℕ) (p : Pr
       (goes at bottom img places p code i plain c d said s top x.first here x.ends x.settled whole x.passed x.next
       x.left parts x.reached n x.prepares executed (subst (λ (k : Machine). Executes p executed k n) same exec))
 
+-- an instruction that was still to come goes on
+pub plain_has_next : (at : Outside) (bottom : ℕ) (img : Image) (places : List ℕ) (p : Program)
+    → HasCode at img places p → (i : Instr) → IsPlain i → (c d : Core) (said : Option What) → StepsBy img i c d said
+    → (top : ℕ) (m : Machine) → IsToCome at bottom img places p c top m
+    → (executed : Instruction) × (n : Machine) × Executes p executed m n
+plain_has_next at bottom img places p code i plain c d said s top m x =
+    let e : x.instruction ≡ i = ap (λ (y : Instr × Option Note). y.0)
+    (same_some (x.instruction, x.note) (i, s.note) (sym x.line ∙ s.line)) in
+    let here : IsAt at bottom img places p i c x.first =
+    subst (λ (j : Instr). IsAt at bottom img places p j c x.first) e x.stands in
+    let parts : machine_code at bottom img places p i c ≡ x.passed ++ x.next ∷ x.left =
+    ap (λ (j : Instr). machine_code at bottom img places p j c) (sym e) ∙ x.parts in
+    let front = all_front (λ j. is_steady j ≡ true) x.passed (x.next ∷ x.left)
+    (subst AreSteady parts (plain_is_steady at img places c.processor.address i plain)) in
+    let stack : x.reached.register 13 ≡ x.first.register 13 =
+    stack_run at img places p code (x.first.register 13) top x.passed x.first x.reached front x.prepares in
+    let same : m ≡ x.reached =
+    same_state (x.first.register 13) x.reached m x.now stack here.stands.aligned in
+    let whole = whole_of at bottom img places p code i plain c d said s top x.first here x.ends x.settled
+    (kind_of at bottom img places p i plain) in
+    let y = next_is at bottom img places p code i plain c d said s top x.first here x.ends x.settled whole x.passed
+    x.next x.left parts x.reached x.prepares in
+    (x.next, y.0, subst (λ (k : Machine). Executes p x.next k y.0) (sym same) y.1)
+
 -- what is private behind a commit
 module _ (at : Outside) (bottom : ℕ) (img : Image) (places : List ℕ) (p : Program) (code : HasCode at img places p)
     (c : Core) (laid : IsLaidOut at bottom (length c.processor.cells)) (top : ℕ) (m n : Machine)
@@ -356,6 +429,7 @@ module _ (at : Outside) (bottom : ℕ) (img : Image) (places : List ℕ) (p : Pr
       record {
         core = c;
         words = same_words (length c.processor.slots) c;
+        fresh = omega arith;
         phase = AlreadyDone (record {
           left = js;
           steady = steady.1;
@@ -373,39 +447,43 @@ module _ (at : Outside) (bottom : ℕ) (img : Image) (places : List ℕ) (p : Pr
       }
 
 -- between two instructions the next one is to come
-to_come_at : (at : Outside) (bottom : ℕ) (img : Image) (places : List ℕ) (p : Program) (c : Core) (top : ℕ)
-    (m : Machine) (i : Instr) (note : Option Note) → HasCode at img places p → IsPlain i
-    → slice_get img.code c.processor.address ≡ Some (i, note) → IsLaidOut at bottom (length c.processor.cells)
-    → StandsFor at bottom places c m → frames_end c m ≡ top → m.is_unsettled ≡ false → HoldsWords m
-    → IsToCome at bottom img places p c top m
-to_come_at at bottom img places p c top m i note code plain line laid stands ends settled words =
-    let f = plain_has_first at img places c.processor.address i plain in
-    record {
-      instruction = i;
-      note = note;
-      line = line;
-      first = m;
-      stands = record {
-        laid = laid;
-        port = code.port;
-        addresses = code.addresses;
-        halfwords = code.halfwords;
-        code = subst (λ (a : ℕ). Spans p a (machine_code at bottom img places p i c)
-            (slice_index places (suc c.processor.address))) (sym stands.address)
-            (code.code c.processor.address i note line);
-        stands = stands;
-        words = words;
-      };
-      ends = ends;
-      settled = settled;
-      passed = [];
-      next = f.0;
-      left = f.1;
-      parts = f.2;
-      reached = m;
-      prepares = refl;
-      now = record { rest = refl; memory = λ k h. refl };
-    }
+pub to_come_at : (at : Outside) (bottom : ℕ) (img : Image) (places : List ℕ) (p : Program) (c : Core) (top : ℕ)
+    (m : Machine) (i : Instr) (note : Option Note) → HasCode at img places p
+    → (x : Instruction) × (xs : List Instruction) × (sequence at img places c.processor.address i ≡ x ∷ xs)
+    → IsNoCall i → slice_get img.code c.processor.address ≡ Some (i, note)
+    → IsLaidOut at bottom (length c.processor.cells) → StandsFor at bottom places c m → frames_end c m ≡ top
+    → m.is_unsettled ≡ false → HoldsWords m
+    → (y : IsToCome at bottom img places p c top m) × (y.instruction ≡ i)
+to_come_at at bottom img places p c top m i note code f kind line laid stands ends settled words = (
+  record {
+    instruction = i;
+    kind = kind;
+    note = note;
+    line = line;
+    first = m;
+    stands = record {
+      laid = laid;
+      port = code.port;
+      addresses = code.addresses;
+      halfwords = code.halfwords;
+      code = subst (λ (a : ℕ). Spans p a (machine_code at bottom img places p i c)
+          (slice_index places (suc c.processor.address))) (sym stands.address)
+          (code.code c.processor.address i note line);
+      stands = stands;
+      words = words;
+    };
+    ends = ends;
+    settled = settled;
+    passed = [];
+    next = f.0;
+    left = f.1;
+    parts = f.2;
+    reached = m;
+    prepares = refl;
+    now = record { rest = refl; memory = λ k h. refl };
+  },
+  refl,
+)
 
 module _ (at : Outside) (bottom : ℕ) (img : Image) (places : List ℕ) (p : Program) (i : Instr) (c d : Core)
     (said : Option What) (top : ℕ) (m n : Machine) (executed : Instruction) (code : HasCode at img places p)
@@ -417,9 +495,10 @@ module _ (at : Outside) (bottom : ℕ) (img : Image) (places : List ℕ) (p : Pr
   by_left x [] behind run =
       let at_it : StandsFor at bottom places c m = subst (StandsFor at bottom places c) run x.stands in
       goes_to_come at bottom img places p code i plain c d said s top m n executed exec
-      (to_come_at at bottom img places p c top m i s.note code plain s.line laid at_it
+      (to_come_at at bottom img places p c top m i s.note code
+      (plain_has_first at img places c.processor.address i plain) (no_call i plain) s.line laid at_it
       (subst (λ (k : Machine). frames_end c k ≡ top) run x.ends)
-      (subst (λ (k : Machine). k.is_unsettled ≡ false) run x.settled) (subst HoldsWords run x.words))
+      (subst (λ (k : Machine). k.is_unsettled ≡ false) run x.settled) (subst HoldsWords run x.words)).0
   by_left x (j ∷ js) behind run =
       Nothing (goes_behind at bottom img places p code c laid top m n executed exec x j js behind run)
 
@@ -471,7 +550,7 @@ what_is_late_is_nothing at bottom img places p c top m n executed code laid phas
     late_by_phase at bottom img places p c top m n executed code laid late exec phase
 
 -- a mark
-same_core : (c d : Core) (v w : Option What) → Done c v ≡ Done d w → c ≡ d
+pub same_core : (c d : Core) (v w : Option What) → Done c v ≡ Done d w → c ≡ d
 same_core c d v w e = cc
 
 same_said : (c d : Core) (v w : Option What) → Done c v ≡ Done d w → v ≡ w

@@ -215,7 +215,7 @@ module _ (at : Outside) (bottom : ℕ) (img : Image) (places : List ℕ) (p : Pr
         word_outside p top _ x.first m n x.begun calling_apart calling_high x.settled o.settled o.processor a w at.cells
         calling_below h z e
 
-    calling_again : IsCalling at bottom img places p left_core top n
+    abbrev calling_again : IsCalling at bottom img places p left_core top n
     calling_again =
         let laid = x.stands.laid in
         let z : at.cells % 4 ≡ 0 = laid.aligned in
@@ -277,7 +277,14 @@ entering_is_kept at bottom img places p c d top m n port x o =
     subst (λ (y : Core). IsEntering at bottom img places p y top n) (sym o.core)
     (entering_again at bottom img places p c d top m n o port x)
 
+-- it is the same body that is called
+pub calling_is_kept_so : (at : Outside) (bottom : ℕ) (img : Image) (places : List ℕ) (p : Program) (c d : Core)
+    (top : ℕ) (m n : Machine) (x : IsCalling at bottom img places p c top m) → OthersRan at (m.register 13) top c d m n
+    → (y : IsCalling at bottom img places p d top n) × (y.body.args ≡ x.body.args)
+calling_is_kept_so at bottom img places p c d top m n x o =
+    subst (λ (k : Core). (y : IsCalling at bottom img places p k top n) × (y.body.args ≡ x.body.args)) (sym o.core)
+    (calling_again at bottom img places p c d top m n o x, refl)
+
 pub calling_is_kept : CallingIsKept
 calling_is_kept at bottom img places p c d top m n x o =
-    subst (λ (y : Core). IsCalling at bottom img places p y top n) (sym o.core)
-    (calling_again at bottom img places p c d top m n o x)
+    (calling_is_kept_so at bottom img places p c d top m n x o).0

@@ -31,11 +31,12 @@ use Rattle.rt_native_laws.specs.Doing.{seen_of, with_slots}
 use Rattle.rt_native_laws.specs.Going.{HasCode, IsNothing, IsOneStep, StepsBy}
 use Rattle.rt_native_laws.specs.Leaving.{BackGoesOn, RetGoesOn, Resumes, ReturnResumes}
 use Rattle.rt_native_laws.specs.Laws.{IsApart}
+use Rattle.rt_native_laws.specs.Moments.{Taking, instruction_at, last_after}
 use Rattle.rt_native_laws.specs.Own.{ChangesItsOwn, Executes, RunsPrivately, StepsPrivately}
 use Rattle.rt_native_laws.specs.Phases.{AlreadyDone, IsSameAbove, IsToCome, Phase}
 use Rattle.rt_native_laws.specs.Standing.{HoldsWords, IsBeside, IsLaidOut, StandsFor, caller_words, frame_bytes}
 use Rattle.rt_native_laws.specs.Standing.{frames_end}
-use Rattle.rt_native_laws.specs.Waiting.{Waiting, interrupted_core, resumed}
+use Rattle.rt_native_laws.specs.Waiting.{IsFresh, Waiting, interrupted_core, resumed}
 use Rattle.rt_native_laws.proofs.Accesses.{runs_within}
 use Rattle.rt_native_laws.proofs.Prefixes.{same_some, same_run, rest_of, compare, Place, Before}
 use Rattle.rt_native_laws.proofs.Prefixes.{There, Past}
@@ -44,6 +45,7 @@ use Rattle.rt_native_laws.proofs.Returns.{back_is_done, ret_is_done, returning}
 use Rattle.rt_native_laws.proofs.Rising.{AreRising, all_rise, close_rises, frame_apart, goes_rising, own_now}
 use Rattle.rt_native_laws.proofs.Rising.{own_so_far}
 use Rattle.rt_native_laws.proofs.Rising.{rises_only, run_now, same_above, settled_so_far}
+use Rattle.rt_native_laws.proofs.Settled.{settled_within}
 use Rattle.rt_native_laws.proofs.Shapes.{reads}
 use Rattle.rt_native_laws.proofs.Steady.{private_is_no_return, words_after}
 use Rattle.rt_native_laws.proofs.Stepping.{after_step, outcome_is}
@@ -113,7 +115,7 @@ module _ (at : Outside) (bottom : ℕ) (img : Image) (places : List ℕ) (p : Pr
       let rises = all_behind (λ j. rises_only j ≡ true) x.passed (x.next ∷ rest)
       (subst AreRising f (close_rises words)) in
       inl (goes_rising at bottom img places p code instr.Ret x.note c line top first here x.ends x.settled x.passed
-      x.next x.left parts x.reached m n x.prepares x.now executed exec t.0 t.1 rises.0 y ys g)
+      x.next x.left parts x.reached m n x.prepares x.now executed exec tt t.0 t.1 rises.0 y ys g)
 
   before : (rest : List Instruction) → close_frame words ≡ x.passed ++ x.next ∷ rest
       → x.left ≡ rest ++ instruction.BranchExchange 14 ∷ [] → Result
@@ -183,10 +185,20 @@ stands_above at bottom places c low before after laid same st =
       pending = λ irq l. ap (λ (y : Machine). y.is_pending (external irq)) same.rest ∙ st.pending irq l;
     }
 
-no_front : {A : Type 0} (xs ys : List A) → xs ++ ys ≡ ys → xs ≡ []
+pub no_front : {A : Type 0} (xs ys : List A) → xs ++ ys ≡ ys → xs ≡ []
 no_front [] ys e = refl
 no_front (x ∷ xs) ys e =
     let long = ap (length {A = _}) e in absurd (omega (arith, long, length-append (x ∷ xs) ys))
+
+-- the code of `back` never moves the stack pointer down
+pub back_rises : (words : ℕ) → AreRising (back words)
+unfolding back
+back_rises words =
+    all_append (λ j. rises_only j ≡ true) (close_frame words ++ read_slot 0 RETURN_SLOT)
+    (instruction.BranchExchange 0 ∷ [])
+    (all_append (λ j. rises_only j ≡ true) (close_frame words) (read_slot 0 RETURN_SLOT) (close_rises words)
+    (all_rise (read_slot 0 RETURN_SLOT) (reads 0 RETURN_SLOT)))
+    (refl, tt)
 
 -- `back`
 module _ (at : Outside) (bottom : ℕ) (img : Image) (places : List ℕ) (p : Program) (c d : Core)
@@ -211,19 +223,9 @@ module _ (at : Outside) (bottom : ℕ) (img : Image) (places : List ℕ) (p : Pr
   abbrev later : Core
   later = with_slots at bottom img places p (caller_words places c.caller) d
 
-  all_rising : AreRising text
-  unfolding back
-  all_rising =
-      all_append (λ j. rises_only j ≡ true)
-      (close_frame (body_words img.bodies c.processor.address) ++ read_slot 0 RETURN_SLOT)
-      (instruction.BranchExchange 0 ∷ [])
-      (all_append (λ j. rises_only j ≡ true) (close_frame (body_words img.bodies c.processor.address))
-      (read_slot 0 RETURN_SLOT) (close_rises (body_words img.bodies c.processor.address))
-      (all_rise (read_slot 0 RETURN_SLOT) (reads 0 RETURN_SLOT)))
-      (refl, tt)
-
   rises : rises_only next ≡ true
-  rises = (all_behind (λ j. rises_only j ≡ true) passed (next ∷ left) (subst AreRising parts all_rising)).0
+  rises = (all_behind (λ j. rises_only j ≡ true) passed (next ∷ left)
+      (subst AreRising parts (back_rises (body_words img.bodies c.processor.address)))).0
 
   whole : RunsPrivately p floor top text first leads.0
   whole = runs_within p floor (frames_end c first) floor top text first leads.0 refl (sym ends) leads.1
@@ -269,6 +271,7 @@ module _ (at : Outside) (bottom : ℕ) (img : Image) (places : List ℕ) (p : Pr
       sym same_item ∙ no_front (seen_of own_item) first.seen
       (sym b.seen ∙ ap (λ (y : Machine). y.seen) own_whole.rest) in
       record {
+        fresh = settled_within (last_after img (instruction_at img c)) (length later.processor.slots);
         phase = AlreadyDone (record {
           left = [];
           steady = tt;
@@ -313,7 +316,7 @@ module _ (at : Outside) (bottom : ℕ) (img : Image) (places : List ℕ) (p : Pr
   by_left [] e run = inr (over run)
   by_left (y ∷ ys) e run =
       inl (goes_rising at bottom img places p code instr.Back note c line top first here ends settled passed next left
-      parts reached m n prepares now executed exec tail.0 tail.1 rises y ys e)
+      parts reached m n prepares now executed exec tt tail.0 tail.1 rises y ys e)
 
   back_result : BackResult
   back_result = by_left left refl tail.2
@@ -362,7 +365,7 @@ return_pops value m n e =
         else if b && not (nat_eq exception 0) then Some (popped m) else None) ≡ Some n → popped m ≡ n
     by_tests a b exception f = popped_is (a && (exception == 0)) (b && not (nat_eq exception 0)) (popped m) n f
 
-same_stack : (top : ℕ) (m : Machine) → m.register 13 ≡ top → with_register 13 top m ≡ m
+pub same_stack : (top : ℕ) (m : Machine) → m.register 13 ≡ top → with_register 13 top m ≡ m
 same_stack top m e =
     ap (λ (f : ℕ → ℕ). record m { register = f }) (fun_ext (λ k. by_number k (k == 13) refl))
   where
@@ -372,12 +375,15 @@ same_stack top m e =
         ap (λ (b : Bool). if b then top else m.register k) f ∙ (sym e ∙ ap m.register (sym is))
     by_number k false f = ap (λ (b : Bool). if b then top else m.register k) f
 
-module _ (at : Outside) (bottom highest : ℕ) (img : Image) (places : List ℕ) (p : Program) (priority : ℕ)
-    (priorities : List ℕ) (x : Context) (below : List Context) (c d : Core) (said : Option What) (top : ℕ)
+module _ (at : Outside) (bottom highest : ℕ) (img : Image) (places : List ℕ) (p : Program) (taking : Taking)
+    (takings : List Taking) (x : Context) (below : List Context) (c d : Core) (said : Option What) (top : ℕ)
     (m n : Machine) (st : StepsBy img instr.Ret c d said) (waits : c.below ≡ x ∷ below) (free : c.caller ≡ None)
-    (base : c.processor.basepri ≡ priority) (unmasked : c.processor.primask ≡ false) (same_base : m.base_priority
-    ≡ priority)
-    (same_mask : m.is_masked ≡ false) (stack : m.register 13 ≡ top) (goes : returned (m.register 14) m ≡ Some n) where
+    (base : c.processor.basepri ≡ taking.base_priority) (unmasked : c.processor.primask ≡ false)
+    (same_base : m.base_priority ≡ taking.base_priority) (same_mask : m.is_masked ≡ false)
+    (stack : m.register 13 ≡ top) (goes : returned (m.register 14) m ≡ Some n) where
+  abbrev priority : ℕ
+  priority = taking.base_priority
+
   outcome_there : outcome_of_return c (interrupted_context c.caller c.below) ≡ outcome_of_return c (Some (x, below))
   outcome_there =
       ap (λ (o : Option (List ℕ)). outcome_of_return c (interrupted_context o c.below)) free
@@ -402,20 +408,28 @@ module _ (at : Outside) (bottom highest : ℕ) (img : Image) (places : List ℕ)
       ∙ (ap (λ (y : ℕ). record (popped m) { base_priority = y; is_masked = false }) (sym same_base)
       ∙ (ap (λ (y : Bool). record (popped m) { is_masked = y }) (sym same_mask) ∙ return_pops (m.register 14) m n goes))
 
-  resumes : Waiting at bottom highest img places p (priority ∷ priorities) (x ∷ below) c top m
-      → Resumes at bottom highest img places p priorities below d n
-  resumes (aligned, small, runs, active, link, up, next, within, fits, phase, more) = record {
-    top = next;
-    phase = subst (λ (y : Core). Phase at bottom img places p y next n) (sym core_is)
-        (subst (λ (y : Machine). Phase at bottom img places p (interrupted_core priority c x below) next y) state_is
-        phase);
-    others = subst (λ (y : Core). Waiting at bottom highest img places p priorities below y next n) (sym core_is)
-        (subst (λ (y : Machine). Waiting at bottom highest img places p priorities below
-        (interrupted_core priority c x below) next y) state_is more);
-  }
+  -- a phase of another job, with its frame as new
+  abbrev Fresh : Core → ℕ → Machine → Type 0
+  Fresh y next z =
+      (phase : Phase at bottom img places p y next z)
+      × IsFresh at bottom highest img places p taking.last y next z phase
+
+  resumes : Waiting at bottom highest img places p (taking ∷ takings) (x ∷ below) c top m
+      → Resumes at bottom highest img places p taking.last takings below d n
+  resumes (aligned, small, runs, active, link, up, next, within, fits, phase, more) =
+      let there = interrupted_core priority c x below in
+      let now : Fresh d next n =
+      subst (λ (y : Core). Fresh y next n) (sym core_is) (subst (λ (y : Machine). Fresh there next y) state_is phase) in
+      record {
+        top = next;
+        phase = now.0;
+        fresh = now.1;
+        others = subst (λ (y : Core). Waiting at bottom highest img places p takings below y next n) (sym core_is)
+            (subst (λ (y : Machine). Waiting at bottom highest img places p takings below there next y) state_is more);
+      }
 
 pub return_resumes : ReturnResumes
-return_resumes at bottom highest img places p priority priorities x below c d said top m n st waits free base unmasked
+return_resumes at bottom highest img places p taking takings x below c d said top m n st waits free base unmasked
     same_base same_mask stack goes jobs =
-    resumes at bottom highest img places p priority priorities x below c d said top m n st waits free base unmasked
-    same_base same_mask stack goes jobs
+    resumes at bottom highest img places p taking takings x below c d said top m n st waits free base unmasked same_base
+    same_mask stack goes jobs

@@ -276,6 +276,7 @@ module _ (at : Outside) (bottom : ℕ) (img : Image) (places : List ℕ) (p : Pr
       let own = private_is_unseen p low top x.passed first_again run.0 apart_there (omega arith) own_part run.1 in
       record {
         instruction = x.instruction;
+        kind = x.kind;
         note = x.note;
         line = x.line;
         first = first_again;

@@ -29,7 +29,7 @@ use Rattle.rt_native_laws.specs.Going.{HasCode, IsNothing}
 use Rattle.rt_native_laws.specs.Laws.{IsApart}
 use Rattle.rt_native_laws.specs.Own.{AreSteady, ChangesItsOwn, Executes, IsDisturbed, RunsPrivately, StepsPrivately}
 use Rattle.rt_native_laws.specs.Own.{is_private, is_steady, stays_within}
-use Rattle.rt_native_laws.specs.Phases.{IsSameAbove, ToCome}
+use Rattle.rt_native_laws.specs.Phases.{IsNoCall, IsSameAbove, ToCome}
 use Rattle.rt_native_laws.specs.Standing.{frames_end}
 use Rattle.rt_native_laws.proofs.Beginning.{same_words}
 use Rattle.rt_native_laws.proofs.Prefixes.{same_next}
@@ -263,14 +263,17 @@ module _ (at : Outside) (bottom : ℕ) (img : Image) (places : List ℕ) (p : Pr
   settled_so_far =
       not_so reached.is_unsettled (λ e. true_and_false first.is_unsettled (own_so_far.settled e) settled)
 
-  pub goes_rising : (after : Machine) → StepsPrivately p floor top next reached after → rises_only next ≡ true
+  pub goes_rising : IsNoCall i → (after : Machine) → StepsPrivately p floor top next reached after
+      → rises_only next ≡ true
       → (y : Instruction) (ys : List Instruction) → left ≡ y ∷ ys
       → IsNothing at bottom img places p c top m n (length c.processor.slots)
-  goes_rising after steps rises y ys e = record {
+  goes_rising kind after steps rises y ys e = record {
     core = c;
     words = same_words (length c.processor.slots) c;
+    fresh = omega arith;
     phase = ToCome (record {
       instruction = i;
+      kind = kind;
       note = note;
       line = line;
       first = first;

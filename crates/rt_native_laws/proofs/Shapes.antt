@@ -9,11 +9,11 @@ use Rattle.rt_code.specs.declared.instr.Instr.{Instr}
 use Rattle.rt_code.specs.declared.instr.Instr.TheVariants as instr
 use Rattle.rt_ids.specs.declared.op.Op.{Op}
 use Rattle.rt_ids.specs.declared.op.Op.TheVariants as op
-use Rattle.rt_native.specs.Pieces.{number, address, far_slot, read_slot, write_slot, open_frame}
+use Rattle.rt_native.specs.Pieces.{number, address, close_frame, far_slot, read_slot, write_slot, open_frame}
 use Rattle.rt_native.specs.Service.{stub, opening}
 use Rattle.rt_native.specs.Sequences.{sequence, calculation, shifting, comparing, set_slot, copy_slot, calculate}
 use Rattle.rt_native.specs.Sequences.{load_word, store_word, load_word_at, store_word_at, branch, branch_if_zero, pend}
-use Rattle.rt_native.specs.Sequences.{no_alarm, raise, restore, mask, serve, wait, cell, STIR}
+use Rattle.rt_native.specs.Sequences.{no_alarm, raise, restore, mask, serve, wait, back, ret, cell, STIR, RETURN_SLOT}
 use Rattle.rt_native.specs.declared.outside.Outside.{Outside}
 use Rattle.rt_ids.specs.Operation.{wrapped_number as word}
 use Rattle.rt_thumb.specs.declared.instruction.Instruction.{Instruction}
@@ -189,6 +189,16 @@ pub stub_has_first : (at : Outside) (places : List ℕ) (to irq : ℕ) (h : Hand
 unfolding stub opening branch
 stub_has_first at places to irq h =
     first_of (stub at [] places to irq (Some h)) (one_behind (open_frame h.frame) _ [])
+
+pub back_has_first : (words : ℕ) → (x : Instruction) × (xs : List Instruction) × (back words ≡ x ∷ xs)
+unfolding back
+back_has_first words =
+    first_of (back words)
+    (one_behind (close_frame words ++ read_slot 0 RETURN_SLOT) (instruction.BranchExchange 0) [])
+
+pub ret_has_first : (words : ℕ) → (x : Instruction) × (xs : List Instruction) × (ret words ≡ x ∷ xs)
+unfolding ret
+ret_has_first words = first_of (ret words) (one_behind (close_frame words) (instruction.BranchExchange 14) [])
 
 module _ (at : Outside) (img : Image) (places : List ℕ) (n : ℕ) where
   is_there : (i : Instr) → IsPlain i → IsThere (sequence at img places n i)

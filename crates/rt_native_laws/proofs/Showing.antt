@@ -7,28 +7,43 @@ use Rattle.rt_native.specs.declared.outside.Outside.{Outside}
 use Rattle.rt_thumb.specs.Exceptions.{external}
 use Rattle.rt_thumb.specs.Machine.{Machine, word_at}
 use Rattle.rt_thumb.specs.Step.{Program}
+use Rattle.rt_native_laws.specs.Moments.{Last, settled_words}
 use Rattle.rt_native_laws.specs.Own.{ChangesItsOwn}
 use Rattle.rt_native_laws.specs.Phases.{IsToCome, IsDone, IsEntering, IsCalling, OthersRan, Phase, ToCome, AlreadyDone}
-use Rattle.rt_native_laws.specs.Phases.{Entering, Calling}
+use Rattle.rt_native_laws.specs.Phases.{Entering, Calling, kept_words}
 use Rattle.rt_native_laws.specs.Standing.{IsLaidOut, StandsFor}
-use Rattle.rt_native_laws.specs.Waiting.{Shows, PhasesShow}
-use Rattle.rt_native_laws.proofs.Kept.{entering_is_kept, calling_is_kept}
+use Rattle.rt_native_laws.specs.Waiting.{Shows, PhasesShow, IsFresh}
+use Rattle.rt_native_laws.proofs.Kept.{entering_is_kept, calling_is_kept_so}
 use Rattle.rt_native_laws.proofs.Phases.{apart_of, to_come_is_kept, done_is_kept}
 use Rattle.rt_native_laws.proofs.Private.{private_is_unseen}
 
--- others leave a job in its phase, whichever it is
-pub phase_is_kept : (at : Outside) (bottom : ℕ) (img : Image) (places : List ℕ) (p : Program) (c d : Core) (top : ℕ)
-    (m n : Machine) → IsLaidOut at bottom (length c.processor.cells) → p.port ≡ at.port
-    → OthersRan at (m.register 13) top c d m n → Phase at bottom img places p c top m
-    → Phase at bottom img places p d top n
-phase_is_kept at bottom img places p c d top m n laid port o (ToCome x) =
-    ToCome (to_come_is_kept at bottom img places p c d top m n x o)
-phase_is_kept at bottom img places p c d top m n laid port o (AlreadyDone x) =
-    AlreadyDone (done_is_kept at bottom img places p c d top m n laid port x o)
-phase_is_kept at bottom img places p c d top m n laid port o (Entering x) =
-    Entering (entering_is_kept at bottom img places p c d top m n port x o)
-phase_is_kept at bottom img places p c d top m n laid port o (Calling x) =
-    Calling (calling_is_kept at bottom img places p c d top m n x o)
+-- Others leave a job in its phase, whichever it is, and as many words of its frame the core's.
+module _ (at : Outside) (bottom : ℕ) (img : Image) (places : List ℕ) (p : Program) (c d : Core) (top : ℕ)
+    (m n : Machine) (laid : IsLaidOut at bottom (length c.processor.cells)) (port : p.port ≡ at.port)
+    (o : OthersRan at (m.register 13) top c d m n) where
+  same_frame : length d.processor.slots ≡ length c.processor.slots
+  same_frame = ap (λ (y : Core). length y.processor.slots) o.core
+
+  pub phase_is_kept : (phase : Phase at bottom img places p c top m)
+      → (again : Phase at bottom img places p d top n) × (kept_words at bottom img places p c top m phase
+      ≤ kept_words at bottom img places p d top n again)
+  phase_is_kept (ToCome x) =
+      (ToCome (to_come_is_kept at bottom img places p c d top m n x o), omega (arith, same_frame))
+  phase_is_kept (AlreadyDone x) =
+      (AlreadyDone (done_is_kept at bottom img places p c d top m n laid port x o), omega (arith, same_frame))
+  phase_is_kept (Entering x) =
+      (Entering (entering_is_kept at bottom img places p c d top m n port x o), omega arith)
+  phase_is_kept (Calling x) =
+      let again = calling_is_kept_so at bottom img places p c d top m n x o in
+      (Calling again.0, omega (arith, again.1))
+
+  pub fresh_is_kept : (highest : ℕ) (last : Last) (phase : Phase at bottom img places p c top m)
+      → IsFresh at bottom highest img places p last c top m phase
+      → IsFresh at bottom highest img places p last d top n (phase_is_kept phase).0
+  fresh_is_kept highest last phase fresh =
+      let more = (phase_is_kept phase).1 in
+      subst (λ (w : ℕ). settled_words last w ≤ kept_words at bottom img places p d top n (phase_is_kept phase).0)
+      (sym same_frame) (omega (arith, fresh, more))
 
 module _ (at : Outside) (bottom : ℕ) (places : List ℕ) (c : Core) where
   stands_shows : (m : Machine) → StandsFor at bottom places c m → Shows at c m

@@ -16,7 +16,7 @@ use Rattle.rt_native_laws.specs.Doing.{IsAt, machine_code}
 use Rattle.rt_native_laws.specs.Going.{IsNothing}
 use Rattle.rt_native_laws.specs.Laws.{IsApart}
 use Rattle.rt_native_laws.specs.Own.{RunsPrivately, StepsPrivately}
-use Rattle.rt_native_laws.specs.Phases.{IsSameAbove, ToCome}
+use Rattle.rt_native_laws.specs.Phases.{IsNoCall, IsSameAbove, ToCome}
 use Rattle.rt_native_laws.specs.Standing.{frames_end}
 use Rattle.rt_native_laws.proofs.Beginning.{same_words}
 use Rattle.rt_native_laws.proofs.Phases.{apart_of}
@@ -43,18 +43,20 @@ module _ (at : Outside) (bottom : ℕ) (img : Image) (places : List ℕ) (p : Pr
   own_apart = apart_of at bottom low top (length c.processor.cells) p here.laid here.port here.stands.stack
       (omega (arith, ends, here.stands.frames))
 
-  pub goes_silently : (passed : List Instruction) (next y : Instruction) (ys : List Instruction)
+  pub goes_silently : IsNoCall i → (passed : List Instruction) (next y : Instruction) (ys : List Instruction)
       → machine_code at bottom img places p i c ≡ passed ++ next ∷ y ∷ ys → (reached n : Machine)
       → RunsPrivately p low top passed first reached → low ≤ reached.register 13 → reached.register 13 ≤ top
       → StepsPrivately p low top next reached n
       → IsNothing at bottom img places p c top reached n (length c.processor.slots)
-  goes_silently passed next y ys parts reached n prepares deep high steps =
+  goes_silently kind passed next y ys parts reached n prepares deep high steps =
       let alone : RunsPrivately p low top (next ∷ []) reached n = (n, steps, refl) in
       record {
         core = c;
         words = same_words (length c.processor.slots) c;
+        fresh = omega arith;
         phase = ToCome (record {
           instruction = i;
+          kind = kind;
           note = note;
           line = line;
           first = first;

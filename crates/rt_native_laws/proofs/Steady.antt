@@ -130,7 +130,7 @@ module _ (port : ℕ) (m : Machine) where
   stack_stays (instruction.Call x) n h s e = made _ n e (sets 14 (m.address + 4 + 1) (λ f. omega arith))
 
 -- a branch by a register, or an instruction that is no return
-is_exchange : (i : Instruction) → ((r : ℕ) × (i ≡ instruction.BranchExchange r)) ⊎ ((m : Machine) → IsNoReturn i m)
+pub is_exchange : (i : Instruction) → ((r : ℕ) × (i ≡ instruction.BranchExchange r)) ⊎ ((m : Machine) → IsNoReturn i m)
 is_exchange (instruction.BranchExchange r) = inl (r, refl)
 is_exchange i = inr (λ m. tt)
 

@@ -69,7 +69,7 @@ module _ (d : Core) (said : Option What) (goes : d.stopped ≡ false) where
   second_is o e = ap (λ (x : Core × Option What). x.1) e
 
   -- a trap would have stopped the core
-  trapped : (c : Core) (t : Trap) → settle (Trapped c t) ≡ (d, said) → ⊥
+  pub trapped : (c : Core) (t : Trap) → settle (Trapped c t) ≡ (d, said) → ⊥
   trapped c t e = false≢true (sym goes ∙ sym (ap (λ (x : Core). x.stopped) (first_is (Trapped c t) e)))
 
   plain : (c : Core) (w : Option What) → settle (Done c w) ≡ (d, said) → Leads_to (Done c w) d said

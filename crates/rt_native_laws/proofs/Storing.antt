@@ -196,7 +196,7 @@ module _ (at : Outside) (bottom : ℕ) (img : Image) (places : List ℕ) (p : Pr
         let own = private_is_unseen p floor top passed first reached apart (omega arith) (omega (arith, ends)) prepares
         in
         subst (λ (k : Machine). IsNothing at bottom img places p c top k n (length c.processor.slots)) (sym e)
-        (goes_silently at bottom img places p i note c line top first here ends settled passed next y ys
+        (goes_silently at bottom img places p i note c line top first here ends settled tt passed next y ys
         (parts ∙ ap (λ (zs : List Instruction). passed ++ next ∷ zs) g) reached n prepares own.stack.0 own.stack.1
         (subst (λ (k : Machine). StepsPrivately p floor top next reached k) to t.1))
 

@@ -19,18 +19,19 @@ use Rattle.rt_thumb.specs.Exceptions.{return_to_thread, return_to_handler}
 use Rattle.rt_thumb.specs.Machine.{Machine, Flags, word_at, with_word, with_register}
 use Rattle.rt_thumb.specs.Step.{Program}
 use Rattle.rt_native_laws.specs.Going.{HasCode}
+use Rattle.rt_native_laws.specs.Moments.{Last, Taking}
 use Rattle.rt_native_laws.specs.Own.{Spans}
 use Rattle.rt_native_laws.specs.Phases.{OthersRan, Phase, Entering}
 use Rattle.rt_native_laws.specs.Saving.{CanBeInterrupted, HasAgain}
 use Rattle.rt_native_laws.specs.Standing.{IsLaidOut, HoldsWords}
 use Rattle.rt_native_laws.specs.Waiting.{Shows, KeepsAbove, Waiting, WaitingIsKept, EntryAddsAJob, EntryBegins, resumed}
-use Rattle.rt_native_laws.specs.Waiting.{return_value}
+use Rattle.rt_native_laws.specs.Waiting.{return_value, IsFresh}
 use Rattle.rt_native_laws.specs.Waiting.{interrupted_core, context_of}
 use Rattle.rt_native_laws.proofs.Pieces.{other}
 use Rattle.rt_native_laws.proofs.Private.{equals}
 use Rattle.rt_native_laws.proofs.Saving.{entry_is_undone, entry_pushes_below, stack_is as pushed_stack}
 use Rattle.rt_native_laws.proofs.Shapes.{stub_has_first}
-use Rattle.rt_native_laws.proofs.Showing.{phase_is_kept, phases_show}
+use Rattle.rt_native_laws.proofs.Showing.{fresh_is_kept, phase_is_kept, phases_show}
 use Rattle.rt_native_laws.proofs.Tests.{is_less, not_less, not_equal, same_number}
 use Rattle.rt_native_laws.proofs.Unopened.{IsUnopened}
 
@@ -60,7 +61,7 @@ none_of false true c d s t u v w f g h i = absurd (cc)
 none_of true b c d s t u v w f g h i = absurd (cc)
 
 -- What a job sees that was interrupted, before and behind what runs above it.
-module _ (at : Outside) (priority top : ℕ) (m n : Machine) (keeps : KeepsAbove at top m n) (aligned : top % 4 ≡ 0)
+module _ (at : Outside) (priority top : ℕ) (m n : Machine) (keeps : KeepsAbove at top m n) (aligned : top % 8 ≡ 0)
     (below : top + 32 ≤ at.cells) where
   abbrev before : Machine
   before = resumed priority top m
@@ -149,15 +150,15 @@ module _ (at : Outside) (priority top : ℕ) (m n : Machine) (keeps : KeepsAbove
 -- Jobs that wait are kept.
 module _ (at : Outside) (bottom highest : ℕ) (img : Image) (places : List ℕ) (p : Program) (port : p.port ≡ at.port)
   where
-    abbrev Jobs : List ℕ → List Context → Core → ℕ → Machine → Type 0
-    Jobs priorities below c top m = Waiting at bottom highest img places p priorities below c top m
+    abbrev Jobs : List Taking → List Context → Core → ℕ → Machine → Type 0
+    Jobs takings below c top m = Waiting at bottom highest img places p takings below c top m
 
     -- the next one
     module _ (priority : ℕ) (x : Context) (below : List Context) (c d : Core) (top : ℕ) (m n : Machine)
         (laid : IsLaidOut at bottom (length c.processor.cells))
         (as_many : length d.processor.cells ≡ length c.processor.cells) (stopped : d.stopped ≡ c.stopped)
-        (keeps : KeepsAbove at top m n) (shown : Shows at d n) (words : HoldsWords n) (aligned : top % 4 ≡ 0)
-        (small : priority < 2 ^ 8) (next : ℕ) (up : top + 32 ≤ (resumed priority top m).register 13)
+        (keeps : KeepsAbove at top m n) (shown : Shows at d n) (words : HoldsWords n) (aligned : top % 8 ≡ 0)
+        (small : priority < 2 ^ 8) (next : ℕ) (up : (resumed priority top m).register 13 ≡ top + 32)
         (within : next ≤ at.cells) (fits : (resumed priority top m).register 13 ≤ next) where
       abbrev there : Core
       there = interrupted_core priority c x below
@@ -200,17 +201,18 @@ module _ (at : Outside) (bottom highest : ℕ) (img : Image) (places : List ℕ)
         words = words_now;
       }
 
-    kept : (priorities : List ℕ) (below : List Context) (c d : Core) (top : ℕ) (m n : Machine)
+    kept : (takings : List Taking) (below : List Context) (c d : Core) (top : ℕ) (m n : Machine)
         → IsLaidOut at bottom (length c.processor.cells)
         → length d.processor.cells ≡ length c.processor.cells → d.stopped ≡ c.stopped
-        → KeepsAbove at top m n → Shows at d n → HoldsWords n → Jobs priorities below c top m
-        → Jobs priorities below d top n
+        → KeepsAbove at top m n → Shows at d n → HoldsWords n → Jobs takings below c top m
+        → Jobs takings below d top n
     kept [] [] c d top m n laid as_many stopped keeps shown words jobs =
         (jobs.0, keeps.exception ∙ jobs.1, keeps.active ∙ jobs.2)
     kept [] (x ∷ below) c d top m n laid as_many stopped keeps shown words jobs = absurd jobs
-    kept (priority ∷ priorities) [] c d top m n laid as_many stopped keeps shown words jobs = absurd jobs
-    kept (priority ∷ priorities) (x ∷ below) c d top m n laid as_many stopped keeps shown words
+    kept (taking ∷ takings) [] c d top m n laid as_many stopped keeps shown words jobs = absurd jobs
+    kept (taking ∷ takings) (x ∷ below) c d top m n laid as_many stopped keeps shown words
         (aligned, small, runs, active, link, up, next, within, fits, phase, more) =
+        let priority = taking.base_priority in
         let back = resumed priority top m in
         let back_now = resumed priority top n in
         let there = interrupted_core priority c x below in
@@ -227,21 +229,25 @@ module _ (at : Outside) (bottom highest : ℕ) (img : Image) (places : List ℕ)
               (sym (active_same at priority top m n keeps aligned room))),
           keeps.registers 14 (omega arith) (λ e. omega (arith, e)) ∙ (link ∙ ap return_value
               (sym (exception_same at priority top m n keeps aligned room))),
-          subst (λ (y : ℕ). top + 32 ≤ y) (sym stack) up,
+          stack ∙ up,
           next,
           within,
           subst (λ (y : ℕ). y ≤ next) (sym stack) fits,
-          phase_is_kept at bottom img places p there there_now next back back_now laid port ran phase,
-          kept priorities below there there_now next back back_now laid as_many stopped above
+          (
+            (phase_is_kept at bottom img places p there there_now next back back_now laid port ran phase.0).0,
+            fresh_is_kept at bottom img places p there there_now next back back_now laid port ran highest taking.last
+                phase.0 phase.1,
+          ),
+          kept takings below there there_now next back back_now laid as_many stopped above
               (shown_now priority x below c d top m n laid as_many stopped keeps shown words aligned small next up
               within fits)
               ran.words more,
         )
 
 pub waiting_is_kept : WaitingIsKept
-waiting_is_kept at bottom highest img places p priorities below c d top m n laid port as_many stopped keeps shown words
+waiting_is_kept at bottom highest img places p takings below c d top m n laid port as_many stopped keeps shown words
     jobs =
-    kept at bottom highest img places p port priorities below c d top m n laid as_many stopped keeps shown words jobs
+    kept at bottom highest img places p port takings below c d top m n laid as_many stopped keeps shown words jobs
 
 -- An entry. No other exception that is active has its number.
 all_stay : (e : ℕ) (es : List ℕ) → AllByRecursion (λ x. x ≢ e) es → filter (λ x. not (nat_eq x e)) es ≡ es
@@ -256,11 +262,11 @@ one_goes e es h =
     (same_number e e refl) ∙ all_stay e es h
 
 -- words that are pushed are words
-one_of : (b : Bool) (s t : ℕ) → s < 2 ^ 32 → t < 2 ^ 32 → (if b then s else t) < 2 ^ 32
+pub one_of : (b : Bool) (s t : ℕ) → s < 2 ^ 32 → t < 2 ^ 32 → (if b then s else t) < 2 ^ 32
 one_of true s t h i = h
 one_of false s t h i = i
 
-pushed_words : (ws : List ℕ) (a : ℕ) (m : Machine) → AllByRecursion (λ w. w < 2 ^ 32) ws
+pub pushed_words : (ws : List ℕ) (a : ℕ) (m : Machine) → AllByRecursion (λ w. w < 2 ^ 32) ws
     → ((k : ℕ) → m.memory k < 2 ^ 32) → (k : ℕ) → (with_words a ws m).memory k < 2 ^ 32
 pushed_words [] a m h words k = words k
 pushed_words (w ∷ ws) a m h words k =
@@ -270,7 +276,7 @@ bit : (b : Bool) → number_of b ≤ 1
 bit true = omega arith
 bit false = omega arith
 
-status_small : (f : Flags) (aligned e : ℕ) → aligned ≤ 1 → e < 2 ^ 9 → status_word f aligned e < 2 ^ 32
+pub status_small : (f : Flags) (aligned e : ℕ) → aligned ≤ 1 → e < 2 ^ 9 → status_word f aligned e < 2 ^ 32
 status_small f aligned e h i =
     omega (arith, bit f.is_negative, bit f.is_zero, bit f.is_carry, bit f.is_overflow, h, i)
 
@@ -442,22 +448,27 @@ module _ (at : Outside) (bottom : ℕ) (img : Image) (places : List ℕ) (p : Pr
     active = active_is;
   }
 
-  pub added : (highest : ℕ) (priorities : List ℕ) → Waiting at bottom highest img places p priorities c.below c top m
-      → Waiting at bottom highest img places p (priority ∷ priorities) (context_of c irq h ∷ c.below) core_inside frame
-      inside
-  added highest priorities jobs = (
+  pub added : (highest : ℕ) (takings : List Taking) (last : Last)
+      → IsFresh at bottom highest img places p last c top m phase
+      → Waiting at bottom highest img places p takings c.below c top m
+      → Waiting at bottom highest img places p (record { base_priority = priority; last = last } ∷ takings)
+      (context_of c irq h ∷ c.below) core_inside frame inside
+  added highest takings last fresh jobs = (
     omega (arith, stack_is, can.stack),
     subst (λ (x : ℕ). x < 2 ^ 8) shown.base_priority words.base_priority,
     refl,
     ap (λ (es : List ℕ). e ∷ es) (sym active_is),
     ap return_value (sym has.exception),
-    omega (arith, stack_is, registers_are 13),
+    registers_are 13 ∙ sym stack_is,
     top,
     within,
     omega (arith, fits, registers_are 13),
-    phase_is_kept at bottom img places p c core_then top m after_it laid port others_ran phase,
-    waiting_is_kept at bottom highest img places p priorities c.below c core_then top m after_it laid port refl refl
-        above shown_then words_after jobs,
+    (
+      (phase_is_kept at bottom img places p c core_then top m after_it laid port others_ran phase).0,
+      fresh_is_kept at bottom img places p c core_then top m after_it laid port others_ran highest last phase fresh,
+    ),
+    waiting_is_kept at bottom highest img places p takings c.below c core_then top m after_it laid port refl refl above
+        shown_then words_after jobs,
   )
 
   -- what runs then is a handler
@@ -543,7 +554,7 @@ entry_begins at bottom img places p to irq h c top m code laid can low inactive 
     to below room lies
 
 pub entry_adds_a_job : EntryAddsAJob
-entry_adds_a_job at bottom highest img places p priorities irq h c top m laid port can low inactive unmasked words fits
-    within phase jobs =
+entry_adds_a_job at bottom highest img places p takings last irq h c top m laid port can low inactive unmasked words
+    fits within phase fresh jobs =
     added at bottom img places p irq h c top m laid port can low inactive unmasked words fits within phase highest
-    priorities jobs
+    takings last fresh jobs

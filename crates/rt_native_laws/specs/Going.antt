@@ -13,6 +13,7 @@ use Rattle.rt_core.specs.Stepping.{step}
 use Rattle.rt_native.specs.Sequences.{sequence}
 use Rattle.rt_native.specs.declared.outside.Outside.{Outside}
 use Rattle.rt_native_laws.specs.Doing.{RaisesOnly, seen_of}
+use Rattle.rt_native_laws.specs.Moments.{instruction_at, last_after, settled_words}
 use Rattle.rt_native_laws.specs.Own.{ChangesItsOwn, Executes, Spans}
 use Rattle.rt_native_laws.specs.Phases.{Phase, IsDone, IsButForWords, kept_words}
 use Rattle.rt_native_laws.specs.Standing.{IsLaidOut, IsBeside}
@@ -79,13 +80,17 @@ module _ (at : Outside) (bottom : ℕ) (img : Image) (places : List ℕ) (p : Pr
     pub core : Core
     pub words : IsButForWords kept c core
     pub phase : Phase at bottom img places p core top n
+    pub fresh : kept ≤ kept_words at bottom img places p core top n phase
     pub floor : ℕ
     pub deep : bottom ≤ floor
     pub unseen : ChangesItsOwn floor top m n
 
-  -- one step of the core, to another, with an item
+  -- One step of the core, to another, with an item. Of the frame of what runs then so many words are the core's as are
+  -- settled.
   pub record IsOneStep (d : Core) (said : Option What) : Type 0 where
     pub phase : Phase at bottom img places p d top n
+    pub fresh : settled_words (last_after img (instruction_at img c)) (length d.processor.slots)
+        ≤ kept_words at bottom img places p d top n phase
     pub others : LeavesOthers at top said m n
 
   pub data IsOneStepOrNone (kept : ℕ) (d : Core) (said : Option What) : Type 0 where

@@ -14,3 +14,12 @@ pub mod Inputs
 pub mod Loading
 pub mod Resetting
 pub mod Leaving
+pub mod Moments
+pub mod Behaving
+pub mod Simulating
+pub mod Deep
+pub mod Above
+pub mod EachKind
+pub mod Arriving
+pub mod Relating
+pub mod Alike

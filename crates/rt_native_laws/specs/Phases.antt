@@ -5,7 +5,7 @@
 -- sections B1.5.6 and B1.5.8), which Saving.antt says are what they were. Below its stack pointer a job has nothing:
 -- there others push. So while a frame comes or goes it is said from the code's first place.
 use Rattle.std.specs.Prelude.{◌≡◌, ℕ, ◌+◌, ◌*◌, ◌%◌, ◌<◌, ◌≤◌, ◌⊎◌, false, List, ◌∷◌, ◌++◌, length}
-use Rattle.std.specs.Prelude.{slice_get, slice_index, slice_index_or, true, [], Option, Some}
+use Rattle.std.specs.Prelude.{slice_get, slice_index, slice_index_or, true, [], Option, Some, ⊤}
 use Rattle.rt_code.specs.Image.{Image}
 use Rattle.rt_code.specs.declared.image.BodyRow.{BodyRow}
 use Rattle.rt_code.specs.declared.image.Handler.{Handler}
@@ -67,6 +67,11 @@ pub record IsButForWords (kept : ℕ) (c d : Core) : Type 0 where
   pub long : length d.processor.slots ≡ length c.processor.slots
   pub words : (k : ℕ) → k < kept → slice_index d.processor.slots k ≡ slice_index c.processor.slots k
 
+-- `call` is done at its first machine instruction, so it is never under way and still to come.
+abbrev pub IsNoCall : Instr → Type 0
+IsNoCall (instr.Call row s) = ⊥
+IsNoCall i = ⊤
+
 -- what lies outside, the lowest address of the stack, an image, the places of its code, and a program; a core at a job,
 -- where the job's frames end, and the processor as the job sees it
 module _ (at : Outside) (bottom : ℕ) (img : Image) (places : List ℕ) (p : Program) (c : Core) (top : ℕ)
@@ -76,6 +81,7 @@ module _ (at : Outside) (bottom : ℕ) (img : Image) (places : List ℕ) (p : Pr
   -- private was not executed.
   pub record IsToCome : Type 0 where
     pub instruction : Instr
+    pub kind : IsNoCall instruction
     pub note : Option Note
     pub line : slice_get img.code c.processor.address ≡ Some (instruction, note)
     pub first : Machine

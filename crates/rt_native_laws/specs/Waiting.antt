@@ -13,7 +13,8 @@ use Rattle.rt_native.specs.Service.{stub}
 use Rattle.rt_native.specs.declared.outside.Outside.{Outside}
 use Rattle.rt_native_laws.specs.Going.{HasCode}
 use Rattle.rt_native_laws.specs.Own.{Spans}
-use Rattle.rt_native_laws.specs.Phases.{Phase}
+use Rattle.rt_native_laws.specs.Moments.{Last, Taking, settled_words}
+use Rattle.rt_native_laws.specs.Phases.{Phase, kept_words}
 use Rattle.rt_native_laws.specs.Saving.{CanBeInterrupted}
 use Rattle.rt_native_laws.specs.Standing.{IsLaidOut, LieFrom, HoldsWords}
 use Rattle.rt_priorities.specs.Ticking.{alarm_word}
@@ -62,19 +63,25 @@ pub record KeepsAbove (at : Outside) (top : ℕ) (m n : Machine) : Type 0 where
 -- what lies outside, the lowest address of the stack and the one behind it, an image, the places of its code, and a
 -- program
 module _ (at : Outside) (bottom highest : ℕ) (img : Image) (places : List ℕ) (p : Program) where
-  -- The jobs that were interrupted, the last one first, each with the BASEPRI that it had then. At the end of the
+  -- The frame of a job is as new as what the job did last: no word is settled that is not the core's.
+  abbrev pub IsFresh : Last → (c : Core) (top : ℕ) (m : Machine) → Phase at bottom img places p c top m → Type 0
+  IsFresh last c top m phase =
+      settled_words last (length c.processor.slots) ≤ kept_words at bottom img places p c top m phase
+
+  -- The jobs that were interrupted, the last one first, each with the taking that interrupted it. At the end of the
   -- frames of what runs lie the eight words that exception entry pushed, and LR has EXC_RETURN. The thread's frames end
   -- where the stack ends.
-  abbrev pub Waiting : List ℕ → List Context → Core → ℕ → Machine → Type 0
+  abbrev pub Waiting : List Taking → List Context → Core → ℕ → Machine → Type 0
   Waiting [] [] c top m = (top ≡ highest) × (m.exception ≡ 0) × (m.active ≡ [])
-  Waiting (priority ∷ priorities) (x ∷ below) c top m =
-      let back = resumed priority top m in
-      let there = interrupted_core priority c x below in
-      (top % 4 ≡ 0) × (priority < 2 ^ 8) × (m.exception ≡ external x.irq) × (m.active ≡ external x.irq ∷ back.active)
-      × (m.register 14 ≡ return_value back.exception) × (top + 32 ≤ back.register 13)
-      × (next : ℕ) × (next ≤ at.cells) × (back.register 13 ≤ next) × Phase at bottom img places p there next back
-      × Waiting priorities below there next back
-  Waiting priorities below c top m = ⊥
+  Waiting (taking ∷ takings) (x ∷ below) c top m =
+      let back = resumed taking.base_priority top m in
+      let there = interrupted_core taking.base_priority c x below in
+      (top % 8 ≡ 0) × (taking.base_priority < 2 ^ 8) × (m.exception ≡ external x.irq)
+      × (m.active ≡ external x.irq ∷ back.active) × (m.register 14 ≡ return_value back.exception)
+      × (back.register 13 ≡ top + 32) × (next : ℕ) × (next ≤ at.cells) × (back.register 13 ≤ next)
+      × ((phase : Phase at bottom img places p there next back) × IsFresh taking.last there next back phase)
+      × Waiting takings below there next back
+  Waiting takings below c top m = ⊥
 
 -- What runs shows the core's masks, cells, time, alarm and requests, whatever phase it is in.
 abbrev pub PhasesShow : Type 0
@@ -86,25 +93,28 @@ PhasesShow =
 -- What runs above interrupted jobs leaves each of them in its phase, whatever the core does meanwhile.
 abbrev pub WaitingIsKept : Type 0
 WaitingIsKept =
-    (at : Outside) (bottom highest : ℕ) (img : Image) (places : List ℕ) (p : Program) (priorities : List ℕ)
+    (at : Outside) (bottom highest : ℕ) (img : Image) (places : List ℕ) (p : Program) (takings : List Taking)
     (below : List Context) (c d : Core) (top : ℕ) (m n : Machine)
     → IsLaidOut at bottom (length c.processor.cells) → p.port ≡ at.port
     → length d.processor.cells ≡ length c.processor.cells → d.stopped ≡ c.stopped
     → KeepsAbove at top m n → Shows at d n → HoldsWords n
-    → Waiting at bottom highest img places p priorities below c top m
-    → Waiting at bottom highest img places p priorities below d top n
+    → Waiting at bottom highest img places p takings below c top m
+    → Waiting at bottom highest img places p takings below d top n
 
 -- An interrupt is taken: what it interrupts is a job more that waits, in the phase in which it was, as the core has it
 -- after its own entry.
 abbrev pub EntryAddsAJob : Type 0
 EntryAddsAJob =
-    (at : Outside) (bottom highest : ℕ) (img : Image) (places : List ℕ) (p : Program) (priorities : List ℕ)
-    (irq : ℕ) (h : Handler) (c : Core) (top : ℕ) (m : Machine)
+    (at : Outside) (bottom highest : ℕ) (img : Image) (places : List ℕ) (p : Program) (takings : List Taking)
+    (last : Last) (irq : ℕ) (h : Handler) (c : Core) (top : ℕ) (m : Machine)
     → IsLaidOut at bottom (length c.processor.cells) → p.port ≡ at.port → CanBeInterrupted m → m.address < 2 ^ 32
     → AllByRecursion (λ e. e ≢ external irq) m.active → c.processor.primask ≡ false → HoldsWords m
     → m.register 13 ≤ top → top ≤ at.cells
-    → Phase at bottom img places p c top m → Waiting at bottom highest img places p priorities c.below c top m
-    → Waiting at bottom highest img places p (c.processor.basepri ∷ priorities) (context_of c irq h ∷ c.below)
+    → (phase : Phase at bottom img places p c top m)
+    → IsFresh at bottom highest img places p last c top m phase
+    → Waiting at bottom highest img places p takings c.below c top m
+    → Waiting at bottom highest img places p
+    (record { base_priority = c.processor.basepri; last = last } ∷ takings) (context_of c irq h ∷ c.below)
     (core_after_entry c irq h) ((entered (external irq) m).register 13) (entered (external irq) m)
 
 -- And what runs then is a handler whose frame is coming into being, from where its entry led: there lies what runs

@@ -1,6 +1,12 @@
 // The laws, by kinds of instructions.
 
+ghost use Rattle.rt_native_laws.specs.Above.{PrivateKeepsAbove, StepsKeepAbove, TicksKeepAbove};
+ghost use Rattle.rt_native_laws.specs.Above.{WordsStay, WordsStayInPrivate, WordsStayInSteps};
+ghost use Rattle.rt_native_laws.specs.Alike.{StepsAreAlike};
+ghost use Rattle.rt_native_laws.specs.Arriving.{ArrivalsKeepPhases, PendingTicksKeepPhases};
+ghost use Rattle.rt_native_laws.specs.Deep.{PhasesAreWithinFrames, StackIsNoDeeper};
 ghost use Rattle.rt_native_laws.specs.Inputs.{EntryReadsInputs, ReadingGoesOn, ReadingIsKept};
+ghost use Rattle.rt_native_laws.specs.EachKind.{EachKindGoesOn};
 ghost use Rattle.rt_native_laws.specs.Laws.{SetIsDone, CopyIsDone, CalculationIsDone, JumpIsDone, JumpIfZeroIsDone};
 ghost use Rattle.rt_native_laws.specs.Laws.{MarkIsDone, WaitIsDone, LoadIsDone, StoreIsDone, LoadAtIsDone};
 ghost use Rattle.rt_native_laws.specs.Laws.{StoreAtIsDone, EmitIsDone, ClockIsDone, RaiseIsDone, RestoreIsDone};
@@ -12,8 +18,11 @@ ghost use Rattle.rt_native_laws.specs.Leaving.{BackGoesOn, CallBegins, RetGoesOn
 ghost use Rattle.rt_native_laws.specs.Loading.{LoadedCodeIsThere, LoadedEntriesLead};
 ghost use Rattle.rt_native_laws.specs.Opening.{OpeningIsDone};
 ghost use Rattle.rt_native_laws.specs.Phases.{ToComeIsKept, DoneIsKept, EnteringIsKept, CallingIsKept};
+ghost use Rattle.rt_native_laws.specs.Relating.{EntriesLeadOn, InstructionsLeadOn, LateInstructionsLeadOn};
+ghost use Rattle.rt_native_laws.specs.Relating.{PendingTicksLeadOn, RequestsLeadOn};
 ghost use Rattle.rt_native_laws.specs.Resetting.{ResetHasTwoParts, ResetLeads};
 ghost use Rattle.rt_native_laws.specs.Saving.{EntryPushesBelow, EntryIsUndone};
+ghost use Rattle.rt_native_laws.specs.Simulating.{NativeSimulatesWithoutAlarms};
 ghost use Rattle.rt_native_laws.specs.Tail.{AlarmIsStored, TailGoesOn, TailIsKept};
 ghost use Rattle.rt_native_laws.specs.Ticking.{TickIsServed};
 ghost use Rattle.rt_native_laws.specs.Waiting.{PhasesShow, WaitingIsKept, EntryAddsAJob, EntryBegins};
@@ -161,4 +170,60 @@ pub fn jobs_leave()
     ensures back { BackGoesOn }
     ensures ret { RetGoesOn }
     ensures resumes { ReturnResumes }
+{}
+
+/// At each machine instruction the stack is no deeper than the model's.
+pub fn stack_is_no_deeper()
+    ensures frames { PhasesAreWithinFrames }
+    ensures depth { StackIsNoDeeper }
+{}
+
+/// What runs leaves alone what lies above it, and words are words.
+pub fn others_are_left()
+    ensures private { PrivateKeepsAbove }
+    ensures steps { StepsKeepAbove }
+    ensures ticks { TicksKeepAbove }
+    ensures words { WordsStay }
+    ensures private_words { WordsStayInPrivate }
+    ensures step_words { WordsStayInSteps }
+{}
+
+/// A machine instruction of the job that runs is no fault, and nothing to the core, its step, or the return of its
+/// `ret`: of every kind of instruction but `alarm` and `mark`, and from every phase.
+pub fn each_kind_goes_on()
+    ensures { EachKindGoesOn }
+{}
+
+/// A request that comes, of a device or of SysTick, leaves the job that runs in its phase, at the core that has it too.
+pub fn requests_come()
+    ensures arrivals { ArrivalsKeepPhases }
+    ensures ticks { PendingTicksKeepPhases }
+{}
+
+/// A machine instruction of an image without alarms, where no exception is taken before it, is no fault; and behind it
+/// the processor is where the image is, as it was before.
+pub fn instructions_lead_on()
+    ensures next { InstructionsLeadOn }
+    ensures late { LateInstructionsLeadOn }
+{}
+
+/// A request comes to the processor and to the image, and both are where they were.
+pub fn requests_lead_on()
+    ensures requests { RequestsLeadOn }
+    ensures ticks { PendingTicksLeadOn }
+{}
+
+/// An interrupt is taken, of an image without alarms and inputs, and the processor is where the image is then.
+pub fn entries_lead_on()
+    ensures { EntriesLeadOn }
+{}
+
+/// Behind reset native code does what its image does, event after event, where there are no alarms and inputs.
+pub fn native_simulates()
+    ensures { NativeSimulatesWithoutAlarms }
+{}
+
+/// An alarm that has come changes no step of others, who set none and do not take its interrupt.
+pub fn alarms_change_no_other_step()
+    ensures { StepsAreAlike }
 {}

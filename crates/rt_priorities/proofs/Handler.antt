@@ -2,6 +2,7 @@
 use Rattle.std.proofs.Common.{◌≡◌, ◌≢◌, ℕ, ◌+◌, ◌-◌, ◌*◌, ◌/◌, ◌%◌, ◌^◌, ◌<◌, ◌≤◌, ◌⊎◌, inl, inr, ◌==◌, ◌&&◌, ◌||◌, not}
 use Rattle.std.proofs.Common.{Bool, true, false, nat_le, nat_lt, List, [], ◌∷◌, ◌++◌, Some, None}
 use Rattle.std.proofs.Common.{if◌then◌else◌, refl, sym, ap, ◌∙◌, arith, ⊎_elim, add-zero}
+use Rattle.std.specs.List.{AllByRecursion}
 use Rattle.std.proofs.lemmas.Bool.{eq-eqb, ne_eqb, lt-leb, le-leb, and_from, and_left, and_right, cases_lt}
 use Rattle.rt_ids.specs.Operation.{wrapped_number as word}
 use Rattle.rt_native.specs.Pieces.{address}
@@ -20,6 +21,7 @@ use Rattle.rt_thumb.specs.declared.instruction.Instruction.{Instruction}
 use Rattle.rt_thumb.specs.declared.instruction.Instruction.TheVariants as instruction
 use Rattle.rt_thumb_laws.specs.Undisturbed.{RunAtTop}
 use Rattle.rt_priorities.specs.Lying.{LieFrom}
+use Rattle.rt_priorities.specs.Ticking.{LeavesStack}
 use Rattle.rt_priorities.proofs.Pieces.{halves}
 use Rattle.rt_priorities.proofs.Running.{Place, IsHere, IsKept, Lead, put_word, with_value, further, made}
 use Rattle.rt_priorities.proofs.Running.{here_is_top, then_lead, none_lead, is_made, is_compared, is_at, is_put}
@@ -294,6 +296,7 @@ pub record ComesToItsEnd (p : Program) (entry : Machine) (memory : ℕ → ℕ) 
   pub has_memory : place.memory ≡ memory
   pub has_pending : place.pending ≡ pending
   pub has_seen : place.seen ≡ seen
+  pub calm : AllByRecursion LeavesStack is
 
 -- the time and the alarm are words in memory, and the port is neither of them, nor STIR
 pub record AreWords (at port : ℕ) (entry : Machine) (now instant : ℕ) : Type 0 where
@@ -335,6 +338,15 @@ abbrev pub due : ℕ → List Instruction
 due irq =
     instruction.MoveNot 2 0 ∷ instruction.Store 2 0 4 ∷ instruction.MoveWide 1 irq ∷ address 0 STIR
     ++ instruction.Store 1 0 0 ∷ []
+
+-- they leave the stack pointer alone
+calm_front : (at : Outside) (x : ℕ) → AllByRecursion LeavesStack (front at x [])
+unfolding address
+calm_front at x = (tt, (tt, (tt, (tt, (tt, (tt, (tt, (tt, tt))))))))
+
+calm_due : (at : Outside) (x irq : ℕ) → AllByRecursion LeavesStack (front at x (due irq))
+unfolding address
+calm_due at x irq = (tt, (tt, (tt, (tt, (tt, (tt, (tt, (tt, (tt, (tt, (tt, (tt, (tt, (tt, tt))))))))))))))
 
 module _ (p : Program) (entry : Machine) (rest : List ℕ) (runs : entry.active ≡ systick ∷ rest)
     (highest : byte_at entry 0xE000ED23 ≡ 0) (at : Outside) (time alarm : ℕ)
@@ -468,6 +480,7 @@ module _ (p : Program) (entry : Machine) (rest : List ℕ) (runs : entry.active 
         has_memory = refl;
         has_pending = refl;
         has_seen = refl;
+        calm = calm_front at x;
       }
 
   -- where a due alarm's code ends
@@ -547,4 +560,5 @@ module _ (p : Program) (entry : Machine) (rest : List ℕ) (runs : entry.active 
         has_memory = refl;
         has_pending = refl;
         has_seen = refl;
+        calm = calm_due at x irq;
       }

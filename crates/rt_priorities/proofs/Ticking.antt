@@ -32,7 +32,7 @@ use Rattle.rt_thumb_laws.proofs.Returning.{returns_give_back}
 use Rattle.rt_thumb_laws.proofs.Undisturbed.{nothing_disturbs}
 use Rattle.rt_priorities.specs.Agreeing.{AgreesWith, IsActiveAs}
 use Rattle.rt_priorities.specs.Lying.{LieFrom}
-use Rattle.rt_priorities.specs.Ticking.{TellsTheTime, HasInstants, LieApart, ServesTicks, TickIsNext}
+use Rattle.rt_priorities.specs.Ticking.{LeavesStack, TellsTheTime, HasInstants, LieApart, ServesTicks, TickIsNext}
 use Rattle.rt_priorities.specs.Ticking.{TicksAtOnce, TicksAreOneEvent, requested, alarm_word}
 use Rattle.rt_priorities.proofs.Handler.{ComesToItsEnd, AreWords, with_time, with_no_alarm, front, due}
 use Rattle.rt_priorities.proofs.Handler.{quiet_end, due_end, same_word}
@@ -130,7 +130,7 @@ none_is_tick (x ∷ xs) = ((λ same. never x.irq same), none_is_tick xs)
     never : (irq : ℕ) → external irq ≡ systick → ⊥
     never irq same = omega arith
 
-number_is_small : (m : Machine) (xs : List Context) → AllByRecursion (IsActiveAs m) xs → exception_number xs < 2 ^ 9
+pub number_is_small : (m : Machine) (xs : List Context) → AllByRecursion (IsActiveAs m) xs → exception_number xs < 2 ^ 9
 number_is_small m [] all = omega arith
 number_is_small m (x ∷ xs) all = let number = all.0.number in omega arith
 
@@ -169,6 +169,10 @@ record HasReturned (p : Program) (m : Machine) (memory : ℕ → ℕ) (pending :
   pub has_memory : last.memory ≡ memory
   pub has_pending : last.is_pending ≡ pending
   pub has_seen : last.seen ≡ Returned systick ∷ seen
+  pub settled : last.is_unsettled ≡ false
+  pub executed : List Instruction
+  pub calm : AllByRecursion LeavesStack executed
+  pub run : RunAtTop p (executed ++ instruction.BranchExchange 14 ∷ []) (entered systick m) last
 
 module _ (p : Program) (img : Image) (at : Outside) (irq : Option ℕ) (c : Core) (m : Machine)
     (agrees : AgreesWith img c m) (next : TickIsNext c m) (serves : ServesTicks p at irq m)
@@ -277,6 +281,10 @@ module _ (p : Program) (img : Image) (at : Outside) (irq : Option ℕ) (c : Core
           has_memory = goes.memory ∙ late_memory;
           has_pending = goes.is_pending ∙ (comes.here.pending ∙ comes.has_pending);
           has_seen = goes.seen ∙ ap (λ s. Returned systick ∷ s) (comes.here.seen ∙ comes.has_seen);
+          settled = goes.is_unsettled;
+          executed = comes.is;
+          calm = comes.calm;
+          run = run;
         }
       where
         registers : (last : Machine) → GoesOn systick m late last → (k : ℕ) → last.register k ≡ m.register k
@@ -356,6 +364,9 @@ module _ (p : Program) (img : Image) (at : Outside) (irq : Option ℕ) (c : Core
         steps = back.steps;
         last = back.last;
         leads = back.leads;
+        executed = back.executed;
+        calm = back.calm;
+        run = back.run;
         has_ticked = record {
           agrees = subst (λ k. AgreesWith img k back.last) (sym model) agrees_now;
           tells = subst (λ k. TellsTheTime at k back.last) (sym model) (record {
@@ -369,6 +380,8 @@ module _ (p : Program) (img : Image) (at : Outside) (irq : Option ℕ) (c : Core
           flags = back.flags;
           exception = back.exception;
           memory = beside memory entry.is_pending entry.seen but back;
+          others = λ k where_. ap (λ f. f k) back.has_memory ∙ but k where_;
+          settled = back.settled;
           is_over = ap (λ f. f systick) back.has_pending;
           seen = back.has_seen ∙ ap (λ s. Returned systick ∷ (s ++ Entered systick ∷ m.seen)) (sym asks);
         };
@@ -401,6 +414,9 @@ module _ (p : Program) (img : Image) (at : Outside) (irq : Option ℕ) (c : Core
         steps = back.steps;
         last = back.last;
         leads = back.leads;
+        executed = back.executed;
+        calm = back.calm;
+        run = back.run;
         has_ticked = record {
           agrees = subst (λ k. AgreesWith img k back.last) (sym model) agrees_now;
           tells = subst (λ k. TellsTheTime at k back.last) (sym model) (record {
@@ -416,6 +432,8 @@ module _ (p : Program) (img : Image) (at : Outside) (irq : Option ℕ) (c : Core
           flags = back.flags;
           exception = back.exception;
           memory = beside memory pending seen but back;
+          others = λ k where_. ap (λ f. f k) back.has_memory ∙ but k where_;
+          settled = back.settled;
           is_over = ap (λ f. f systick) back.has_pending
               ∙ ap (λ b. b || false) (ne_eqb systick (external a.irq) (λ same. never a.irq same));
           seen = back.has_seen ∙ ap (λ s. Returned systick ∷ (s ++ Entered systick ∷ m.seen)) (sym asks);

@@ -2,8 +2,10 @@
 -- the processor executes the code of a tick and nothing else, whatever comes in between. To whom it interrupts all of
 -- it is one event, that of the core's model: the time rises by one, and an alarm that is due comes. The model has no
 -- code for it.
-use Rattle.std.specs.Prelude.{◌≡◌, ◌≢◌, ℕ, suc, ◌+◌, ◌-◌, ◌*◌, ◌%◌, ◌^◌, ◌<◌, ◌≤◌, ◌⊎◌, false, nat_le, if◌then◌else◌}
-use Rattle.std.specs.Prelude.{List, [], ◌∷◌, ◌++◌, length, Option, Some, None, IfSome}
+use Rattle.std.specs.Prelude.{◌≡◌, ◌≢◌, ℕ, suc, ◌+◌, ◌-◌, ◌*◌, ◌/◌, ◌%◌, ◌^◌, ◌<◌, ◌≤◌, ◌⊎◌, false, nat_le}
+use Rattle.std.specs.Prelude.{if◌then◌else◌}
+use Rattle.std.specs.Prelude.{List, [], ◌∷◌, ◌++◌, length, Option, Some, None, IfSome, ⊤}
+use Rattle.std.specs.List.{AllByRecursion}
 use Rattle.rt_ids.specs.declared.limits.TheConstants.{IRQ_NUMBERS}
 use Rattle.rt_code.specs.Image.{Image}
 use Rattle.rt_core.specs.Core.{Core, exception_number}
@@ -13,10 +15,12 @@ use Rattle.rt_native.specs.Pieces.{bytes_of}
 use Rattle.rt_native.specs.Sequences.{STIR}
 use Rattle.rt_native.specs.Service.{tick}
 use Rattle.rt_native.specs.declared.outside.Outside.{Outside}
-use Rattle.rt_thumb.specs.Exceptions.{systick, priority_of, taken, even}
+use Rattle.rt_thumb.specs.Exceptions.{entered, systick, priority_of, taken, even}
 use Rattle.rt_thumb.specs.Machine.{Machine, Seen, Posted, Entered, Returned, word_at}
 use Rattle.rt_thumb.specs.Step.{Program, Event, Goes, after}
-use Rattle.rt_thumb_laws.specs.Undisturbed.{goings, with_arrivals}
+use Rattle.rt_thumb.specs.declared.instruction.Instruction.{Instruction}
+use Rattle.rt_thumb.specs.declared.instruction.Instruction.TheVariants as instruction
+use Rattle.rt_thumb_laws.specs.Undisturbed.{RunAtTop, goings, with_arrivals}
 use Rattle.rt_priorities.specs.Agreeing.{AgreesWith}
 use Rattle.rt_priorities.specs.Lying.{LieFrom}
 
@@ -66,8 +70,18 @@ abbrev pub requested : ℕ → Option Alarm → List Seen
 requested time None = []
 requested time (Some a) = if nat_le a.instant time then Posted a.irq ∷ [] else []
 
+-- an instruction leaves the stack pointer where it is, and is no branch to an address in a register
+abbrev pub LeavesStack : Instruction → Type 0
+LeavesStack (instruction.AddStack n) = ⊥
+LeavesStack (instruction.SubtractStack n) = ⊥
+LeavesStack (instruction.AddStackWide n) = ⊥
+LeavesStack (instruction.SubtractStackWide n) = ⊥
+LeavesStack (instruction.BranchExchange r) = ⊥
+LeavesStack i = ⊤
+
 -- A tick has been: what was interrupted goes on as it was, the tick is not pending, and the processor agrees with the
--- core after its tick. Memory above the stack pointer is as it was but for the time and the alarm.
+-- core after its tick. Memory above the stack pointer is as it was but for the time and the alarm, and elsewhere as the
+-- entry left it.
 pub record HasTicked (img : Image) (at : Outside) (c : Core) (m last : Machine) : Type 0 where
   pub agrees : AgreesWith img (model_tick c).0 last
   pub tells : TellsTheTime at (model_tick c).0 last
@@ -77,15 +91,21 @@ pub record HasTicked (img : Image) (at : Outside) (c : Core) (m last : Machine) 
   pub exception : last.exception ≡ m.exception
   pub memory : (address : ℕ) → m.register 13 ≤ address → (address < at.time) ⊎ (at.time + 8 ≤ address)
       → word_at last address ≡ word_at m address
+  pub others : (k : ℕ) → (k < at.time / 4) ⊎ ((at.time + 8) / 4 ≤ k) → last.memory k ≡ (entered systick m).memory k
+  pub settled : last.is_unsettled ≡ false
   pub is_over : last.is_pending systick ≡ false
   pub seen : last.seen ≡ Returned systick ∷ (requested (suc c.time) c.alarm ++ Entered systick ∷ m.seen)
 
--- after its entry the processor goes on so many times, whatever comes in between, and then the tick has been
+-- After its entry the processor goes on so many times, whatever comes in between, and then the tick has been. What it
+-- executes leaves the stack pointer alone, up to the exception return.
 pub record TicksAtOnce (p : Program) (img : Image) (at : Outside) (c : Core) (m : Machine) : Type 0 where
   pub steps : ℕ
   pub last : Machine
   pub leads : (events : List Event) → goings events ≡ steps
       → after p (Goes ∷ events) (Some m) ≡ Some (with_arrivals events last)
+  pub executed : List Instruction
+  pub calm : AllByRecursion LeavesStack executed
+  pub run : RunAtTop p (executed ++ instruction.BranchExchange 14 ∷ []) (entered systick m) last
   pub has_ticked : HasTicked img at c m last
 
 abbrev pub TicksAreOneEvent : Type 0

@@ -19,7 +19,7 @@ use Rattle.rt_thumb_laws.proofs.Stores.{stored_as}
 use Rattle.rt_thumb_laws.proofs.Taking.{the_first_is_taken}
 
 -- what comes of it with an exception pending is the same, with that pending
-abbrev IsLikeBut : ℕ → Option Machine → Option Machine → Type 0
+abbrev pub IsLikeBut : ℕ → Option Machine → Option Machine → Type 0
 IsLikeBut e x y = x ≡ option_map (pended e) y
 
 either : (e : ℕ) (b : Bool) (x y v w : Option Machine) → IsLikeBut e x v → IsLikeBut e y w
@@ -88,7 +88,7 @@ module _ (e : ℕ) (m : Machine) where
       (either e (value % 2 == 1) (Some (record (pended e m) { address = even value })) None
       (Some (record m { address = even value })) None refl refl)
 
-  effects_with : (port : ℕ) (i : Instruction) → IsLikeBut e (effect port i (pended e m)) (effect port i m)
+  pub effects_with : (port : ℕ) (i : Instruction) → IsLikeBut e (effect port i (pended e m)) (effect port i m)
   effects_with port (instruction.Operate op d b) = ap (behind (instruction.Operate op d b)) (operated_with op d b)
   effects_with port (instruction.BranchExchange r) = exchanged_with (m.register r)
   effects_with port (instruction.Load t a n) = loading_with (instruction.Load t a n) t (word (m.register a + n))
@@ -116,7 +116,7 @@ module _ (e : ℕ) (m : Machine) where
   effects_with port i = refl
 
 -- a run with an exception pending ends the same, with that pending
-run_with : (p : Program) (e : ℕ) (is : List Instruction) (m last : Machine) → RunAtTop p is m last
+pub run_with : (p : Program) (e : ℕ) (is : List Instruction) (m last : Machine) → RunAtTop p is m last
     → RunAtTop p is (pended e m) (pended e last)
 run_with p e [] m last run = ap (pended e) run
 run_with p e (i ∷ is) m last run =
@@ -131,7 +131,7 @@ run_with p e (i ∷ is) m last run =
     )
 
 -- at the execution priority 0 no exception is taken
-none_at_top : (m : Machine) → execution_priority m ≡ 0 → taken m ≡ None
+pub none_at_top : (m : Machine) → execution_priority m ≡ 0 → taken m ≡ None
 none_at_top m top = (the_first_is_taken m).none.1 (λ e may.
     never (priority_of m e) (subst (λ x. priority_of m e < x) top may.higher))
   where

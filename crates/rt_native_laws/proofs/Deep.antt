@@ -1,0 +1,116 @@
+-- The stack is no deeper than the model's.
+use Rattle.std.proofs.Common.{◌≡◌, ℕ, suc, ◌+◌, ◌*◌, ◌≤◌, Bool, true, false, List, [], ◌∷◌, Option, ap, arith, sum_by}
+use Rattle.std.proofs.Common.{length, None}
+use Rattle.std.proofs.lemmas.List.{length-set}
+use Rattle.std.proofs.lemmas.List.Sums.{sum_by-cons}
+use Rattle.std.specs.Prelude.{is_none}
+use Rattle.rt_ids.specs.Exception as exception
+use Rattle.rt_lemmas.proofs.Bools.{and_parts}
+use Rattle.rt_code.specs.Image.{Image, entry_words}
+use Rattle.rt_code.specs.Stack.{words_of, caller_frame, last_slot}
+use Rattle.rt_core.specs.Core.{Core, Context, context_words}
+use Rattle.rt_native.specs.declared.outside.Outside.{Outside}
+use Rattle.rt_thumb.specs.Machine.{Machine}
+use Rattle.rt_thumb.specs.Step.{Program}
+use Rattle.rt_native_laws.specs.Deep.{IsWithinFrames, PhasesAreWithinFrames, StackIsNoDeeper}
+use Rattle.rt_native_laws.specs.Moments.{Taking}
+use Rattle.rt_native_laws.specs.Phases.{AlreadyDone, Calling, Entering, IsCalling, IsDone, IsEntering, IsToCome, Phase}
+use Rattle.rt_native_laws.specs.Phases.{ToCome}
+use Rattle.rt_native_laws.specs.Standing.{IsLaidOut}
+use Rattle.rt_native_laws.specs.Waiting.{Waiting, interrupted_core, resumed}
+use Rattle.rt_native_laws.proofs.Calls.{is_free}
+use Rattle.rt_native_laws.proofs.Phases.{apart_of}
+use Rattle.rt_native_laws.proofs.Private.{private_is_unseen}
+
+module _ (at : Outside) (bottom : ℕ) (img : Image) (places : List ℕ) (p : Program) (c : Core) (top : ℕ)
+    (m : Machine) (port : p.port ≡ at.port) where
+  to_come_within : IsToCome at bottom img places p c top m → IsWithinFrames at bottom c top m
+  to_come_within x =
+      let low = x.first.register 13 in
+      let begun = x.stands.stands in
+      let high : top ≤ at.cells = omega (arith, x.ends, begun.frames) in
+      let apart = apart_of at bottom low top (length c.processor.cells) p x.stands.laid port begun.stack high in
+      let own = private_is_unseen p low top x.passed x.first x.reached apart (omega arith) (omega (arith, x.ends))
+      x.prepares in
+      let sp : m.register 13 ≡ x.reached.register 13 = ap (λ (y : Machine). y.register 13) x.now.rest in
+      record {
+        low = omega (arith, sp, own.stack.0, begun.stack);
+        high = omega (arith, sp, own.stack.1);
+        frames = omega (arith, sp, own.stack.0, x.ends);
+        below_cells = high;
+      }
+
+  done_within : IsDone at bottom img places p c top m → IsWithinFrames at bottom c top m
+  done_within x = record {
+    low = omega (arith, x.stack, x.stands.stack);
+    high = omega (arith, x.stack, x.ends);
+    frames = omega (arith, x.stack, x.ends);
+    below_cells = omega (arith, x.ends, x.stands.frames);
+  }
+
+  entering_within : IsEntering at bottom img places p c top m → IsWithinFrames at bottom c top m
+  entering_within x = record {
+    low = omega (arith, x.deep, x.ends, x.opens.room);
+    high = omega (arith, x.begun.fallen, x.ends);
+    frames = omega (arith, x.deep, x.opens.frame);
+    below_cells = omega (arith, x.ends, x.opens.stands.frames);
+  }
+
+  calling_within : IsCalling at bottom img places p c top m → IsWithinFrames at bottom c top m
+  calling_within x =
+      let free : x.before.caller ≡ None =
+      is_free x.before.caller (and_parts (is_none x.before.caller) _ x.may).0 in
+      let none : length (words_of x.before.caller) ≡ 0 =
+      ap (λ (o : Option (List ℕ)). length (words_of o)) free in
+      let long : length (caller_frame x.before.processor.slots (suc x.before.processor.address))
+      ≡ length x.before.processor.slots =
+      length-set x.before.processor.slots (last_slot x.before.processor.slots) (suc x.before.processor.address) in
+      let caller : length (words_of c.caller)
+      ≡ length (caller_frame x.before.processor.slots (suc x.before.processor.address)) =
+      ap (λ (y : Core). length (words_of y.caller)) x.called.core in
+      record {
+        low = omega (arith, x.deep, x.can.room);
+        high = omega (arith, x.begun.fallen, x.ends);
+        frames = omega (arith, x.deep, x.ends, x.frame, none, long, caller);
+        below_cells = omega (arith, x.ends, x.stands.stands.frames);
+      }
+
+  within : Phase at bottom img places p c top m → IsWithinFrames at bottom c top m
+  within (ToCome x) = to_come_within x
+  within (AlreadyDone x) = done_within x
+  within (Entering x) = entering_within x
+  within (Calling x) = calling_within x
+
+pub phases_are_within_frames : PhasesAreWithinFrames
+phases_are_within_frames at bottom img places p c top m laid port phase =
+    within at bottom img places p c top m port phase
+
+-- exception entry pushes eight words, or is counted for more
+pub eight : (fpu : Bool) → 8 ≤ exception.entry_words fpu
+eight true = omega arith
+eight false = omega arith
+
+module _ (at : Outside) (bottom highest : ℕ) (img : Image) (places : List ℕ) (p : Program) (port : p.port ≡ at.port)
+  where
+    abbrev contexts : List Context → ℕ
+    contexts below = sum_by (context_words (entry_words img)) below
+
+    pub others_deep : (takings : List Taking) (below : List Context) (c : Core) (top : ℕ) (m : Machine)
+        → IsLaidOut at bottom (length c.processor.cells)
+        → Waiting at bottom highest img places p takings below c top m → highest ≤ top + 4 * contexts below
+    others_deep [] [] c top m laid jobs = omega (arith, jobs.0)
+    others_deep [] (x ∷ below) c top m laid jobs = absurd jobs
+    others_deep (taking ∷ takings) [] c top m laid jobs = absurd jobs
+    others_deep (taking ∷ takings) (x ∷ below) c top m laid
+        (aligned, small, runs, active, link, up, next, within, fits, phase, more) =
+        let back = resumed taking.base_priority top m in
+        let there = interrupted_core taking.base_priority c x below in
+        let frames = (phases_are_within_frames at bottom img places p there next back laid port phase.0).frames in
+        let rest = others_deep takings below there next back laid more in
+        omega (arith, frames, rest, up, sum_by-cons (context_words (entry_words img)) x below, eight img.fpu)
+
+pub stack_is_no_deeper : StackIsNoDeeper
+stack_is_no_deeper at bottom highest img places p takings c top m laid port phase jobs =
+    let frames = (phases_are_within_frames at bottom img places p c top m laid port phase).frames in
+    let rest = others_deep at bottom highest img places p port takings c.below c top m laid jobs in
+    omega (arith, frames, rest)

@@ -1,0 +1,308 @@
+-- An interrupt is taken, and what it leads to leads on.
+use Rattle.std.proofs.Common.{◌≡◌, ◌≢◌, ◌∙◌, ℕ, ◌+◌, ◌*◌, ◌/◌, ◌%◌, ◌^◌, ◌<◌, ◌≤◌, inl, inr, Bool, true, false, List}
+use Rattle.std.proofs.Common.{[], ◌∷◌, ◌++◌, Option, Some, None, IfSome, refl, sym, ap, subst, arith, length, map}
+use Rattle.std.proofs.Common.{⊎_elim}
+use Rattle.std.proofs.lemmas.List.{length-set}
+use Rattle.std.specs.List.{AllByRecursion}
+use Rattle.std.specs.Prelude.{if◌then◌else◌, min, nat_lt, reverse, slice_get, slice_index, slice_index_or}
+use Rattle.rt_ids.specs.Event.{Step}
+use Rattle.rt_lemmas.proofs.Bools.{and_parts, true_and_false}
+use Rattle.rt_lemmas.proofs.Membership.{all_at}
+use Rattle.rt_code.specs.Image.{Image, entry_words}
+use Rattle.rt_code.specs.declared.image.Handler.{Handler}
+use Rattle.rt_code.specs.declared.image.IrqRow.{IrqRow}
+use Rattle.rt_code.specs.declared.processor.Trap.TheVariants as trap
+use Rattle.rt_core.specs.Core.{Context, Core, depth, exception_number, stack_in_use}
+use Rattle.rt_core.specs.Outcome.{Done, Trapped, settle}
+use Rattle.rt_core.specs.Priority.{base_value, execution, mask_value, pick, running_value, value_or_none}
+use Rattle.rt_core.specs.Stepping.{attempt, step}
+use Rattle.rt_core.specs.Transfer.{core_after_entry, exception_entry, has_room}
+use Rattle.rt_core.proofs.Picking.{picked_row}
+use Rattle.rt_native.specs.Layout.{TICK_BYTES, outside, places, stack_top, stub_places}
+use Rattle.rt_native.specs.Service.{entrance, first_call, stub}
+use Rattle.rt_native.specs.Target.{Target}
+use Rattle.rt_native.specs.declared.outside.Outside.{Outside}
+use Rattle.rt_native.specs.declared.target.Input.{Input}
+use Rattle.rt_priorities.specs.Agreeing.{AreNested, IsActiveAs, IsSetAs}
+use Rattle.rt_priorities.proofs.Keeping.{entries_keep_agreeing}
+use Rattle.rt_priorities.proofs.Ticking.{number_is_small}
+use Rattle.rt_thumb.specs.Exceptions.{entered, external, priority_of, systick}
+use Rattle.rt_thumb.specs.Machine.{Machine, Seen}
+use Rattle.rt_thumb.specs.Step.{Program}
+use Rattle.rt_thumb.specs.declared.instruction.Instruction.{Instruction}
+use Rattle.rt_trace.specs.Label.{Stepped}
+use Rattle.rt_trace.specs.declared.item.What.{What}
+use Rattle.rt_trace.specs.declared.item.What.TheVariants as what
+use Rattle.rt_native_laws.specs.Behaving.{HasEvenFrames, IsGood, StaysGood}
+use Rattle.rt_native_laws.specs.Deep.{IsWithinFrames}
+use Rattle.rt_native_laws.specs.Moments.{Began, Comes, Happening, Moment, Taking, after_step, moment_after}
+use Rattle.rt_native_laws.specs.Own.{Spans}
+use Rattle.rt_native_laws.specs.Phases.{Phase}
+use Rattle.rt_native_laws.specs.Relating.{EntriesLeadOn, IsInPlace, IsWhere, LeadsOn, lowest}
+use Rattle.rt_native_laws.specs.Saving.{CanBeInterrupted}
+use Rattle.rt_native_laws.specs.Simulating.{HasNoAlarms, seen_of_label}
+use Rattle.rt_native_laws.specs.Standing.{IsLaidOut}
+use Rattle.rt_native_laws.specs.Waiting.{Waiting}
+use Rattle.rt_native_laws.proofs.Deep.{eight, phases_are_within_frames, stack_is_no_deeper}
+use Rattle.rt_native_laws.proofs.Eights.{phase_is_eight}
+use Rattle.rt_native_laws.proofs.Loading.{loaded_entries_lead}
+use Rattle.rt_native_laws.proofs.Marking.{marks_are_done, step_seen}
+use Rattle.rt_native_laws.proofs.Relating.{KeepsOutside, loaded_still, tick_still}
+use Rattle.rt_native_laws.proofs.Saving.{entry_pushes_below}
+use Rattle.rt_native_laws.proofs.Tests.{at_most, is_less, not_equal}
+use Rattle.rt_native_laws.proofs.Waiting.{entry_adds_a_job, entry_begins, unopened_inside}
+
+-- the step that takes an interrupt, where it is no trap
+record IsEntered (img : Image) (c : Core) (irq : ℕ) (h : Handler) : Type 0 where
+  room : has_room img c (entry_words img + h.frame) ≡ true
+  is : step img c ≡ (core_after_entry c irq h, Some (what.Take irq (depth img (core_after_entry c irq h))))
+
+entry_is : (img : Image) (c : Core) (row : IrqRow) (h : Handler) → c.stopped ≡ false → pick img c ≡ Some row
+    → row.handler ≡ Some h → (step img c).0.stopped ≡ false → IsEntered img c row.number h
+unfolding step
+entry_is img c row h goes picked handled no_trap =
+    by_room (has_room img c (entry_words img + h.frame)) refl
+  where
+    to : step img c ≡ settle (exception_entry img c row.number (Some h))
+    to =
+        ap (λ (b : Bool). if b then (c, None) else settle (attempt img c (pick img c))) goes
+        ∙ (ap (λ o. settle (attempt img c o)) picked ∙ ap (λ o. settle (exception_entry img c row.number o)) handled)
+
+    by_room : (b : Bool) → has_room img c (entry_words img + h.frame) ≡ b → IsEntered img c row.number h
+    by_room true e = record {
+      room = e;
+      is = to ∙ ap (λ (t : Bool). settle (if t
+          then Done (core_after_entry c row.number h)
+          (Some (what.Take row.number (depth img (core_after_entry c row.number h)))) else Trapped c trap.Stack)) e;
+    }
+    by_room false e =
+        absurd (true_and_false (step img c).0.stopped
+        (ap (λ (x : Core × Option What). x.0.stopped) (to ∙ ap (λ (t : Bool). settle (if t
+        then Done (core_after_entry c row.number h)
+        (Some (what.Take row.number (depth img (core_after_entry c row.number h)))) else Trapped c trap.Stack)) e))
+        no_trap)
+
+-- an interrupt of a higher priority than all that are active is none of them
+none_is_it : (m : Machine) (irq v : ℕ) (below : List Context) → priority_of m (external irq) ≡ v
+    → v < running_value below → AllByRecursion (IsActiveAs m) below → AreNested below
+    → AllByRecursion (λ e. e ≢ external irq) (map (λ x. external x.irq) below)
+none_is_it m irq v [] value higher all nested = tt
+none_is_it m irq v (x ∷ below) value higher all nested = (
+  λ same.
+      let equal : v ≡ x.value = sym value ∙ (ap (priority_of m) (sym same) ∙ all.0.value) in
+      omega (arith, equal, higher),
+  none_is_it m irq v below value (omega (arith, higher, nested.0)) all.1 nested.1,
+)
+
+-- what interrupted jobs say of what runs
+module _ (at : Outside) (bottom highest : ℕ) (img : Image) (places : List ℕ) (p : Program) (c : Core) (top : ℕ)
+    (m : Machine) where
+  pub top_is_eight : (takings : List Taking) (below : List Context)
+      → Waiting at bottom highest img places p takings below c top m → highest % 8 ≡ 0 → top % 8 ≡ 0
+  top_is_eight [] [] jobs z = omega (arith, jobs.0, z)
+  top_is_eight [] (x ∷ below) jobs z = absurd jobs
+  top_is_eight (taking ∷ takings) [] jobs z = absurd jobs
+  top_is_eight (taking ∷ takings) (x ∷ below) jobs z = jobs.0
+
+  pub exception_is : (takings : List Taking) (below : List Context)
+      → Waiting at bottom highest img places p takings below c top m → m.exception ≡ exception_number below
+  exception_is [] [] jobs = jobs.1
+  exception_is [] (x ∷ below) jobs = absurd jobs
+  exception_is (taking ∷ takings) [] jobs = absurd jobs
+  exception_is (taking ∷ takings) (x ∷ below) jobs = jobs.2
+
+-- what runs first as an interrupt is taken, where no function is called and no input read
+entrance_is : (at : Outside) (target : Target) (places : List ℕ) (to : ℕ) (row : IrqRow) (h : Handler)
+    → row.handler ≡ Some h → target.calls ≡ [] → target.inputs ≡ []
+    → entrance at target places to row ≡ stub at [] places to row.number (Some h)
+unfolding entrance
+entrance_is at target places to row h handled no_functions no_inputs =
+    ap (λ (o : Option Handler). first_call target.calls row.number o ++ stub at target.inputs places to row.number o)
+    handled
+    ∙ (ap (λ (cs : List ℕ). first_call cs row.number (Some h) ++ stub at target.inputs places to row.number (Some h))
+    no_functions
+    ∙ ap (λ (is : List Input). first_call [] row.number (Some h) ++ stub at is places to row.number (Some h)) no_inputs)
+
+module _ (img : Image) (target : Target) (p : Program) (ceiling : ℕ) (fits : List Happening → Bool) (s : Moment)
+    (m : Machine) (row : IrqRow) (h : Handler) (there : IsInPlace img target p) (no_alarms : HasNoAlarms img)
+    (even_frames : HasEvenFrames img) (no_inputs : target.inputs ≡ [])
+    (stays : StaysGood img target.inputs ceiling fits s) (fitting : fits [] ≡ true) (w : IsWhere img target p s m)
+    (picked : pick img s.core ≡ Some row) (handled : row.handler ≡ Some h) where
+  abbrev at : Outside
+  at = outside img target
+
+  abbrev pl : List ℕ
+  pl = places img target
+
+  abbrev bottom : ℕ
+  bottom = lowest img target p
+
+  abbrev highest : ℕ
+  highest = stack_top img target
+
+  abbrev c : Core
+  c = s.core
+
+  abbrev e : ℕ
+  e = external row.number
+
+  abbrev n : Machine
+  n = entered e m
+
+  abbrev d : Core
+  d = core_after_entry c row.number h
+
+  good : IsGood img ceiling s
+  good = stays [] tt fitting
+
+  laid : IsLaidOut at bottom (length c.processor.cells)
+  laid = subst (IsLaidOut at bottom) (sym w.cells) there.laid
+
+  at_index : slice_get img.irqs (picked_row img c row picked).0.0 ≡ Some row
+  at_index = (picked_row img c row picked).0.1
+
+  higher : value_or_none row.handler < execution c
+  higher =
+      is_less (value_or_none row.handler) (execution c)
+      (and_parts (slice_index_or c.pending row.number false) (nat_lt (value_or_none row.handler) (execution c))
+      (picked_row img c row picked).1).1
+
+  higher_than : h.value < execution c
+  higher_than = subst (λ (o : Option Handler). value_or_none o < execution c) handled higher
+
+  unmasked : c.processor.primask ≡ false
+  unmasked = by_mask c.processor.primask refl
+    where
+      by_mask : (b : Bool) → c.processor.primask ≡ b → c.processor.primask ≡ false
+      by_mask false f = f
+      by_mask true f =
+          let none = subst (λ (t : Bool). h.value < min (running_value c.below)
+          (min (base_value c.processor.basepri) (mask_value t))) f higher_than in
+          absurd (omega (arith, none))
+
+  declared : IsSetAs m row
+  declared = all_at (IsSetAs m) img.irqs (picked_row img c row picked).0.0 row w.agrees.declared at_index
+
+  value : priority_of m e ≡ h.value
+  value = subst (λ (o : Option Handler). IfSome o (λ k. priority_of m e ≡ k.value)) handled declared.value
+
+  inactive : AllByRecursion (λ x. x ≢ e) m.active
+  inactive =
+      subst (AllByRecursion (λ x. x ≢ e)) (sym w.agrees.active)
+      (none_is_it m row.number h.value c.below value (omega (arith, higher_than)) w.agrees.values w.agrees.nested)
+
+  highest_eight : highest % 8 ≡ 0
+  highest_eight = omega (arith, there.image.ram.0)
+
+  eights : m.register 13 % 8 ≡ 0
+  eights =
+      phase_is_eight at bottom img pl p there.has even_frames no_alarms c w.top m
+      (top_is_eight at bottom highest img pl p c w.top m s.takings c.below w.waiting highest_eight) good.frames w.phase
+
+  within : IsWithinFrames at bottom c w.top m
+  within = phases_are_within_frames at bottom img pl p c w.top m laid there.has.port w.phase
+
+  entry : IsEntered img c row.number h
+  entry = entry_is img c row h good.goes picked handled good.no_trap
+
+  room : bottom + 4 * h.frame + 32 ≤ m.register 13
+  room =
+      let deep = stack_is_no_deeper at bottom highest img pl p s.takings c w.top m laid there.has.port w.phase
+      w.waiting in
+      let fits_in = at_most (stack_in_use img c + (entry_words img + h.frame)) (img.stack_bytes / 4) entry.room in
+      omega (arith, deep, fits_in, there.reach, there.image.runnable.sizes.stack_pairs, eight img.fpu)
+
+  lowest_is : 32 ≤ bottom
+  lowest_is = omega (arith, there.reach)
+
+  can : CanBeInterrupted m
+  can = record {
+    stack = eights;
+    room = omega (arith, room);
+    address = w.placed.0;
+    exception = subst (λ (x : ℕ). x < 2 ^ 9)
+        (sym (exception_is at bottom highest img pl p c w.top m s.takings c.below w.waiting))
+        (number_is_small m c.below w.agrees.values);
+  }
+
+  abbrev to : ℕ
+  to = slice_index (stub_places img target) ((picked_row img c row picked).0.0 + 1)
+
+  lies : Spans p n.address (stub at [] pl to row.number (Some h)) to
+  lies =
+      subst (λ (zs : List Instruction). Spans p n.address zs to)
+      (entrance_is at target pl to row h handled there.image.no_functions no_inputs)
+      (loaded_entries_lead img target p m w.loaded there.image.runnable.rows.numbers
+      (picked_row img c row picked).0.0 row h at_index handled)
+
+  phase : Phase at bottom img pl p d (n.register 13) n
+  phase =
+      entry_begins at bottom img pl p to row.number h c w.top m there.has laid can w.placed.1 inactive unmasked w.words
+      within.high within.below_cells w.phase
+      (there.entrances ((picked_row img c row picked).0.0 + 1)) lies room
+
+  keeps : KeepsOutside at bottom m n
+  keeps k beside =
+      entry_pushes_below e m can k (⊎_elim (λ (x : 4 * k + 4 + TICK_BYTES ≤ bottom). inl (omega (arith, x, room)))
+      (λ (x : at.time + 8 ≤ 4 * k). inr (omega (arith, x, within.high, within.below_cells, there.laid.time))) beside)
+
+  abbrev taking : Taking
+  taking = record { base_priority = c.processor.basepri; last = s.last }
+
+  small_place : n.address < 2 ^ 32
+  small_place =
+      let small = w.words.memory ((m.memory (0xE000ED08 / 4) + 4 * e) / 4) in omega (arith, small)
+
+  where_then : IsWhere img target p (record { core = d; last = Began; takings = taking ∷ s.takings }) n
+  where_then = record {
+    top = n.register 13;
+    phase = phase;
+    fresh = omega arith;
+    waiting = entry_adds_a_job at bottom highest img pl p s.takings s.last row.number h c w.top m laid there.has.port
+        can
+        w.placed.1 inactive unmasked w.words within.high within.below_cells w.phase w.fresh w.waiting;
+    agrees = entries_keep_agreeing img c m row h w.agrees picked handled (omega (arith, room, lowest_is))
+        (omega (arith, within.high, within.below_cells, there.laid.time, there.laid.in_memory));
+    words = (unopened_inside at bottom img pl p row.number h c w.top m laid there.has.port can w.placed.1 inactive
+        unmasked w.words within.high within.below_cells w.phase there.has to
+        (there.entrances ((picked_row img c row picked).0.0 + 1)) room).words;
+    placed = (omega arith, small_place);
+    loaded = loaded_still img target p there m n keeps w.loaded;
+    tick = tick_still img target p there m n keeps w.tick;
+    requests = length-set c.pending row.number false ∙ w.requests;
+    cells = w.cells;
+    frames = (good.frames, w.frames);
+  }
+
+  next_is : moment_after img s (Comes Step) ≡ record { core = d; last = Began; takings = taking ∷ s.takings }
+  next_is =
+      ap (after_step img s (step img c).0) picked
+      ∙ ap (λ (k : Core). after_step img s k (Some row)) (ap (λ (x : Core × Option What). x.0) entry.is)
+
+  leads : LeadsOn img target p fits s m n
+  leads =
+      let s1 = moment_after img s (Comes Step) in
+      let here = subst (λ (z : Moment). IsWhere img target p z n) (sym next_is) where_then in
+      let marked = marks_are_done img target p there ceiling (λ more. fits (Comes Step ∷ more)) s1 n
+      (λ more ok f. stays (Comes Step ∷ more) (tt, ok) f) here in
+      record {
+        happened = Comes Step ∷ marked.happened;
+        can = (tt, marked.can);
+        arrivals = marked.arrivals;
+        seen = sym (ap (λ (xs : List Seen). reverse xs ++ m.seen)
+            (step_seen img s marked.happened
+            ∙ (ap (λ (xs : List Seen). seen_of_label (Stepped (step img c).1) ++ xs) marked.seen
+            ∙ ap (λ (o : Option What). seen_of_label (Stepped o) ++ [])
+            (ap (λ (x : Core × Option What). x.1) entry.is))));
+        ticks = ap (λ (b : Bool). if b then false else m.is_pending systick)
+            (not_equal systick e (λ f. omega (arith, f)));
+        time = marked.time ∙ ap (λ (z : Moment). z.core.time) next_is;
+        alarm = λ f. marked.alarm (ap (λ (z : Moment). z.core.alarm) next_is ∙ f);
+        here = marked.here;
+        marks = marked.marks;
+      }
+
+pub entries_lead_on : EntriesLeadOn
+entries_lead_on img target p ceiling fits s m row h there no_alarms even_frames no_inputs stays fitting r picked
+    handled =
+    leads img target p ceiling fits s m row h there no_alarms even_frames no_inputs stays fitting r.here picked handled

@@ -1,0 +1,125 @@
+-- What runs goes on, and the processor is where the image is again.
+use Rattle.std.proofs.Common.{◌≡◌, ◌∙◌, ℕ, ◌+◌, ◌*◌, ◌/◌, ◌%◌, ◌^◌, ◌<◌, ◌≤◌, ◌⊎◌, inl, inr, List, Option, sym, ap}
+use Rattle.std.proofs.Common.{subst, arith, length, ⊎_elim}
+use Rattle.rt_code.specs.Image.{Image}
+use Rattle.rt_core.specs.Core.{Context, Core}
+use Rattle.rt_native.specs.Layout.{TICK_BYTES, outside, places, stack_top}
+use Rattle.rt_native.specs.Target.{Target}
+use Rattle.rt_native.specs.declared.outside.Outside.{Outside}
+use Rattle.rt_priorities.specs.Vectors.{IsLoaded}
+use Rattle.rt_priorities.proofs.Keeping.{others_keep_agreeing}
+use Rattle.rt_thumb.specs.Exceptions.{priority_of, systick}
+use Rattle.rt_thumb.specs.Machine.{Machine, word_at}
+use Rattle.rt_thumb.specs.Step.{Program}
+use Rattle.rt_native_laws.specs.Going.{LeavesOthers}
+use Rattle.rt_native_laws.specs.Moments.{Last, Moment}
+use Rattle.rt_native_laws.specs.Own.{ChangesItsOwn}
+use Rattle.rt_native_laws.specs.Phases.{Phase}
+use Rattle.rt_native_laws.specs.Relating.{AreEvenBelow, IsPastMarks, IsInPlace, IsWhere, Related, lowest}
+use Rattle.rt_native_laws.specs.Standing.{HoldsWords, IsLaidOut}
+use Rattle.rt_native_laws.specs.Waiting.{IsFresh, KeepsAbove, Shows, Waiting}
+use Rattle.rt_native_laws.proofs.Showing.{phases_show}
+use Rattle.rt_native_laws.proofs.Waiting.{waiting_is_kept}
+use Rattle.rt_trace.specs.declared.item.What.{What}
+
+-- Memory below the stack, with a tick's frame at its end, and above the cells, the time and the alarm is as it was.
+abbrev pub KeepsOutside : Outside → ℕ → Machine → Machine → Type 0
+KeepsOutside at bottom m n =
+    (k : ℕ) → (4 * k + 4 + TICK_BYTES ≤ bottom) ⊎ (at.time + 8 ≤ 4 * k) → n.memory k ≡ m.memory k
+
+pub private_keeps_outside : (at : Outside) (bottom floor top : ℕ) (m n : Machine) → bottom ≤ floor → top ≤ at.time
+    → ChangesItsOwn floor top m n → KeepsOutside at bottom m n
+private_keeps_outside at bottom floor top m n low high own k beside =
+    own.memory k (⊎_elim (λ (h : 4 * k + 4 + TICK_BYTES ≤ bottom). inl (omega (arith, h, low)))
+    (λ (h : at.time + 8 ≤ 4 * k). inr (omega (arith, h, high))) beside)
+
+pub steps_keep_outside : (at : Outside) (bottom top : ℕ) (said : Option What) (m n : Machine) → bottom ≤ m.register 13
+    → bottom ≤ n.register 13 → LeavesOthers at top said m n → KeepsOutside at bottom m n
+steps_keep_outside at bottom top said m n low low_now others k beside =
+    others.memory k (⊎_elim
+    (λ (h : 4 * k + 4 + TICK_BYTES ≤ bottom). inl (omega (arith, h, low), omega (arith, h, low_now)))
+    (λ (h : at.time + 8 ≤ 4 * k). inr (inr h)) beside)
+
+module _ (img : Image) (target : Target) (p : Program) (there : IsInPlace img target p) where
+  abbrev at : Outside
+  at = outside img target
+
+  abbrev pl : List ℕ
+  pl = places img target
+
+  abbrev bottom : ℕ
+  bottom = lowest img target p
+
+  abbrev highest : ℕ
+  highest = stack_top img target
+
+  module _ (m n : Machine) (keeps : KeepsOutside at bottom m n) where
+    system_word : (a : ℕ) → 0xE0000000 ≤ a → word_at n a ≡ word_at m a
+    system_word a h = keeps (a / 4) (inr (omega (arith, h, there.laid.in_memory)))
+
+    pub loaded_still : IsLoaded img target p m → IsLoaded img target p n
+    loaded_still x = record {
+      region = x.region;
+      fits = x.fits;
+      table = system_word 0xE000ED08 (omega arith) ∙ x.table;
+      words = λ k l.
+          keeps ((target.flash.address + 4 * k) / 4)
+          (⊎_elim
+          (λ (h : target.flash.address + 4 * k + 4 + TICK_BYTES ≤ bottom). inl (omega (arith, h, x.region.0)))
+          (λ (h : at.time + 8 ≤ target.flash.address + 4 * k). inr (omega (arith, h, x.region.0)))
+          (there.apart k l)) ∙ x.words k l;
+      code = x.code;
+    }
+
+    pub tick_still : priority_of m systick ≡ 0 → priority_of n systick ≡ 0
+    tick_still e =
+        ap (λ (w : ℕ). w / 2 ^ (8 * (0xE000ED23 % 4)) % 2 ^ 8) (system_word 0xE000ED23 (omega arith)) ∙ e
+
+  -- A machine instruction of what runs leads to a core and to a phase of it.
+  module _ (s : Moment) (m n : Machine) (r : IsWhere img target p s m) (d : Core) (last : Last)
+      (phase : Phase at bottom img pl p d r.top n)
+      (fresh : IsFresh at bottom highest img pl p last d r.top n phase)
+      (above : KeepsAbove at r.top m n) (keeps : KeepsOutside at bottom m n) (words : HoldsWords n)
+      (placed : (n.address % 2 ≡ 0) × (n.address < 2 ^ 32))
+      (below : d.below ≡ s.core.below)
+      (as_many : length d.processor.cells ≡ length s.core.processor.cells)
+      (requests : length d.pending ≡ length s.core.pending) (stopped : d.stopped ≡ s.core.stopped) where
+    laid_before : IsLaidOut at bottom (length s.core.processor.cells)
+    laid_before = subst (IsLaidOut at bottom) (sym r.cells) there.laid
+
+    laid_now : IsLaidOut at bottom (length d.processor.cells)
+    laid_now = subst (IsLaidOut at bottom) (sym as_many) laid_before
+
+    shown : Shows at d n
+    shown = phases_show at bottom img pl p d r.top n laid_now there.has.port phase
+
+    pub is_where_on : IsWhere img target p (record { core = d; last = last; takings = s.takings }) n
+    is_where_on = record {
+      top = r.top;
+      phase = phase;
+      fresh = fresh;
+      waiting = subst (λ (b : List Context). Waiting at bottom highest img pl p s.takings b d r.top n) (sym below)
+          (waiting_is_kept at bottom highest img pl p s.takings s.core.below s.core d r.top m n laid_before
+          there.has.port as_many stopped above shown words r.waiting);
+      agrees = others_keep_agreeing img s.core d m n r.agrees (record {
+        registers = λ a h f. system_word m n keeps a (omega (arith, h));
+        handlers = above.active;
+        contexts = below;
+        base_priority = shown.base_priority;
+        is_masked = shown.is_masked;
+        pending = λ irq l. shown.pending irq (omega (arith, l, requests, r.requests));
+      });
+      words = words;
+      placed = placed;
+      loaded = loaded_still m n keeps r.loaded;
+      tick = tick_still m n keeps r.tick;
+      requests = requests ∙ r.requests;
+      cells = as_many ∙ r.cells;
+      frames = subst AreEvenBelow (sym below) r.frames;
+    }
+
+    -- with its marks done, if they are
+    pub related_on : IsPastMarks img target p d r.top n phase
+        → Related img target p (record { core = d; last = last; takings = s.takings }) n
+    unfolding is_where_on
+    related_on marks = record { here = is_where_on; marks = marks }

@@ -1,0 +1,320 @@
+-- A tick begins: what it leads to is where the image is after its own tick.
+use Rattle.std.proofs.Common.{◌≡◌, ◌≢◌, ◌∙◌, ℕ, suc, ◌+◌, ◌-◌, ◌*◌, ◌/◌, ◌%◌, ◌^◌, ◌<◌, ◌≤◌, ◌⊎◌, inl, inr, Bool}
+use Rattle.std.proofs.Common.{List, [], ◌∷◌, ◌++◌, Option, Some, None, IfSome, refl, sym, ap, subst, arith, length}
+use Rattle.std.proofs.Common.{flat_map, ⊎_elim}
+use Rattle.std.proofs.lemmas.Bool.{cases_eq, cases_lt}
+use Rattle.std.specs.List.{AllByRecursion}
+use mathlib.Core.Path.{fun_ext}
+use Rattle.rt_ids.specs.Event.{Tick}
+use Rattle.rt_ids.specs.declared.limits.TheConstants.{IRQ_NUMBERS}
+use Rattle.rt_code.specs.Image.{Image}
+use Rattle.rt_core.specs.Core.{Core}
+use Rattle.rt_core.specs.Trace.{happen, ring, tick}
+use Rattle.rt_core.specs.declared.alarm.Alarm.{Alarm}
+use Rattle.rt_native.specs.Layout.{TICK_BYTES, outside, places, stack_top}
+use Rattle.rt_native.specs.Service.{timer_irq}
+use Rattle.rt_native.specs.Target.{Target}
+use Rattle.rt_native.specs.declared.outside.Outside.{Outside}
+use Rattle.rt_priorities.specs.Ticking.{HasTicked, TicksAtOnce, alarm_word, requested}
+use Rattle.rt_priorities.proofs.Ticking.{number_is_small, ticks_are_one_event}
+use Rattle.rt_priorities.proofs.Vectors.{ticks_lead_to_theirs}
+use Rattle.rt_thumb.specs.Exceptions.{entered, status_word, systick, taken}
+use Rattle.rt_thumb.specs.Machine.{Entered, Flags, Machine, Returned}
+use Rattle.rt_thumb.specs.Step.{Program}
+use Rattle.rt_trace.specs.Label.{Label, Ticked}
+use Rattle.rt_native_laws.specs.Behaving.{HasEvenFrames, IsGood}
+use Rattle.rt_native_laws.specs.Deep.{IsWithinFrames}
+use Rattle.rt_native_laws.specs.Moments.{Comes, Happening, Moment, moment_after, settled_words, shown}
+use Rattle.rt_native_laws.specs.Phases.{OthersRan, Phase, kept_words}
+use Rattle.rt_native_laws.specs.Relating.{IsInPlace, IsWhere, lowest}
+use Rattle.rt_native_laws.specs.Saving.{CanBeInterrupted}
+use Rattle.rt_native_laws.specs.Simulating.{HasNoAlarms, compared, seen_of_label}
+use Rattle.rt_native_laws.specs.Standing.{HoldsWords, IsLaidOut, LieFrom}
+use Rattle.rt_native_laws.specs.Waiting.{Shows}
+use Rattle.rt_native_laws.proofs.Above.{tick_leaves, ticks_keep_above}
+use Rattle.rt_native_laws.proofs.Deep.{phases_are_within_frames}
+use Rattle.rt_native_laws.proofs.Eights.{phase_is_eight}
+use Rattle.rt_native_laws.proofs.Interrupting.{exception_is, top_is_eight}
+use Rattle.rt_native_laws.proofs.Relating.{KeepsOutside, is_where_on}
+use Rattle.rt_native_laws.proofs.Saving.{entry_pushes_below, stack_is as pushed_stack}
+use Rattle.rt_native_laws.proofs.Showing.{phase_is_kept, phases_show}
+use Rattle.rt_native_laws.proofs.Waiting.{pushed_words, status_small}
+
+-- a tick of a core without an alarm
+tick_is : (c : Core) → c.alarm ≡ None → tick c ≡ (record c { time = suc c.time }, [])
+tick_is c e = ap (ring (record c { time = suc c.time })) e
+
+-- what an entry pushes are words
+entry_words_small : (e : ℕ) (m : Machine) → HoldsWords m → m.address < 2 ^ 32 → m.exception < 2 ^ 9 → (k : ℕ)
+    → (entered e m).memory k < 2 ^ 32
+entry_words_small e m words low small k =
+    let r = m.register in
+    let status : ℕ = status_word m.flags (r 13 / 4 % 2) m.exception in
+    let last : AllByRecursion (λ w. w < 2 ^ 32) (m.address ∷ status ∷ []) =
+    (low, (status_small m.flags (r 13 / 4 % 2) m.exception (omega arith) small, tt)) in
+    let more : AllByRecursion (λ w. w < 2 ^ 32) (r 12 ∷ r 14 ∷ m.address ∷ status ∷ []) =
+    (words.registers 12, (words.registers 14, last)) in
+    let most : AllByRecursion (λ w. w < 2 ^ 32) (r 2 ∷ r 3 ∷ r 12 ∷ r 14 ∷ m.address ∷ status ∷ []) =
+    (words.registers 2, (words.registers 3, more)) in
+    pushed_words (r 0 ∷ r 1 ∷ r 2 ∷ r 3 ∷ r 12 ∷ r 14 ∷ m.address ∷ status ∷ []) _ m
+    (words.registers 0, (words.registers 1, most)) words.memory k
+
+module _ (img : Image) (target : Target) (p : Program) (ceiling : ℕ) (fits : List Happening → Bool) (s : Moment)
+    (m : Machine) (there : IsInPlace img target p) (no_alarms : HasNoAlarms img) (even_frames : HasEvenFrames img)
+    (good : IsGood img ceiling s) (w : IsWhere img target p s m) (no_alarm : s.core.alarm ≡ None)
+    (fits_in : s.core.time + 2 < 2 ^ 32) (ticks : taken m ≡ Some systick) where
+  abbrev at : Outside
+  at = outside img target
+
+  abbrev pl : List ℕ
+  pl = places img target
+
+  abbrev bottom : ℕ
+  bottom = lowest img target p
+
+  abbrev highest : ℕ
+  highest = stack_top img target
+
+  abbrev c : Core
+  c = s.core
+
+  abbrev d : Core
+  d = (tick c).0
+
+  laid : IsLaidOut at bottom (length c.processor.cells)
+  laid = subst (IsLaidOut at bottom) (sym w.cells) there.laid
+
+  within : IsWithinFrames at bottom c w.top m
+  within = phases_are_within_frames at bottom img pl p c w.top m laid there.has.port w.phase
+
+  shows : Shows at c m
+  shows = phases_show at bottom img pl p c w.top m laid there.has.port w.phase
+
+  highest_eight : highest % 8 ≡ 0
+  highest_eight = omega (arith, there.image.ram.0)
+
+  eights : m.register 13 % 8 ≡ 0
+  eights =
+      phase_is_eight at bottom img pl p there.has even_frames no_alarms c w.top m
+      (top_is_eight at bottom highest img pl p c w.top m s.takings c.below w.waiting highest_eight) good.frames w.phase
+
+  room : 40 ≤ m.register 13
+  room = omega (arith, within.low, there.reach, there.image.above_zero)
+
+  cells_below : at.cells ≤ at.time
+  cells_below = omega (arith, there.laid.time)
+
+  pub core_is : d ≡ record c { time = suc c.time }
+  core_is = ap (λ (x : Core × List Label). x.0) (tick_is c no_alarm)
+
+  pub once : TicksAtOnce p img at c m
+  once =
+      ticks_are_one_event p img at (timer_irq img.code) c m w.agrees w.requests (record {
+        taken = ticks;
+        highest = w.tick;
+        exception = exception_is at bottom highest img pl p c w.top m s.takings c.below w.waiting;
+        address = w.placed.0;
+        aligned = omega (arith, eights);
+        room = omega (arith, room);
+      }) (ticks_lead_to_theirs img target p m w.loaded) (record {
+        aligned = omega (arith, there.laid.aligned, there.laid.time);
+        in_memory = there.laid.in_memory;
+        above_stack = omega (arith, within.high, within.below_cells, cells_below);
+        port_is_elsewhere = ⊎_elim
+            (λ (x : at.port < bottom). inl (omega (
+              arith,
+              x,
+              there.has.port,
+              within.low,
+              within.high,
+              within.below_cells,
+              cells_below,
+            )))
+            (λ (x : at.time + 8 ≤ at.port). inr (omega (arith, x, there.has.port))) there.laid.port_apart;
+        port_is_no_request = λ e. there.laid.port_is_no_request (sym there.has.port ∙ e);
+      }) (record { time = shows.time; alarm = shows.alarm }) (record {
+        time = fits_in;
+        alarm = subst (λ (o : Option Alarm). IfSome o (λ a. (a.instant < 2 ^ 32) × (timer_irq img.code ≡ Some a.irq)
+            × (a.irq < IRQ_NUMBERS))) (sym no_alarm) tt;
+      })
+
+  abbrev pub tick_last : Machine
+  tick_last = once.last
+
+  abbrev last : Machine
+  last = once.last
+
+  t : HasTicked img at c m last
+  t = once.has_ticked
+
+  can : CanBeInterrupted m
+  can = record {
+    stack = eights;
+    room = omega (arith, room);
+    address = w.placed.0;
+    exception = subst (λ (x : ℕ). x < 2 ^ 9)
+        (sym (exception_is at bottom highest img pl p c w.top m s.takings c.below w.waiting))
+        (number_is_small m c.below w.agrees.values);
+  }
+
+  -- memory but for the time and the alarm, and for the frame
+  memory_is : (k : ℕ) → (k < at.time / 4) ⊎ ((at.time + 8) / 4 ≤ k)
+      → (4 * k + 4 ≤ m.register 13 - 32) ⊎ (m.register 13 ≤ 4 * k) → last.memory k ≡ m.memory k
+  memory_is k beside away = t.others k beside ∙ entry_pushes_below systick m can k away
+
+  keeps : KeepsOutside at bottom m last
+  keeps k beside =
+      ⊎_elim
+      (λ (x : 4 * k + 4 + TICK_BYTES ≤ bottom).
+      memory_is k (inl (omega (arith, x, within.low, within.high, within.below_cells, cells_below)))
+      (inl (omega (arith, x, within.low, room))))
+      (λ (x : at.time + 8 ≤ 4 * k).
+      memory_is k (inr (omega (arith, x, there.laid.aligned, there.laid.time)))
+      (inr (omega (arith, x, within.high, within.below_cells, cells_below)))) beside
+
+  whole_word : (k : ℕ) → 4 * k / 4 ≡ k
+  whole_word k = omega arith
+
+  above_stack : (k : ℕ) → m.register 13 ≤ 4 * k → 4 * k + 4 ≤ at.cells → last.memory k ≡ m.memory k
+  above_stack k h f =
+      ap last.memory (sym (whole_word k))
+      ∙ (t.memory (4 * k) h (inl (omega (arith, f, cells_below))) ∙ ap m.memory (whole_word k))
+
+  word_small : (k : ℕ) → last.memory k < 2 ^ 32
+  word_small k =
+      ⊎_elim
+      (λ (e : k ≡ at.time / 4).
+      subst (λ (x : ℕ). x < 2 ^ 32) (sym (ap last.memory e ∙ (t.tells.time ∙ ap (λ (y : Core). y.time) core_is)))
+      (omega (arith, fits_in)))
+      (λ (e : k ≢ at.time / 4).
+      ⊎_elim
+      (λ (f : k ≡ (at.time + 4) / 4).
+      subst (λ (x : ℕ). x < 2 ^ 32)
+      (sym (ap last.memory f ∙ (t.tells.alarm ∙ (ap (λ (y : Core). alarm_word y.alarm) core_is ∙ ap alarm_word
+      no_alarm))))
+      (omega arith))
+      (λ (f : k ≢ (at.time + 4) / 4).
+      subst (λ (x : ℕ). x < 2 ^ 32) (sym (t.others k (aside k e f)))
+      (entry_words_small systick m w.words w.placed.1 can.exception k))
+      (cases_eq k ((at.time + 4) / 4)))
+      (cases_eq k (at.time / 4))
+    where
+      aside : (k : ℕ) → k ≢ at.time / 4 → k ≢ (at.time + 4) / 4 → (k < at.time / 4) ⊎ ((at.time + 8) / 4 ≤ k)
+      aside k e f =
+          ⊎_elim (λ (x : k < at.time / 4). inl x)
+          (λ (x : at.time / 4 ≤ k). inr (omega (arith, x, e, f, there.laid.aligned, there.laid.time)))
+          (cases_lt k (at.time / 4))
+
+  words_last : HoldsWords last
+  words_last = record {
+    registers = λ k. subst (λ (x : ℕ). x < 2 ^ 32) (sym (t.registers k)) (w.words.registers k);
+    memory = word_small;
+    base_priority = subst (λ (x : ℕ). x < 2 ^ 8)
+        (sym (t.agrees.base_priority ∙ (ap (λ (y : Core). y.processor.basepri) core_is ∙ sym w.agrees.base_priority)))
+        w.words.base_priority;
+  }
+
+  same_base : last.base_priority ≡ m.base_priority
+  same_base =
+      t.agrees.base_priority ∙ (ap (λ (y : Core). y.processor.basepri) core_is ∙ sym w.agrees.base_priority)
+
+  same_mask : last.is_masked ≡ m.is_masked
+  same_mask = t.agrees.is_masked ∙ (ap (λ (y : Core). y.processor.primask) core_is ∙ sym w.agrees.is_masked)
+
+  same_active : last.active ≡ m.active
+  same_active = (ticks_keep_above at img w.top c m last cells_below within.high w.agrees t).active
+
+  -- the state, by what is as it was
+  abbrev made : (ℕ → ℕ) → ℕ → Flags → ℕ → List ℕ → ℕ → Bool → Machine
+  made register address flags exception active base_priority is_masked = record last {
+    register = register;
+    address = address;
+    flags = flags;
+    exception = exception;
+    active = active;
+    base_priority = base_priority;
+    is_masked = is_masked;
+  }
+
+  rest_is : last ≡ record m {
+    memory = last.memory;
+    is_pending = last.is_pending;
+    is_unsettled = last.is_unsettled;
+    seen = last.seen;
+  }
+  rest_is =
+      ap (λ f. made f last.address last.flags last.exception last.active last.base_priority last.is_masked)
+      (fun_ext t.registers)
+      ∙ (ap (λ f. made m.register f last.flags last.exception last.active last.base_priority last.is_masked) t.address
+      ∙ (ap (λ f. made m.register m.address f last.exception last.active last.base_priority last.is_masked) t.flags
+      ∙ (ap (λ f. made m.register m.address m.flags f last.active last.base_priority last.is_masked) t.exception
+      ∙ (ap (λ f. made m.register m.address m.flags m.exception f last.base_priority last.is_masked) same_active
+      ∙ (ap (λ f. made m.register m.address m.flags m.exception m.active f last.is_masked) same_base
+      ∙ ap (made m.register m.address m.flags m.exception m.active m.base_priority) same_mask)))))
+
+  cells_last : LieFrom last at.cells d.processor.cells
+  cells_last =
+      subst (λ (y : Core). LieFrom last at.cells y.processor.cells) (sym core_is) (λ k l.
+      memory_is ((at.cells + 4 * k) / 4)
+      (inl (omega (arith, l, laid.aligned, laid.time)))
+      (inr (omega (arith, within.high, within.below_cells, laid.aligned)))
+      ∙ shows.cells k l)
+
+  ran : OthersRan at (m.register 13) w.top c d m last
+  ran = record {
+    core = subst (λ (y : Core). y ≡ record c {
+      time = y.time;
+      alarm = y.alarm;
+      pending = y.pending;
+      processor = record c.processor { cells = y.processor.cells };
+    }) (sym core_is) refl;
+    as_many = ap (λ (y : Core). length y.processor.cells) core_is;
+    processor = record {
+      rest = rest_is;
+      memory = λ k f g. above_stack k f (omega (arith, g, within.below_cells, there.laid.aligned));
+    };
+    settled = t.settled;
+    cells = cells_last;
+    time = t.tells.time;
+    alarm = t.tells.alarm;
+    pending = λ irq l. t.agrees.pending irq
+        (omega (arith, l, ap (λ (y : Core). length y.pending) core_is, w.requests));
+    words = words_last;
+  }
+
+  phase_now : (again : Phase at bottom img pl p d w.top last) × (kept_words at bottom img pl p c w.top m w.phase
+      ≤ kept_words at bottom img pl p d w.top last again)
+  phase_now = phase_is_kept at bottom img pl p c d w.top m last laid there.has.port ran w.phase
+
+  pub where_last : IsWhere img target p (record { core = d; last = s.last; takings = s.takings }) last
+  where_last =
+      is_where_on img target p there s m last w d s.last phase_now.0
+      (subst (λ (k : ℕ). settled_words s.last k ≤ kept_words at bottom img pl p d w.top last phase_now.0)
+      (sym (ap (λ (y : Core). length y.processor.slots) core_is)) (omega (arith, w.fresh, phase_now.1)))
+      (ticks_keep_above at img w.top c m last cells_below within.high w.agrees t) keeps words_last
+      (subst (λ (a : ℕ). (a % 2 ≡ 0) × (a < 2 ^ 32)) (sym t.address) w.placed) (tick_leaves c) ran.as_many
+      (ap (λ (y : Core). length y.pending) core_is) (ap (λ (y : Core). y.stopped) core_is)
+
+  pub frame_deep : last.register 13 ≤ (entered systick m).register 13 + 32
+  frame_deep = omega (arith, t.registers 13, pushed_stack systick m can, can.room)
+
+  pub seen_is : compared (timer_irq img.code) last.seen ≡ compared (timer_irq img.code) m.seen
+  seen_is =
+      ap (compared (timer_irq img.code)) t.seen
+      ∙ ap (λ (o : Option Alarm). compared (timer_irq img.code)
+      (Returned systick ∷ (requested (suc c.time) o ++ Entered systick ∷ m.seen))) no_alarm
+
+-- the moment after a tick, and what is shown of it
+pub tick_moment : (img : Image) (s : Moment)
+    → moment_after img s (Comes Tick) ≡ record { core = (tick s.core).0; last = s.last; takings = s.takings }
+unfolding happen
+tick_moment img s = refl
+
+pub tick_shown : (img : Image) (s : Moment) (more : List Happening) → s.core.alarm ≡ None
+    → flat_map seen_of_label (shown img s (Comes Tick ∷ more))
+    ≡ flat_map seen_of_label (shown img (moment_after img s (Comes Tick)) more)
+unfolding happen
+tick_shown img s more e =
+    ap (λ (x : Core × List Label). flat_map seen_of_label
+    ((Ticked ∷ x.1) ++ shown img (record { core = (tick s.core).0; last = s.last; takings = s.takings }) more))
+    (tick_is s.core e)

@@ -1,0 +1,132 @@
+-- When the processor is where a moment of the image is: what runs is in a phase, the jobs that it interrupted wait in
+-- theirs, and both have the same interrupts and priorities. It is the invariant of the simulation: at each event of the
+-- processor something happens to the image, or nothing, after which it is so again.
+use Rattle.std.specs.Prelude.{◌≡◌, ℕ, ◌+◌, ◌*◌, ◌%◌, ◌^◌, ◌<◌, ◌≤◌, ◌⊎◌, Bool, true, List, [], ◌++◌, length, reverse}
+use Rattle.std.specs.Prelude.{flat_map, slice_index, Option, Some, None, ⊤}
+use Rattle.std.specs.List.{AllByRecursion}
+use Rattle.rt_ids.specs.Event.{Arrive}
+use Rattle.rt_ids.specs.declared.limits.TheConstants.{IRQ_NUMBERS}
+use Rattle.rt_code.specs.Image.{Image}
+use Rattle.rt_code.specs.Stack.{words_of}
+use Rattle.rt_code.specs.declared.image.Handler.{Handler}
+use Rattle.rt_code.specs.declared.image.IrqRow.{IrqRow}
+use Rattle.rt_code.specs.declared.instr.Instr.TheVariants as instr
+use Rattle.rt_core.specs.Core.{Context, Core}
+use Rattle.rt_core.specs.Priority.{pick}
+use Rattle.rt_native.specs.Layout.{TICK_BYTES, outside, places, stack_top, stub_places}
+use Rattle.rt_native.specs.Program.{vectors}
+use Rattle.rt_native.specs.Target.{Target}
+use Rattle.rt_native_laws.specs.Behaving.{HasEvenFrames, StaysGood}
+use Rattle.rt_native_laws.specs.Going.{HasCode}
+use Rattle.rt_native_laws.specs.Moments.{AllCanHappen, Comes, Happening, Moment, instruction_at, moment_after}
+use Rattle.rt_native_laws.specs.Moments.{moment_after_all, shown}
+use Rattle.rt_native_laws.specs.Phases.{AlreadyDone, Phase}
+use Rattle.rt_native_laws.specs.Simulating.{HasNoAlarms, IsImageFor, arrivals_of, seen_of_label, stack_bottom}
+use Rattle.rt_native_laws.specs.Standing.{HoldsWords, IsLaidOut}
+use Rattle.rt_native_laws.specs.Waiting.{IsFresh, Waiting}
+use Rattle.rt_priorities.specs.Agreeing.{AgreesWith}
+use Rattle.rt_priorities.specs.Vectors.{IsLoaded}
+use Rattle.rt_thumb.specs.Exceptions.{entered, external, priority_of, systick}
+use Rattle.rt_thumb.specs.Machine.{Machine}
+use Rattle.rt_thumb.specs.Step.{Program, executed, pended}
+
+-- a frame, with that of a handler that called, has an even number of words
+abbrev pub IsEvenFrame : Option (List ℕ) → List ℕ → Type 0
+IsEvenFrame caller slots = (length slots + length (words_of caller)) % 2 ≡ 0
+
+abbrev pub AreEvenBelow : List Context → Type 0
+AreEvenBelow below = AllByRecursion (λ x. IsEvenFrame x.caller x.slots) below
+
+module _ (img : Image) (target : Target) (p : Program) where
+  abbrev pub lowest : ℕ
+  lowest = stack_bottom img target p
+
+  -- what no event changes: the program's code is there, and memory is laid out
+  pub record IsInPlace : Type 0 where
+    pub image : IsImageFor img target p
+    pub has : HasCode (outside img target) img (places img target) p
+    pub laid : IsLaidOut (outside img target) lowest (length img.cells)
+    pub reach : stack_top img target ≡ lowest + img.stack_bytes
+    pub entrances : (k : ℕ) → slice_index (stub_places img target) k < 0xE0000000
+    pub apart : (k : ℕ) → k < length (vectors img target)
+        → (target.flash.address + 4 * k + 4 + TICK_BYTES ≤ lowest)
+        ⊎ ((outside img target).time + 8 ≤ target.flash.address + 4 * k)
+
+  -- the processor is where a moment of the image is
+  pub record IsWhere (s : Moment) (m : Machine) : Type 0 where
+    pub top : ℕ
+    pub phase : Phase (outside img target) lowest img (places img target) p s.core top m
+    pub fresh : IsFresh (outside img target) lowest (stack_top img target) img (places img target) p s.last s.core top m
+        phase
+    pub waiting : Waiting (outside img target) lowest (stack_top img target) img (places img target) p s.takings
+        s.core.below s.core top m
+    pub agrees : AgreesWith img s.core m
+    pub words : HoldsWords m
+    pub placed : (m.address % 2 ≡ 0) × (m.address < 2 ^ 32)
+    pub loaded : IsLoaded img target p m
+    pub tick : priority_of m systick ≡ 0
+    pub requests : length s.core.pending ≡ IRQ_NUMBERS
+    pub cells : length s.core.processor.cells ≡ length img.cells
+    pub frames : AreEvenBelow s.core.below
+
+  -- Marks have no code, so none is next where the code of the instruction before it is done: the image does a mark as
+  -- soon as it comes to it, but for an interrupt that is taken first.
+  abbrev pub IsPastMarks : (c : Core) (top : ℕ) (m : Machine)
+      → Phase (outside img target) lowest img (places img target) p c top m → Type 0
+  IsPastMarks c top m (AlreadyDone x) = pick img c ≡ None → instruction_at img c ≡ Some instr.Mark → ⊥
+  IsPastMarks c top m phase = ⊤
+
+  pub record Related (s : Moment) (m : Machine) : Type 0 where
+    pub here : IsWhere s m
+    pub marks : IsPastMarks s.core here.top m here.phase
+
+  -- Things happen to the image, none of which a device asks for: what others see of it the processor has shown, and
+  -- then it is where the image is, with its marks done.
+  pub record LeadsOn (fits : List Happening → Bool) (s : Moment) (m n : Machine) : Type 0 where
+    pub happened : List Happening
+    pub can : AllCanHappen img target.inputs s happened
+    pub arrivals : flat_map arrivals_of happened ≡ []
+    pub seen : n.seen ≡ reverse (flat_map seen_of_label (shown img s happened)) ++ m.seen
+    pub ticks : n.is_pending systick ≡ m.is_pending systick
+    pub time : (moment_after_all img s happened).core.time ≡ s.core.time
+    pub alarm : s.core.alarm ≡ None → (moment_after_all img s happened).core.alarm ≡ None
+    pub here : IsWhere (moment_after_all img s happened) n
+    pub marks : fits happened ≡ true → IsPastMarks (moment_after_all img s happened).core here.top n here.phase
+
+-- A machine instruction of an image without alarms, where no exception is taken before it, is no fault, and it leads
+-- on.
+abbrev pub InstructionsLeadOn : Type 0
+InstructionsLeadOn =
+    (img : Image) (target : Target) (p : Program) (ceiling : ℕ) (fits : List Happening → Bool) (s : Moment)
+    (m : Machine) → IsInPlace img target p → HasNoAlarms img → StaysGood img target.inputs ceiling fits s
+    → fits [] ≡ true → Related img target p s m → pick img s.core ≡ None
+    → (n : Machine) × (executed p m ≡ Some n) × LeadsOn img target p fits s m n
+
+-- An interrupt is taken, of an image without alarms on a target without inputs: it leads on.
+abbrev pub EntriesLeadOn : Type 0
+EntriesLeadOn =
+    (img : Image) (target : Target) (p : Program) (ceiling : ℕ) (fits : List Happening → Bool) (s : Moment)
+    (m : Machine) (row : IrqRow) (h : Handler) → IsInPlace img target p → HasNoAlarms img → HasEvenFrames img
+    → target.inputs ≡ [] → StaysGood img target.inputs ceiling fits s → fits [] ≡ true
+    → Related img target p s m → pick img s.core ≡ Some row → row.handler ≡ Some h
+    → LeadsOn img target p fits s m (entered (external row.number) m)
+
+-- An instruction that is executed late leads on.
+abbrev pub LateInstructionsLeadOn : Type 0
+LateInstructionsLeadOn =
+    (img : Image) (target : Target) (p : Program) (ceiling : ℕ) (fits : List Happening → Bool) (s : Moment)
+    (m : Machine) → IsInPlace img target p → StaysGood img target.inputs ceiling fits s → fits [] ≡ true
+    → Related img target p s m → m.is_unsettled ≡ true
+    → (n : Machine) × (executed p m ≡ Some n) × LeadsOn img target p fits s m n
+
+-- A request that a device makes, or SysTick, comes to both.
+abbrev pub RequestsLeadOn : Type 0
+RequestsLeadOn =
+    (img : Image) (target : Target) (p : Program) (s : Moment) (m : Machine) (irq : ℕ) → IsInPlace img target p
+    → Related img target p s m → irq < IRQ_NUMBERS
+    → Related img target p (moment_after img s (Comes (Arrive irq))) (pended (external irq) m)
+
+abbrev pub PendingTicksLeadOn : Type 0
+PendingTicksLeadOn =
+    (img : Image) (target : Target) (p : Program) (s : Moment) (m : Machine) → IsInPlace img target p
+    → Related img target p s m → Related img target p s (pended systick m)

@@ -1,0 +1,156 @@
+-- What native code does, event after event, beside what the image does: at each event of the processor some things
+-- happen to the image, after which both have shown the same, as in a simulation (Milner, Communication and Concurrency,
+-- 1989). Interrupts may come between any two machine instructions, and an exception may be taken late where the
+-- architecture leaves it open (ARMv7-M Architecture Reference Manual, section B1.5.4).
+use Rattle.std.specs.Prelude.{◌≡◌, ℕ, suc, ◌+◌, ◌-◌, ◌^◌, ◌<◌, ◌≤◌, ◌⊎◌, ◌==◌, Bool, true, not}
+use Rattle.std.specs.Prelude.{List, [], ◌∷◌, ◌++◌, length, reverse, flat_map, slice_get, slice_index, Option, Some}
+use Rattle.std.specs.Prelude.{⊤}
+use Rattle.std.specs.List.{AllByRecursion, filter}
+use Rattle.rt_ids.specs.Event.{Arrive}
+use Rattle.rt_ids.specs.Lists.{is_some_and}
+use Rattle.rt_ids.specs.declared.limits.TheConstants.{IRQ_NUMBERS}
+use Rattle.rt_code.specs.Image.{Image}
+use Rattle.rt_code.specs.Runnable.{IsRunnable}
+use Rattle.rt_code.specs.declared.instr.Instr.TheVariants as instr
+use Rattle.rt_code.specs.declared.instr.Note.{Note}
+use Rattle.rt_core.specs.Core.{reset, depth}
+use Rattle.rt_native.specs.Fitting.{Fits, IsRegion}
+use Rattle.rt_native.specs.Layout.{TICK_BYTES, flash_end, outside, places, stack_top}
+use Rattle.rt_native.specs.Service.{timer_irq}
+use Rattle.rt_native.specs.Target.{Target}
+use Rattle.rt_thumb.specs.Exceptions.{external, priority_of, systick}
+use Rattle.rt_thumb.specs.Machine.{Machine, Seen, Emitted, Posted, Entered, Returned}
+use Rattle.rt_thumb.specs.Step as processor
+use Rattle.rt_thumb.specs.Step.{Program}
+use Rattle.rt_trace.specs.Label.{Label, Stepped}
+use Rattle.rt_trace.specs.declared.item.What.TheVariants as what
+use Rattle.rt_native_laws.specs.Behaving.{BehavesWell}
+use Rattle.rt_native_laws.specs.Doing.{seen_of}
+use Rattle.rt_native_laws.specs.Inputs.{IsInput}
+use Rattle.rt_native_laws.specs.Loading.{IsExecuted}
+use Rattle.rt_native_laws.specs.Moments.{Happening, Comes, Moment, at_reset, moment_after_all, shown}
+use Rattle.rt_native_laws.specs.Moments.{AllCanHappen, with_frame}
+use Rattle.rt_native_laws.specs.Phases.{IsDone}
+use Rattle.rt_native_laws.specs.Standing.{IsLaidOut, HoldsWords}
+use Rattle.rt_priorities.specs.Agreeing.{AgreesWith}
+use Rattle.rt_priorities.specs.Setting.{CanBeSet}
+use Rattle.rt_priorities.specs.Vectors.{IsLoaded}
+
+-- what a processor shows where the image shows a label: a step that takes an interrupt is its entry, and so on
+abbrev pub seen_of_label : Label → List Seen
+seen_of_label (Stepped (Some (what.Take irq depth))) = Entered (external irq) ∷ []
+seen_of_label (Stepped (Some (what.Ret irq))) = Returned (external irq) ∷ []
+seen_of_label (Stepped said) = seen_of said
+seen_of_label label = []
+
+-- What is compared: all but a tick's entry and return, which the image shows as a tick, and requests of the interrupt
+-- that alarms pend. Those come from ticks, and from the end of an alarm's code, where the image has set it already.
+abbrev pub is_compared : Option ℕ → Seen → Bool
+is_compared timer (Emitted value) = true
+is_compared timer (Posted irq) = not (is_some_and (λ t. t == irq) timer)
+is_compared timer (Entered e) = not (e == systick)
+is_compared timer (Returned e) = not (e == systick)
+
+abbrev pub compared : Option ℕ → List Seen → List Seen
+compared timer seen = filter (is_compared timer) seen
+
+-- the requests that devices make
+abbrev pub arrivals_of : Happening → List ℕ
+arrivals_of (Comes (Arrive irq)) = irq ∷ []
+arrivals_of happening = []
+
+abbrev pub arrivals_at : processor.Event → List ℕ
+arrivals_at (processor.Arrives irq) = irq ∷ []
+arrivals_at event = []
+
+-- Whether an event can come: a device has the number of an interrupt; and an exception is recognized late only before a
+-- context synchronization event.
+abbrev pub CanCome : Machine → processor.Event → Type 0
+CanCome m (processor.Arrives irq) = irq < IRQ_NUMBERS
+CanCome m processor.GoesLate = m.is_unsettled ≡ true
+CanCome m event = ⊤
+
+-- how often SysTick counts down
+abbrev pub ticks : List processor.Event → ℕ
+ticks [] = 0
+ticks (processor.Ticks ∷ events) = suc (ticks events)
+ticks (event ∷ events) = ticks events
+
+module _ (img : Image) (target : Target) (p : Program) where
+  -- the lowest address of the image's own stack, below which a tick may have its frame
+  abbrev pub stack_bottom : ℕ
+  stack_bottom = stack_top img target - img.stack_bytes
+
+  -- One event of the processor, beside what happens to the image: it is no fault; devices request the same; others see
+  -- the same; and the stack is no deeper than the image's, a tick's frame aside.
+  pub record IsBeside (s : Moment) (happened : List Happening) (m : Machine) (event : processor.Event)
+      (next : Machine) : Type 0 where
+    pub no_fault : processor.step p m event ≡ Some next
+    pub can : AllCanHappen img target.inputs s happened
+    pub arrivals : flat_map arrivals_of happened ≡ arrivals_at event
+    pub seen : compared (timer_irq img.code) next.seen
+        ≡ compared (timer_irq img.code) (reverse (flat_map seen_of_label (shown img s happened)) ++ m.seen)
+    pub deep : stack_top img target ≤ next.register 13 + depth img (moment_after_all img s happened).core + TICK_BYTES
+
+  -- It is so at each of some events, as long as what has happened fits. Whether things fit is told of those that happen
+  -- from here on, behind what has happened.
+  abbrev pub StaysBeside : (List Happening → Bool) → Moment → Machine → List processor.Event → Type 0
+  StaysBeside fits s m [] = ⊤
+  StaysBeside fits s m (event ∷ events) =
+      fits [] ≡ true → CanCome m event → (happened : List Happening) × (next : Machine)
+      × IsBeside s happened m event next
+      × StaysBeside (λ more. fits (happened ++ more)) (moment_after_all img s happened) next events
+
+  -- The processor behind the code of reset: the program lies in flash, apart from RAM; the thread is between two
+  -- instructions, as the core after reset is, with these words in its frame; interrupts are set as the image's rows;
+  -- and SysTick is of the highest priority, as reset leaves it.
+  pub record IsBehindReset (words : List ℕ) (m : Machine) : Type 0 where
+    pub loaded : IsLoaded img target p m
+    pub executed : IsExecuted target p
+    pub apart : (flash_end img target ≤ target.ram.address)
+        ⊎ ((outside img target).time + 8 ≤ target.flash.address)
+    pub laid : IsLaidOut (outside img target) stack_bottom (length img.cells)
+    pub address : m.address ≡ slice_index (places img target) 0
+    pub long : length words ≡ img.thread_words
+    pub thread : IsDone (outside img target) stack_bottom img (places img target) p (with_frame words (reset img))
+        (stack_top img target) m
+    pub agrees : AgreesWith img (reset img) m
+    pub exception : m.exception ≡ 0
+    pub tick : priority_of m systick ≡ 0
+    pub holds_words : HoldsWords m
+
+  -- From here on native code does what the image does: some things happen to the image first, which nobody sees, and
+  -- then it is so event after event.
+  pub record Simulates (fits : List Happening → Bool) (m : Machine) (events : List processor.Event) : Type 0 where
+    pub first : List Happening
+    pub can : AllCanHappen img target.inputs (at_reset img) first
+    pub arrivals : flat_map arrivals_of first ≡ []
+    pub unseen : flat_map seen_of_label (shown img (at_reset img) first) ≡ []
+    pub follows : StaysBeside (λ more. fits (first ++ more)) (moment_after_all img (at_reset img) first) m events
+
+  -- an image of which a program can be made for a target that has no C functions
+  pub record IsImageFor : Type 0 where
+    pub runnable : IsRunnable img
+    pub set : CanBeSet img.irqs
+    pub fits : Fits img target
+    pub flash : IsRegion target.flash
+    pub ram : IsRegion target.ram
+    -- RAM does not begin at the address 0, where code or nothing lies
+    pub above_zero : 8 ≤ target.ram.address
+    pub inputs : AllByRecursion (IsInput (length img.cells)) target.inputs
+    pub no_functions : target.calls ≡ []
+
+-- none of the instructions of an image sets an alarm
+abbrev pub HasNoAlarms : Image → Type 0
+HasNoAlarms img = (n slot irq : ℕ) (note : Option Note) → slice_get img.code n ≡ Some (instr.Alarm slot irq, note) → ⊥
+
+-- Behind reset native code does what its image does, whatever comes, where the image behaves well: at each event what
+-- others see of the processor is what the image shows, no fault comes, and the stack is no deeper than the image's, but
+-- for a tick's frame. The time does not come to the word that stands for no alarm; one tick may be pending at first. It
+-- is said of images without alarms, on targets without inputs.
+abbrev pub NativeSimulatesWithoutAlarms : Type 0
+NativeSimulatesWithoutAlarms =
+    (img : Image) (target : Target) (p : Program) (fits : List Happening → Bool) (words : List ℕ) (m : Machine)
+    (events : List processor.Event) → IsImageFor img target p → BehavesWell img target.inputs fits
+    → IsBehindReset img target p words m → HasNoAlarms img → target.inputs ≡ [] → ticks events + 3 < 2 ^ 32
+    → Simulates img target p fits m events
