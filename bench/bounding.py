@@ -59,10 +59,14 @@ def judged(text, answer, status):
     return differs(text, answer), "bounds with loops" if " - " in answer else "bounds"
 
 
+def enabled(text):
+    """The numbers of the interrupts of a listing that are enabled, by their names."""
+    return {row.name: row.number for row in read(text)[1] if row}
+
+
 def wrong_under(text, limits, plain, answer):
     """What is wrong with the answer to a listing under limits, if something is; `plain` is that without them."""
-    names = [row.name for row in read(text)[1] if row]
-    known, refusal = read_limits(names, limits)
+    known, refusal = read_limits(enabled(text), limits)
     if refusal or plain[1] != DONE:
         due = plain if plain[1] == REFUSED else (refusal, REFUSED) if refusal else plain
         return None if answer == due else f"{answer} under limits, wanted {due}"
@@ -99,8 +103,7 @@ def ran(number, text, limits, answers, seed):
     plain, (timed, status) = answers
     found = exceeding(text, notes, numbers(plain), random.Random(f"{seed} {number}"))
     if status == DONE:
-        names = [row.name for row in read(text)[1] if row]
-        found += late(text, read_limits(names, limits)[0], timed, random.Random(f"{seed} {number} limits"))
+        found += late(text, read_limits(enabled(text), limits)[0], timed, random.Random(f"{seed} {number} limits"))
     return [f"{number}: {one}" for one in found]
 
 

@@ -10,7 +10,7 @@ import collections
 from counting import Code, counting_loops, longest
 
 Line = collections.namedtuple("Line", "word numbers note")
-Row = collections.namedtuple("Row", "name value entry frame")
+Row = collections.namedtuple("Row", "name number value entry frame")
 ENTRY_WORDS = {1: 8, 2: 26}
 
 
@@ -23,7 +23,7 @@ def read(text):
             head = [int(word) for word in words[1:]]
         elif words[0] == "irq":
             enabled = words[3] != "-"
-            rows.append(Row(words[1], *(int(word) for word in words[3:6])) if enabled else None)
+            rows.append(Row(words[1], *(int(word) for word in words[2:6])) if enabled else None)
         elif words[0] == "code":
             front, _, note = line.partition(" ; ")
             parts = front.split(" ")[2:]

@@ -19,25 +19,28 @@ def lines_of(text):
     return ended + parts[-1:] if parts[-1] else ended
 
 
-def told(line, names, so_far):
-    """What a line says: an interrupt and its distance, or what is wrong; nothing where it is skipped."""
+def told(line, numbers, so_far):
+    """What a line says: an interrupt and its distance, or what is wrong; nothing where it is skipped. Two names of one
+    number are one interrupt."""
     if not line.strip(" \t") or line.startswith("#"):
         return None
     found = re.fullmatch(r"every +([A-Za-z_][A-Za-z0-9_]*) +([0-9]{1,9})", line, re.ASCII)
     if not found or int(found[2]) == 0:
         return "2 bad line"
-    if found[1] not in names:
+    if found[1] not in numbers:
         return "3 unknown interrupt"
-    return "2 bad line" if found[1] in so_far else (found[1], int(found[2]))
+    again = numbers[found[1]] in [numbers[name] for name in so_far]
+    return "2 bad line" if again else (found[1], int(found[2]))
 
 
-def read_limits(names, text):
-    """The distances by the names of interrupts, and the line that refuses the text, if it is refused."""
+def read_limits(numbers, text):
+    """The distances by the names of interrupts, which have these numbers, and the line that refuses the text, if it is
+    refused."""
     found = {}
     if len(text) > LONGEST:
         return found, "limits:1 1 too long\n"
     for number, line in enumerate(lines_of(text), 1):
-        says = told(line, names, found)
+        says = told(line, numbers, found)
         if isinstance(says, str):
             return found, f"limits:{number} {says}\n"
         if says:
