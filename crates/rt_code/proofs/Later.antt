@@ -203,7 +203,7 @@ module _ (st : Storage) (bodies : List BodyRow) (who : Runner) (R : List ℕ →
       closed = c.closed;
       may_call = c.may_call;
       fits = c.fits;
-      on = carry _ lefts r c.on;
+      on = λ slots alike. carry _ lefts r (c.on slots alike);
     }
 
     pub back_later : (t : ℕ) (s : Configuration) (lefts : List ℕ) → R s.lefts lefts
@@ -213,8 +213,7 @@ module _ (st : Storage) (bodies : List BodyRow) (who : Runner) (R : List ℕ →
       frame = c.frame;
       caller = c.caller;
       closed = c.closed;
-      acts =
-          acts_later _ 0 _ lefts r c.acts;
+      acts = λ slots alike. acts_later _ 0 _ lefts r (c.acts slots alike);
     }
 
     pub ends_later : (b : BodyId) (i : Instr) (s : Configuration) (lefts : List ℕ) → R s.lefts lefts

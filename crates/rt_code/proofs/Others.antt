@@ -285,7 +285,8 @@ module _ (st : Storage) (by_own : RepresentsByItsOwn st) (bodies : List BodyRow)
       closed = c.closed;
       may_call = c.may_call;
       fits = c.fits;
-      on = keep _ cells queues (record { long = over.long; touched = over.touched; queued = over.queued }) c.on;
+      on = λ slots alike. keep _ cells queues
+          (record { long = over.long; touched = over.touched; queued = over.queued }) (c.on slots alike);
     }
 
     pub back_others : (t : ℕ) (s : Configuration) (cells : List ℕ) (queues : Location → List Entry)
@@ -296,8 +297,8 @@ module _ (st : Storage) (by_own : RepresentsByItsOwn st) (bodies : List BodyRow)
       frame = c.frame;
       caller = c.caller;
       closed = c.closed;
-      acts = acts_others _ 0 _ cells queues (record { long = over.long; touched = over.touched; queued = over.queued })
-          c.acts;
+      acts = λ slots alike. acts_others _ 0 _ cells queues
+          (record { long = over.long; touched = over.touched; queued = over.queued }) (c.acts slots alike);
     }
 
     pub ends_others : (b : BodyId) (i : Instr) (s : Configuration) (cells : List ℕ) (queues : Location → List Entry)

@@ -31,24 +31,27 @@ module _ (st : Storage) (code : List (Instr × Option Note)) (bodies : List Body
     pub represented : (h : Location) → st.is_kept who h ≡ true
         → st.Represents h (slice_index s.cells) (s.queues h) (values h)
 
-  -- a body that a handler calls runs in a frame of its own, with no section open; the handler's frame keeps the address
-  -- after the call
+  -- a body that a handler calls runs in a frame of its own, with no section open, whatever that holds behind the
+  -- arguments; the handler's frame keeps the address after the call
   pub record Calls (row from : ℕ) (s : Configuration) (later : Configuration → Type 0) : Type 0 where
     pub called : BodyRow
     pub is_there : slice_get bodies row ≡ Some called
     pub closed : s.held ≡ []
     pub may_call : (s.caller ≡ None) × (0 < length s.slots)
     pub fits : stack.arguments_fit s.slots called from ≡ true
-    pub on : let frame : List ℕ = stack.caller_frame s.slots (suc s.address) in
-        later (record s { address = called.entry; slots = stack.body_frame frame called from; caller = Some frame })
+    pub on : let frame : List ℕ = stack.caller_frame s.slots (suc s.address) in (slots : List ℕ)
+        → stack.IsAlikeUpTo called.args (stack.body_frame frame called from) slots
+        → later (record s { address = called.entry; slots = slots; caller = Some frame })
 
-  -- the end of a called body leads back to the handler's frame, to the address after the call
+  -- the end of a called body leads back to the handler's frame, to the address after the call, whatever the slot that
+  -- kept it holds then
   pub record ComesBack (t : ℕ) (s : Configuration) (later : Configuration → Type 0) : Type 0 where
     pub frame : List ℕ
     pub caller : s.caller ≡ Some frame
     pub closed : s.held ≡ []
-    pub acts : Acts st bodies who (Ends (body.Task t)) 0
-        (record s { address = stack.return_address frame; slots = frame; caller = None }) later
+    pub acts : (slots : List ℕ) → stack.IsAlikeUpTo (stack.last_slot frame) frame slots
+        → Acts st bodies who (Ends (body.Task t)) 0
+        (record s { address = stack.return_address frame; slots = slots; caller = None }) later
 
   -- How a body ends: `init` by serving interrupts, and the thread goes on at its address; `idle` by a jump to that
   -- address; a called body by going back to its handler.

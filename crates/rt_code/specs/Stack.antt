@@ -3,7 +3,7 @@
 -- size in words. Exception entry and return are those of the ARMv7-M Architecture Reference Manual (sections B1.5.6 and
 -- B1.5.8). Calls of bodies are this model's own: a handler keeps the return address of its call in the last slot of its
 -- frame.
-use Rattle.std.specs.Prelude.{ℕ, ◌+◌, ◌-◌, ◌&&◌, ◌||◌, ◌==◌, Bool, nat_le, List, [], ◌∷◌, ◌++◌, length, sum_by}
+use Rattle.std.specs.Prelude.{◌≡◌, ℕ, ◌+◌, ◌-◌, ◌&&◌, ◌||◌, ◌==◌, Bool, nat_le, List, [], ◌∷◌, ◌++◌, length, sum_by}
 use Rattle.std.specs.Prelude.{replicate, take, drop, slice_index, slice_set, Option, Some, None, is_none, not}
 use Rattle.rt_ids.specs.Lists.{is_empty}
 use Rattle.rt_code.specs.declared.image.BodyRow.{BodyRow}
@@ -49,6 +49,10 @@ caller_frame slots address = slice_set slots (last_slot slots) address
 -- the frame of a called body begins with its arguments, which stand in the caller's slots from one on
 abbrev pub body_frame : List ℕ → BodyRow → ℕ → List ℕ
 body_frame caller row from = take row.args (drop from caller) ++ replicate (row.frame - row.args) 0
+
+-- a frame is as long as another, and has the same words in so many slots
+abbrev pub IsAlikeUpTo : ℕ → List ℕ → List ℕ → Type 0
+IsAlikeUpTo n before after = (length after ≡ length before) × (take n after ≡ take n before)
 
 -- the address that a body returns to
 abbrev pub return_address : List ℕ → ℕ

@@ -415,16 +415,16 @@ module _ {app : App} (accepted : IsAccepted app) (sound : IsSound app) where
             frame = frame;
             caller = refl;
             closed = refl;
-            acts = record {
+            acts = λ back alike. record {
               values = s.vs;
               follows = λ answer. behind;
               is = refl;
               on = λ us agree.
                   stands_with_more (storage app) bodies thread (AtPriority t.priority) code steps
                   (cost + steps - suc s.done)
-                  (calm (left - s.done - 1) frame None (return_address frame) s.cells s.queues (behind us))
+                  (calm (left - s.done - 1) back None (return_address frame) s.cells s.queues (behind us))
                   ((left - s.done - 1) ∷ []) (omega arith) (omega arith, tt)
-                  (goes (left - s.done - 1) s.cells s.queues us (omega arith)
+                  (goes (left - s.done - 1) back s.cells s.queues us (omega arith) alike
                   (record { long = kept; each = all_agreed z s.cells s.queues agree represented }));
             };
           },

@@ -7,7 +7,7 @@ use Rattle.rt_gen_queue.proofs.Vocabulary.{Number}
 use Rattle.rt_gen_queue.proofs.Vocabulary.{Option, Posts, Rest, Returns, Section, Some, RepresentsFree, RepresentsReady}
 use Rattle.rt_gen_queue.proofs.Vocabulary.{Stands}
 use Rattle.rt_gen_queue.proofs.Vocabulary.{Task, Values, [], act, act_all, and_left, and_right, ap, arith, body_cost}
-use Rattle.rt_gen_queue.proofs.Vocabulary.{body_frame, caller_frame, calm, cost_measure, count, dispatcher_number, drop}
+use Rattle.rt_gen_queue.proofs.Vocabulary.{caller_frame, calm, cost_measure, count, dispatcher_number, drop}
 use Rattle.rt_gen_queue.proofs.Vocabulary.{effect as action_effect, eq-eqb, eqb-true, false, free_at, inl, inr}
 use Rattle.rt_gen_queue.proofs.Vocabulary.{is_software, length, map, message_at, messages, nat_tests, none-some}
 use Rattle.rt_gen_queue.proofs.Vocabulary.{line_with_note}
@@ -146,23 +146,23 @@ module _ {d : Dispatcher} (c : Chosen d) where
         let left : ℕ = (m.until - m.done) - 1 in
         let steps : ℕ = m.until - suc m.done - cost_of_body in
         let steps_are : cost_of_body + steps ≡ m.until - suc m.done = omega arith in
-        let inner : List ℕ = body_frame back called 0 in
-        let args_are : take c.task.args inner ≡ c.args =
-        frame_begins w called few fits (suc m.at) ∙ sym holds.arguments in
         let all_fit = frame_fits w called few fits in
         calls_here called has.0 (next_in_time run)
         (record { own = refl; is_there = c.is.there; closed = refl; some = omega arith; fits = all_fit })
-        (subst (λ k. Stands (storage d.app) d.code (rows d) d.thread (AtPriority d.level) k
+        (λ inner alike. let args_are : take c.task.args inner ≡ c.args =
+        alike.1 ∙ frame_begins w called few fits (suc m.at) ∙ sym holds.arguments in
+        subst (λ k. Stands (storage d.app) d.code (rows d) d.thread (AtPriority d.level) k
         (calm left inner (Some back) called.entry m.cells m.queues (body_rest vs))) steps_are
         (subst (λ given. Stands (storage d.app) d.code (rows d) d.thread (AtPriority d.level) (cost_of_body + steps)
         (calm left inner (Some back) called.entry m.cells m.queues
         (task_doing d.app c.number given (act (Ends (body.Task c.number)) behind) vs))) args_are
         (body_stands (rows d) d.thread steps back behind
-        (λ left cells queues vs less represented.
-        begins (calm left back None (suc m.at) cells queues (behind vs)) steps
+        (λ left ending cells queues vs less same represented.
+        begins (calm left ending None (suc m.at) cells queues (behind vs)) steps
         (returns_here has.1.0 (omega arith, (omega arith, tt)) refl refl refl refl
         (λ location kept. represented.each location (or_left _ _ kept))))
-        left inner m.cells m.queues vs (omega arith) (frame_long w called few fits (suc m.at)) represented)));
+        left inner m.cells m.queues vs (omega arith) (alike.0 ∙ frame_long w called few fits (suc m.at))
+        represented)));
   }
 
   -- in the section of the free places the place is given back

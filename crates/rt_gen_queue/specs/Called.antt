@@ -19,7 +19,7 @@ use Rattle.rt_app.specs.Holding.{storage}
 use Rattle.rt_app.specs.Sending.{Rest, act}
 use Rattle.rt_app.specs.Doings.{task_doing}
 use Rattle.rt_code.specs.Owning.{Configuration}
-use Rattle.rt_code.specs.Stack.{return_address}
+use Rattle.rt_code.specs.Stack.{IsAlikeUpTo, last_slot, return_address}
 use Rattle.rt_code.specs.Standing.{Stands}
 use Rattle.rt_code.specs.declared.image.BodyRow.{BodyRow}
 use Rattle.rt_gen_queue.specs.Line.{Line}
@@ -58,16 +58,16 @@ pub record AreRepresented (app : App) (level : ℕ) (cells : List ℕ) (queues :
         → (storage app).Represents h (slice_index cells) (queues h) (vs h)
 
 -- A called body of a task of a level stands. Suppose that what is to be done after its end stands within so many steps,
--- at the address that the handler's frame keeps and in that frame. Then the whole body and that stand at the body's
--- entry, within the body's cost and so many steps, in a frame whose first slots are the arguments, whatever else it
--- holds.
+-- at the address that the handler's frame keeps and in that frame, whatever the slot of that address holds. Then the
+-- whole body and that stand at the body's entry, within the body's cost and so many steps, in a frame whose first slots
+-- are the arguments, whatever else it holds.
 abbrev pub CalledAtLevel : App → ℕ → ℕ → Task → List Line → BodyRow → Type 0
 CalledAtLevel app n level t code row =
     (bodies : List BodyRow) (thread steps : ℕ) (frame : List ℕ) (behind : Rest)
-    → ((left : ℕ) (cells : List ℕ) (queues : Location → List Entry) (vs : Values) → steps ≤ left
-    → AreRepresented app level cells queues vs
+    → ((left : ℕ) (back cells : List ℕ) (queues : Location → List Entry) (vs : Values) → steps ≤ left
+    → IsAlikeUpTo (last_slot frame) frame back → AreRepresented app level cells queues vs
     → Stands (storage app) code bodies thread (AtPriority level) steps
-    (calm left frame None (return_address frame) cells queues (behind vs)))
+    (calm left back None (return_address frame) cells queues (behind vs)))
     → (left : ℕ) (slots cells : List ℕ) (queues : Location → List Entry) (vs : Values)
     → body_cost (cost_measure app) t.body + steps ≤ left → length slots ≡ row.frame
     → AreRepresented app level cells queues vs

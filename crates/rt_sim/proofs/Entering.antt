@@ -48,7 +48,7 @@ reads_less app runner h outer location is =
 
 module _ (app : App) (img : Image) (thread : ℕ) where
   -- an open section's ceiling counts for the system ceiling
-  open_counts : (held : List OpenSection) (x : Section) → is_open held x ≡ true
+  pub open_counts : (held : List OpenSection) (x : Section) → is_open held x ≡ true
       → ceiling app x ≤ greatest_ceiling app (sections_of held)
   open_counts [] x is = absurd (cc)
   open_counts (h ∷ held) x is = by (is_same_section h.section x) refl is (open_counts held x)

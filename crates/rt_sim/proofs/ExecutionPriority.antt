@@ -47,7 +47,7 @@ module _ (app : App) (img : Image) (thread : ℕ) (few : 3 ≤ app.bits) (many :
   unfoldable pub held_off : ℕ → ℕ → Bool → ℕ
   held_off v base mask = min v (min (base_value base) (mask_value mask))
 
-  base_of_some : (v : ℕ) → 0 < v → base_value v ≡ v
+  pub base_of_some : (v : ℕ) → 0 < v → base_value v ≡ v
   base_of_some v some = go (v == 0) refl
     where
       go : (b : Bool) → (v == 0) ≡ b → (if b then THREAD_VALUE else v) ≡ v
@@ -79,7 +79,7 @@ module _ (app : App) (img : Image) (thread : ℕ) (few : 3 ≤ app.bits) (many :
       let none : min (hardware app.bits p) (min (base_value base) 0) ≡ 0 = omega arith in
       none ∙ sym is.1 ∙ ap (hardware app.bits) (sym same)
 
-  kind_here : (p : ℕ) (outer : List OpenSection) (h : OpenSection)
+  pub kind_here : (p : ℕ) (outer : List OpenSection) (h : OpenSection)
       → IsKindFor (storage app) (AtPriority p) (AtPriority p) outer h.section h.kind
       → IsMask (storage app) (AtPriority p) (ceiling app h.section)
       (max p (greatest_ceiling app (sections_of outer))) h.kind

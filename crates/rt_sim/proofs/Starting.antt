@@ -39,10 +39,10 @@ use Rattle.rt_sim.proofs.Keepers.{local_held}
 
 module _ (app : App) (img : Image) (accepted : IsAccepted app) (sound : IsSound app)
     (is_image : IsImageOf app img) (respects : AlwaysRespects app Starting false [] (init_doing app)) where
-  abbrev cells_first : List ℕ
+  abbrev pub cells_first : List ℕ
   cells_first = map (λ cell. cell.first) img.cells
 
-  abbrev first_part : Part
+  abbrev pub first_part : Part
   first_part = record {
     role = Init;
     priority = 2 ^ app.bits;
@@ -59,7 +59,7 @@ module _ (app : App) (img : Image) (accepted : IsAccepted app) (sound : IsSound 
     own = img.thread_words;
   }
 
-  abbrev first_coupling : Coupling
+  abbrev pub first_coupling : Coupling
   first_coupling = record {
     running = first_part;
     below = [];
@@ -116,13 +116,14 @@ module _ (app : App) (img : Image) (accepted : IsAccepted app) (sound : IsSound 
       plain true is = refl
       plain false is = is
 
-  stands : Stands (storage app) img.code (no_rows app img) is_image.at.idle Starting
-      (cost_of (cost_measure app) app.init)
-      (record (configuration_of cells_first (first_queues app) first_part) { rest = init_doing app (first_values app) })
+  -- whatever the thread's frame holds
+  pub stands_first : (slots : List ℕ) → length slots ≡ img.thread_words
+      → Stands (storage app) img.code (no_rows app img) is_image.at.idle Starting (cost_of (cost_measure app) app.init)
+      (configuration_of cells_first (first_queues app) (record first_part { slots = slots }))
   unfolding storage
-  stands = is_image.code.init (no_rows app img) (replicate img.thread_words 0) cells_first (first_queues app)
+  stands_first slots long = is_image.code.init (no_rows app img) slots cells_first (first_queues app)
       (first_values app)
-      (length-replicate img.thread_words 0 ∙ is_image.tables.thread)
+      (long ∙ is_image.tables.thread)
       (ap length cells_are ∙ length-map (memory app) (λ cell. cell.first))
       (λ h reads. all_first h (kept_by_init h reads))
 
@@ -137,7 +138,7 @@ module _ (app : App) (img : Image) (accepted : IsAccepted app) (sound : IsSound 
     };
     parts = (
       record {
-        stands = stands;
+        stands = stands_first (replicate img.thread_words 0) (length-replicate img.thread_words 0);
         agrees = agrees_reached app img is_image.at.idle Starting [] (init_doing app (first_values app))
             (first_values app);
         counted = refl;

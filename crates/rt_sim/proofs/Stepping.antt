@@ -170,16 +170,26 @@ module _ (app : App) (img : Image) (accepted : IsAccepted app) (sound : IsSound 
   many : app.bits ≤ 7
   many = accepted.limits.most_bits
 
-  -- a row that is picked is taken
-  taking : (m : Coupling) → CouplingInvariant app img at.idle m → (r : IrqRow) → pick img (core_of app.bits m) ≡ Some r
+  -- a row that is picked is of an interrupt that is served, by a handler of a higher priority than all that has
+  -- started, and there is room for its frame
+  pub record IsTaking (m : Coupling) (r : IrqRow) : Type 0 where
+    pub service : Service
+    pub next : candidate app (state_of m) ≡ Some r.number
+    pub serves : service_at app r.number ≡ Some service
+    pub handler : r.handler ≡ Some (handler_row app at service)
+    pub has : IsHandler app img at.idle at service
+    pub above : system_ceiling app (jobs_of m.running m.below) < service.priority
+    pub room : has_room img (core_of app.bits m) (entry_words img + (handler_row app at service).frame) ≡ true
+
+  served_well : (m : Coupling) → CouplingInvariant app img at.idle m → (r : IrqRow)
       → candidate app (state_of m) ≡ Some r.number
       → (o : Option Service) → service_at app r.number ≡ o → r.handler ≡ option_map (handler_row app at) o
-      → StepsBoth app img at.idle (core_of app.bits m) (state_of m) (whereabouts_of m)
-  taking m invariant r picked next None serves served =
+      → IsTaking m r
+  served_well m invariant r next None serves served =
       absurd (let above = starts_above app (state_of m) r.number next in
       let none : priority_of app r.number ≡ 0 =
       ap (λ (o : Option Service). or_zero (option_map (λ s. s.priority) o)) serves in omega (arith, above, none))
-  taking m invariant r picked next (Some v) serves served =
+  served_well m invariant r next (Some v) serves served =
       let level_is : priority_of app r.number ≡ v.priority =
       ap (λ (o : Option Service). or_zero (option_map (λ s. s.priority) o)) serves in
       let most : v.priority ≤ 2 ^ app.bits = subst (λ p. p ≤ 2 ^ app.bits) level_is
@@ -201,14 +211,50 @@ module _ (app : App) (img : Image) (accepted : IsAccepted app) (sound : IsSound 
       let long : length zeros ≡ handler_words app v.handler = length-replicate (handler_words app v.handler) 0 in
       let fitting : 4 * (stack_in_use img c + (entry_words img + h.frame)) ≤ img.stack_bytes =
       omega (arith, deep, words, before, long, is_image.tables.stack) in
-      let room : has_room img c (entry_words img + h.frame) ≡ true =
-      room_of (stack_in_use img c) (entry_words img + h.frame) img.stack_bytes fitting in
+      record {
+        service = v;
+        next = next;
+        serves = serves;
+        handler = served;
+        has = has;
+        above = above;
+        room = room_of (stack_in_use img c) (entry_words img + h.frame) img.stack_bytes fitting;
+      }
+
+  pub is_taking : (m : Coupling) → CouplingInvariant app img at.idle m → (r : IrqRow)
+      → pick img (core_of app.bits m) ≡ Some r → IsTaking m r
+  is_taking m invariant r picked =
+      let both = picks app at few many sound (core_of app.bits m) (state_of m) refl
+      (execution_is app img at.idle few many m invariant) img is_image.tables.irqs in
+      let same : Some r.number ≡ candidate app (state_of m) =
+      subst (λ o. option_map (λ r. r.number) o ≡ candidate app (state_of m)) picked both.0 in
+      let served : IfServed app at few many sound (core_of app.bits m) (state_of m) refl
+      (execution_is app img at.idle few many m invariant) (Some r) =
+      subst (IfServed app at few many sound (core_of app.bits m) (state_of m) refl
+      (execution_is app img at.idle few many m invariant)) picked both.1 in
+      served_well m invariant r (sym same) (service_at app r.number) refl served
+
+  -- where none is picked none is to be taken
+  pub none_is_taken : (m : Coupling) → CouplingInvariant app img at.idle m → pick img (core_of app.bits m) ≡ None
+      → candidate app (state_of m) ≡ None
+  none_is_taken m invariant picked =
+      let both = picks app at few many sound (core_of app.bits m) (state_of m) refl
+      (execution_is app img at.idle few many m invariant) img is_image.tables.irqs in
+      sym (subst (λ o. option_map (λ r. r.number) o ≡ candidate app (state_of m)) picked both.0)
+
+  -- a row that is picked is taken
+  pub taking : (m : Coupling) → CouplingInvariant app img at.idle m → (r : IrqRow)
+      → pick img (core_of app.bits m) ≡ Some r → IsTaking m r
+      → StepsBoth app img at.idle (core_of app.bits m) (state_of m) (whereabouts_of m)
+  taking m invariant r picked is =
+      let h : row.Handler = handler_row app at is.service in
+      let c : Core = core_of app.bits m in
       takes app img at.idle at few many (keepers_apart app accepted sound)
-      (kept_is_held app accepted sound) r.number v serves has m invariant above next
+      (kept_is_held app accepted sound) r.number is.service is.serves is.has m invariant is.above is.next
       (steps_by_cause.entry img c r refl picked
-      ∙ ap (λ o. settle (exception_entry img c r.number o)) served
+      ∙ ap (λ o. settle (exception_entry img c r.number o)) is.handler
       ∙ ap (λ b. settle (if b then Done (core_after_entry c r.number h)
-      (Some (what.Take r.number (depth img (core_after_entry c r.number h)))) else Trapped c trap.Stack)) room)
+      (Some (what.Take r.number (depth img (core_after_entry c r.number h)))) else Trapped c trap.Stack)) is.room)
 
   -- every core step
   pub step_both : (m : Coupling) → CouplingInvariant app img at.idle m → Queued app m.values → FitIn app m
@@ -238,4 +284,5 @@ module _ (app : App) (img : Image) (accepted : IsAccepted app) (sound : IsSound 
           (execution_is app img at.idle few many m invariant) o
           → StepsBoth app img at.idle (core_of app.bits m) (state_of m) (whereabouts_of m)
       by None picked same served = goes_on m.running.role refl picked (sym same)
-      by (Some r) picked same served = taking m invariant r picked (sym same) (service_at app r.number) refl served
+      by (Some r) picked same served =
+          taking m invariant r picked (served_well m invariant r (sym same) (service_at app r.number) refl served)

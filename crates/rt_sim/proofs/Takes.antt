@@ -244,7 +244,7 @@ module _ (app : App) (img : Image) (thread : ℕ) (at : Entries) (few : 3 ≤ ap
     none_owns h read (o ∷ ps) all = (not_so _ (λ owned. all.0.1 h owned read), none_owns h read ps all.1)
 
     -- what its priority keeps or reads is represented
-    kept_represented : (h : Location) → ((storage app).is_kept (AtPriority v.priority) h || (storage app).is_constant
+    pub kept_represented : (h : Location) → ((storage app).is_kept (AtPriority v.priority) h || (storage app).is_constant
         (AtPriority v.priority) h) ≡ true
         → (storage app).Represents h (slice_index m.cells) (m.queues h) (m.values h)
     unfolding storage

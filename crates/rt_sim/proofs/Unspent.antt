@@ -37,7 +37,7 @@ use Rattle.rt_sim.proofs.Reached.{front_declared, front_free, reached_beside}
 use Rattle.rt_sim.proofs.Wordless.{same_moment, none_put}
 
 -- what a tick shows behind it
-rings : (c : Core) (o : Option Alarm) → ((ring c o).1 ≡ []) ⊎ ((ring c o).1 ≡ Rang ∷ [])
+pub rings : (c : Core) (o : Option Alarm) → ((ring c o).1 ≡ []) ⊎ ((ring c o).1 ≡ Rang ∷ [])
 rings c None = inl refl
 rings c (Some alarm) = either (nat_le alarm.instant c.time) (
   record (core_after_pend c alarm.irq) { alarm = None },

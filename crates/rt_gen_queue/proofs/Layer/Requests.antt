@@ -1,6 +1,6 @@
 -- Lines that ask the core for something, wherever they are: each does the next action of what is left to do.
 use Rattle.rt_gen_queue.proofs.Vocabulary.{Action, Agree, Asks, BodyRow, Bool, Clocks, Doing, Emits, Goes, Guarded}
-use Rattle.rt_gen_queue.proofs.Vocabulary.{Location, Instr, Leads, MayAccess, None, Posts, Returns, SetsAlarm, Some}
+use Rattle.rt_gen_queue.proofs.Vocabulary.{Location, Instr, List, Leads, MayAccess, None, Posts, Returns, SetsAlarm, Some}
 use Rattle.rt_gen_queue.proofs.Vocabulary.{Values, [], body_frame, caller_frame, delays, does, effect as action_effect}
 use Rattle.rt_gen_queue.proofs.Vocabulary.{false, is_open, least_instant, length, spend_step, plain, processor_of}
 use Rattle.rt_gen_queue.proofs.Vocabulary.{refl}
@@ -8,7 +8,7 @@ use Rattle.rt_gen_queue.proofs.Vocabulary.{slice_get, slice_index, slice_set, st
 use Rattle.rt_gen_queue.proofs.Vocabulary.{◌^◌, ◌≡◌}
 use Rattle.rt_ids.specs.declared.ids.Section.TheVariants as section
 use Rattle.rt_code.{proofs.Done.effect_is_done, specs.Access.access_of, specs.Acting.Acts, specs.Effect.effect}
-use Rattle.rt_code.{specs.Processor.Effect, specs.Stack.arguments_fit, specs.declared.processor.Request.Request}
+use Rattle.rt_code.{specs.Processor.Effect, specs.Stack.IsAlikeUpTo, specs.Stack.arguments_fit, specs.declared.processor.Request.Request}
 use Rattle.rt_code.specs.declared.instr.Instr.TheVariants as instr
 use Rattle.rt_code.specs.declared.processor.Request.TheVariants as request
 use Rattle.rt_gen_queue.proofs.Layer.Correct.{Later, S, at_passed, by_line}
@@ -144,11 +144,13 @@ module _ {z : Setting} {h : Here} where
   -- a body is called, with its arguments in the slots from one on
   pub calls_here : {row from : ℕ} (called : BodyRow) → slice_get z.code h.at ≡ Some (plain (instr.Call row from))
       → InTime (suc h.done) h → MayCall z h row from called
+      → ((slots : List ℕ)
+      → IsAlikeUpTo called.args (body_frame (caller_frame h.slots (suc h.at)) called from) slots
       → Later z h (record (spend_step (configuration z h)) {
         address = called.entry;
-        slots = body_frame (caller_frame h.slots (suc h.at)) called from;
+        slots = slots;
         caller = Some (caller_frame h.slots (suc h.at));
-      })
+      }))
       → S z h
   calls_here {row = row} {from = from} called here time may on =
       asks_for {z = z} {h = h} (instr.Call row from) (request.Call row from) h.at here time
