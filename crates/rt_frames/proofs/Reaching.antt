@@ -6,6 +6,7 @@ use Rattle.std.specs.Prelude.{IsSome, is_some}
 use Rattle.std.specs.List.{list_any}
 use Rattle.std.proofs.lemmas.Option.{same_Some, slice_get_read}
 use Rattle.rt_lemmas.proofs.Bools.{and_both}
+use Rattle.rt_lemmas.proofs.Membership.{any_passes}
 use Rattle.rt_ids.specs.Lists.{then_from, or_zero}
 use Rattle.rt_ids.specs.declared.ids.BodyId.TheVariants as body
 use Rattle.rt_app.specs.declared.ceilings.ReadyCeiling.{ReadyCeiling}
@@ -21,7 +22,6 @@ use Rattle.rt_app.specs.Limits.{statements_in, statements_of}
 use Rattle.rt_app.specs.Sound.{IsSoundBlock}
 use Rattle.rt_app.proofs.LaidQueues.{many}
 use Rattle.rt_frames.specs.Inside.Reached.{IsStatementReached, IsBlockReached}
-use Rattle.rt_frames.proofs.Sections.{any_at}
 use Rattle.rt_frames.proofs.Tables.{free_row, any_below}
 
 -- a row of a level that is one of these
@@ -55,7 +55,7 @@ module _ (app : App) (c : Ceilings) (is : c ≡ ceilings app) where
   pub ready_there : (n q : ℕ) (t : Task) → slice_get app.tasks n ≡ Some t → is_software t ≡ true → q ≡ t.priority
       → q < PRIORITIES → IsSome (find (λ r. r.level == q) c.ready)
   ready_there n q t at soft same few =
-      let of : list_any (is_of_level q) app.tasks ≡ true = any_at (is_of_level q) app.tasks n t at
+      let of : list_any (is_of_level q) app.tasks ≡ true = any_passes (is_of_level q) app.tasks n t at
       (and_both (is_software t) (t.priority == q) soft (eq-eqb t.priority q (sym same))) in
       subst (λ (k : Ceilings). IsSome (find (λ r. r.level == q) k.ready)) (sym is)
       (row_there (ready_ceiling app) q (levels app)

@@ -1,5 +1,5 @@
 -- The waits by cases and with the tables are the greatest costs of the sections that hold a priority off.
-use Rattle.std.proofs.Common.{◌≡◌, ℕ, zero, suc, ◌+◌, ◌<◌, ◌≤◌, ◌⊎◌, ◌==◌, nat_lt, nat_le, max, Bool, true, false, not}
+use Rattle.std.proofs.Common.{◌≡◌, ℕ, ◌+◌, ◌<◌, ◌≤◌, ◌⊎◌, ◌==◌, nat_lt, nat_le, max, Bool, true, false, not}
 use Rattle.std.proofs.Common.{◌&&◌, if◌then◌else◌, cond, List, [], ◌∷◌, ◌++◌, map, filter, get_or, slice_get, Option}
 use Rattle.std.proofs.Common.{Some, None, option_map, refl, sym, ap, ◌∙◌, arith, inl, inr, eq-eqb, ⊎_elim}
 use Rattle.std.specs.List.{list_any}
@@ -8,6 +8,7 @@ use Rattle.std.proofs.lemmas.Bool.{cases_order}
 use Rattle.std.proofs.lemmas.Bool.Decides.{nat_tests}
 use Rattle.rt_lemmas.proofs.Lists.{map_alike, AreFrom, all_from, first_from, rest_from}
 use Rattle.rt_lemmas.proofs.Bools.{or_left, or_right, or_cases, and_right, and_both}
+use Rattle.rt_lemmas.proofs.Membership.{any_passes}
 use Rattle.rt_lemmas.proofs.Numbers.{max_alone, max_zero}
 use Rattle.rt_ids.specs.Lists.{greatest, or_zero}
 use Rattle.rt_ids.specs.declared.ids.BodyId.TheVariants as body
@@ -135,18 +136,12 @@ lock_at p priority outer c d cost within cs e f =
 outermost : (priority p : ℕ) → can p priority 0 ≡ nat_lt priority p
 outermost priority p = grind (arith, nat_tests)
 
-pub any_at : {X : Type 0} (test : X → Bool) (xs : List X) (n : ℕ) (x : X) → slice_get xs n ≡ Some x → test x ≡ true
-    → list_any test xs ≡ true
-any_at test [] n x at h = cc
-any_at test (y ∷ xs) zero x at h = let same : test y ≡ true = cc in or_left (test y) (list_any test xs) same
-any_at test (y ∷ xs) (suc n) x at h = or_right (test y) (list_any test xs) (any_at test xs n x at h)
-
 module _ (app : App) (few : (q : ℕ) → list_any (is_of_level q) app.tasks ≡ true → q < PRIORITIES) where
   -- the ready queue of a task's level
   level_at : (n q : ℕ) (t : Task) → slice_get app.tasks n ≡ Some t → is_software t ≡ true → q ≡ t.priority
       → ready_at (ceilings app) q ≡ ceiling app (section.Ready q)
   level_at n q t at soft e =
-      let is : list_any (is_of_level q) app.tasks ≡ true = any_at (is_of_level q) app.tasks n t at
+      let is : list_any (is_of_level q) app.tasks ≡ true = any_passes (is_of_level q) app.tasks n t at
       (and_both (is_software t) (t.priority == q) soft (eq-eqb t.priority q (sym e))) in
       ready_at_is app q (few q is) is
 

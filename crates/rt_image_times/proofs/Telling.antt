@@ -1,6 +1,6 @@
 -- What the lines of a limits text tell of an image are limits.
 use Rattle.std.proofs.Common.{◌≡◌, ℕ, ◌≤◌, ◌==◌, inl, inr, Bool, true, false, ◌||◌, ◌&&◌, nat_le, if◌then◌else◌, List}
-use Rattle.std.proofs.Common.{[], ◌∷◌, ◌++◌, map, find, bytes_eq, option_map, option_to_list, Option, Some, None, Ok}
+use Rattle.std.proofs.Common.{[], ◌∷◌, ◌++◌, map, find, bytes_eq, option_to_list, Option, Some, None, Ok}
 use Rattle.std.proofs.Common.{Err, IfOk, IfSome, eq-eqb, refl, sym, ap, subst, ◌∙◌, append-nil}
 use Rattle.std.specs.Prelude.{is_some}
 use Rattle.std.specs.List.{list_any}
@@ -21,6 +21,7 @@ use Rattle.rt_rta.specs.Limits.{every_of}
 use Rattle.rt_rta.specs.Wording.{distance_of, limit_for}
 use Rattle.rt_rta.specs.declared.limits.Limit.{Limit}
 use Rattle.rt_rta.specs.declared.line.Wrong.TheVariants as wrong
+use Rattle.rt_rta.proofs.Telling.{has_limit}
 use Rattle.rt_image_times.specs.Limits.{has_enabled, AreImageLimits}
 use Rattle.rt_image_times.specs.Text.{image_limits_reader}
 use Rattle.rt_image_times.specs.Wording.{enabled_number, enabled_of, enabled_irq, named_limit, words_limit, line_limit}
@@ -95,16 +96,6 @@ module _ (img : Image) (limits : List Limit) where
       let tells = if_ok_make (λ told. IfSome told IsNew) (words_limit img limits (spaced_words line)) Some _
       (words_new (spaced_words line)) (λ told is. is) in
       search (if_ok_chosen, tells)
-
--- an interrupt that stands among the limits has one
-has_limit : (limits : List Limit) (irq : ℕ)
-    → is_some (every_of limits irq) ≡ list_any (λ n. n == irq) (map (λ l. l.irq) limits)
-has_limit [] irq = refl
-has_limit (l ∷ limits) irq =
-    elim (l.irq == irq) as (λ b. is_some (option_map (λ (l : Limit). l.every)
-    (if b then Some l else find (λ l. l.irq == irq) limits)) ≡ (b || list_any (λ n. n == irq) (map
-    (λ l. l.irq) limits)))
-    [ true ↦ refl | false ↦ has_limit limits irq ]
 
 one_more : (img : Image) (limits : List Limit) (l : Limit) → AreImageLimits img limits → IsNew img limits l
     → AreImageLimits img (limits ++ l ∷ [])

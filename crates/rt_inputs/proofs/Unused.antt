@@ -65,7 +65,7 @@ module _ (app : App) (accepted : IsAccepted app) (input : Input) (is : IsInput a
       sym (list_any-map (λ (o : Owned). o.local) (λ n. n == input.local) is.task.body.local)
       ∙ any_contained input.local (map (λ (o : Owned). o.local) is.task.body.local) is.own
 
-  its_priority_keeps : is_kept app (AtPriority is.task.priority) (Own input.local) ≡ true
+  pub its_priority_keeps : is_kept app (AtPriority is.task.priority) (Own input.local) ≡ true
   its_priority_keeps =
       let p = is.task.priority in
       any_passes (λ m. not (is_init m.id) && ((m.priority == p) && owns input.local m)) (members app) owner_there.0
@@ -105,7 +105,7 @@ module _ (app : App) (accepted : IsAccepted app) (input : Input) (is : IsInput a
       < is.task.priority = below in
       (job_does_not job.role job.priority (omega (arith, all)), jobs_do_not jobs (omega (arith, all)))
 
-  served_at : (irq : ℕ) → input_irq app input ≡ Some irq → priority_of app irq ≡ is.task.priority
+  pub served_at : (irq : ℕ) → input_irq app input ≡ Some irq → priority_of app irq ≡ is.task.priority
   served_at irq bound = go is.task.binds refl (ap (λ o. then_from o (λ (t : Task). then_from t.binds (irq_number app)))
       (sym is.task_is) ∙ bound)
     where

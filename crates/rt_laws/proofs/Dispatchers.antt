@@ -30,10 +30,10 @@ flat_contains f (z ∷ xs) x y is there = elim (contains_cases z xs x is) [
 ]
 
 module _ (app : App) (accepted : IsAccepted app) where
-  sound : IsSound app
+  pub sound : IsSound app
   sound = accepted_are_sound app accepted
 
-  number_at : (i n : ℕ) → irq_number app i ≡ Some n → slice_get (map (λ d. d.number) app.irqs) i ≡ Some n
+  pub number_at : (i n : ℕ) → irq_number app i ≡ Some n → slice_get (map (λ d. d.number) app.irqs) i ≡ Some n
   number_at i n is =
       let row = made_number (λ d. d.number) (slice_get app.irqs i) n is in
       mapped_at (λ d. d.number) app.irqs i row.0 row.1 ∙ ap Some row.2

@@ -64,11 +64,6 @@ pub block_most_more : (app : App) (asks : Release → Option ℕ) (c : Ceilings)
 block_most_more app asks c m p = block_more (block_most app asks c m p) (statement_most app asks c m p) greater_of
     (λ s rest. refl) greater_regrouped (λ s. greater_alone (statement_most app asks c m p s))
 
--- one that passes at an index passes in the list
-any_at : {X : Type 0} (test : X → Bool) (xs : List X) (n : ℕ) (x : X) → slice_get xs n ≡ Some x → test x ≡ true
-    → list_any test xs ≡ true
-any_at test xs n x at passes = any_passes test xs n x at passes
-
 -- the levels of an application are priorities
 abbrev pub HasFewLevels : App → Type 0
 HasFewLevels app = (q : ℕ) → list_any (is_of_level q) app.tasks ≡ true → q < PRIORITIES
@@ -77,7 +72,7 @@ HasFewLevels app = (q : ℕ) → list_any (is_of_level q) app.tasks ≡ true →
 pub level_at : (app : App) → HasFewLevels app → (n q : ℕ) (t : Task) → slice_get app.tasks n ≡ Some t
     → is_software t ≡ true → q ≡ t.priority → ready_at (ceilings app) q ≡ ceiling app (section.Ready q)
 level_at app few n q t at soft same =
-    let is : list_any (is_of_level q) app.tasks ≡ true = any_at (is_of_level q) app.tasks n t at
+    let is : list_any (is_of_level q) app.tasks ≡ true = any_passes (is_of_level q) app.tasks n t at
     (and_both (is_software t) (t.priority == q) soft (eq-eqb t.priority q (sym same))) in
     ready_at_is app q (few q is) is
 

@@ -16,7 +16,6 @@ use Rattle.rt_actions.specs.Doing.{Doing, over, does}
 use Rattle.rt_app.specs.declared.costs.TheConstants.{FREE_COST}
 use Rattle.rt_app.specs.Tree.{Body, Task, App}
 use Rattle.rt_app.specs.Accepted.{IsAccepted}
-use Rattle.rt_app.specs.Acceptance.{IsSound}
 use Rattle.rt_app.specs.Bodies.{Member, member_at}
 use Rattle.rt_app.specs.BodyCost.{dispatcher_section_cost}
 use Rattle.rt_app.specs.Ceiling.{ceiling}
@@ -87,9 +86,6 @@ module _ (app : App) (asks : Release → Option ℕ) (posts : Posting) where
 module _ (app : App) (accepted : IsAccepted app) (form : is_of_form app ≡ true) (asks : Release → Option ℕ)
     (posts : Posting) (Allowed : ℕ → Type 0) (agree : Agrees app asks posts Allowed) (only : AllPendOnly app Allowed)
   where
-    sound : IsSound app
-    sound = accepted_are_sound app accepted
-
     -- a declared body, and what is left to do behind it
     body_at_most : (id : BodyId) (m : Member) → member_at app id ≡ Some m → (args : List ℕ) (rest : Rest) (k n : ℕ)
         → PendsOnly Allowed m.body.block → RestAtMost app posts n rest
@@ -97,7 +93,8 @@ module _ (app : App) (accepted : IsAccepted app) (form : is_of_form app ≡ true
         → RestAtMost app posts (k + n) (declared_doing app (Some m.body) args rest)
     body_at_most id m at args rest k n pends later is below vs =
         block_at_most app accepted form m asks posts Allowed agree m.body.block m.args [] [] k n (λ vars. rest)
-        (sound.bodies id m at) pends is below (λ vars. later) (args ++ replicate (variables m.body.block) 0) vs
+        ((accepted_are_sound app accepted).bodies id m at) pends is below (λ vars. later)
+        (args ++ replicate (variables m.body.block) 0) vs
 
     abbrev task_member : ℕ → Task → Member
     task_member n t = record { id = body.Task n; priority = t.priority; args = t.args; body = t.body }
@@ -267,7 +264,8 @@ module _ (app : App) (accepted : IsAccepted app) (form : is_of_form app ≡ true
           → RestHolds (declared_doing app (Some m.body) args rest)
       body_holds id m at args rest pends later within vs =
           block_out app accepted form m p asks posts most Allowed agree low m.body.block m.args [] [] (λ vars. rest)
-          (sound.bodies id m at) pends within (λ vars. later) (args ++ replicate (variables m.body.block) 0) vs
+          ((accepted_are_sound app accepted).bodies id m at) pends within (λ vars. later)
+          (args ++ replicate (variables m.body.block) 0) vs
 
       ends_holds : (b : BodyId) → RestHolds (act (Ends b) nothing)
       ends_holds b vs = (0, Outside, refl, (omega arith, refl), λ answer ws good. tt)

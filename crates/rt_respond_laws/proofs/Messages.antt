@@ -26,6 +26,7 @@ use Rattle.rt_laws.proofs.ByItems.{after_append}
 use Rattle.rt_laws.proofs.Happens.{first_well}
 use Rattle.rt_laws.proofs.ItemCounts.{one_if}
 use Rattle.rt_laws.proofs.Well.{StateWell}
+use Rattle.rt_rta.proofs.OnceInitEnds.{split_at}
 use Rattle.rt_rta.specs.Kept.{end_of_init, Kept, InitEnds}
 use Rattle.rt_respond.specs.Form.{is_of_form}
 use Rattle.rt_respond.specs.Limits.{Limits, AreLimits}
@@ -40,7 +41,7 @@ use Rattle.rt_respond_laws.proofs.Tasks.{task_priority_is}
 use Rattle.rt_respond_laws.proofs.Handled.{handler_of_task, IsOfLevel, of_level}
 use Rattle.rt_respond_laws.proofs.Turning.{turn, ready}
 use Rattle.rt_respond_laws.proofs.Turns.{Turned, first_turned, first_taken, none_first, other_request}
-use Rattle.rt_respond_laws.proofs.TurnLaw.{all_turned, parts_at, runs_front}
+use Rattle.rt_respond_laws.proofs.TurnLaw.{all_turned, runs_front}
 use Rattle.rt_respond_laws.proofs.Stretch.{bounded}
 use Rattle.rt_respond_laws.proofs.Early.{untaken}
 use Rattle.rt_respond_laws.proofs.Coming.{runs_come_to_nothing}
@@ -81,7 +82,7 @@ module _ (app : App) (accepted : IsAccepted app) (form : is_of_form app ≡ true
   pub others : (front behind part : List Label) → labels ≡ front ++ (part ++ behind)
       → (irq : ℕ) → Contains part (Arrived irq) → ¬ (turn app p ≡ irq)
   others front behind part is irq there =
-      let parts = parts_at part (Arrived irq) there in
+      let parts = split_at part (Arrived irq) there in
       other_request app accepted form p level limits.every fine.every irq
       (kept.limited (front ++ parts.0) (parts.1 ++ behind) irq
       (is ∙ ap (λ xs. front ++ (xs ++ behind)) parts.2

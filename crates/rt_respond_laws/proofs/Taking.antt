@@ -25,6 +25,7 @@ use Rattle.rt_laws.specs.State.{Serving, Job, State, new_job}
 use Rattle.rt_laws.specs.Preemption.{system_ceiling, may_start, candidate, IsNoLater}
 use Rattle.rt_laws.specs.Allowed.{state_after_start}
 use Rattle.rt_laws.proofs.Candidate.{candidate_is_highest}
+use Rattle.rt_laws.proofs.Dispatchers.{number_at}
 use Rattle.rt_laws.proofs.Pending.{priority_is, starts_above, goes_first}
 use Rattle.rt_laws.proofs.ItemCounts.{one_if}
 use Rattle.rt_rta.proofs.Owing.{other_set}
@@ -36,7 +37,7 @@ use Rattle.rt_respond.specs.declared.handler.Handler.{Handler}
 use Rattle.rt_respond.specs.declared.number.TheConstants.{MOST_WORK}
 use Rattle.rt_respond.proofs.Order.{IsLater, later_if}
 use Rattle.rt_respond_laws.proofs.Sending.{Posting}
-use Rattle.rt_respond_laws.proofs.Tasks.{number_at, not_bound, levels_apart}
+use Rattle.rt_respond_laws.proofs.Tasks.{not_bound, levels_apart}
 use Rattle.rt_respond_laws.proofs.Handled.{handler_of_task, of_level, binds_own, handler_serves, at_alike, RowOf}
 use Rattle.rt_respond_laws.proofs.Works.{work_parts}
 use Rattle.rt_respond_laws.proofs.Asking.{wired, is_in_wired, number_of}

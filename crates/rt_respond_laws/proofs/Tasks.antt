@@ -1,7 +1,7 @@
 -- What serves an interrupt is a task that binds it, or the dispatcher of a level of software tasks; and the handlers of
 -- an application are those of its tasks, by what serves their interrupts.
 use Rattle.std.proofs.Common.{◌≡◌, ℕ, zero, suc, ◌+◌, ◌≤◌, ◌<◌, ◌==◌, ◌^◌, Bool, true, false, Contains, inl}
-use Rattle.std.proofs.Common.{inr, List, [], ◌∷◌, map, slice_get, option_map, Option, Some, None, refl, sym, ap}
+use Rattle.std.proofs.Common.{inr, List, [], ◌∷◌, slice_get, option_map, Option, Some, None, refl, sym, ap}
 use Rattle.std.proofs.Common.{subst, ◌∙◌, arith, eq-eqb}
 use Rattle.std.proofs.Math.Pow.{pow_mono}
 use Rattle.std.specs.Prelude.{is_none}
@@ -10,7 +10,7 @@ use Rattle.std.proofs.lemmas.Bool.{cases_lt, eqb-true}
 use Rattle.std.proofs.lemmas.List.Elements.{Contains-append_left, Contains-append_right}
 use Rattle.std.proofs.lemmas.Option.{none-some, same_Some}
 use Rattle.rt_lemmas.proofs.Bools.{and_left, and_right, and_parts, and_both, not_true, true_and_false}
-use Rattle.rt_lemmas.proofs.Lists.{AreFrom, all_from, first_from, rest_from, find_has, found_passes, mapped_at}
+use Rattle.rt_lemmas.proofs.Lists.{AreFrom, all_from, first_from, rest_from, find_has, found_passes}
 use Rattle.rt_lemmas.proofs.Membership.{all_append, all_flat_map, all_at, all_from_members, any_one}
 use Rattle.rt_lemmas.proofs.Membership.{any_passes, contains_at, contains_here}
 use Rattle.rt_ids.specs.Lists.{is_some_and, or_zero, those_below}
@@ -26,12 +26,11 @@ use Rattle.rt_app.specs.Handlers.{task_services, dispatcher_service, timer_servi
 use Rattle.rt_app.specs.Handlers.{has_no_monotonic}
 use Rattle.rt_app.specs.Sending.{dispatcher_number}
 use Rattle.rt_app.specs.Accepted.{IsAccepted}
-use Rattle.rt_app.specs.Acceptance.{IsSound}
 use Rattle.rt_app.proofs.Members.{in_front, in_back}
 use Rattle.rt_app.proofs.Sound.{accepted_are_sound}
 use Rattle.rt_laws.specs.Services.{service_at}
-use Rattle.rt_laws.proofs.Pending.{some_number, made_number}
-use Rattle.rt_laws.proofs.Dispatchers.{only_service, dispatcher_serves, dispatcher_served}
+use Rattle.rt_laws.proofs.Pending.{some_number}
+use Rattle.rt_laws.proofs.Dispatchers.{number_at, only_service, dispatcher_serves, dispatcher_served}
 use Rattle.rt_respond.specs.Pends.{is_pended}
 use Rattle.rt_respond.specs.Form.{is_of_form, dispatcher_is_pended}
 
@@ -48,9 +47,6 @@ among_those test (suc n) p below is =
     ]
 
 module _ (app : App) (accepted : IsAccepted app) where
-  sound : IsSound app
-  sound = accepted_are_sound app accepted
-
   -- a level has a task
   pub level_task : (p : ℕ) → Contains (levels app) p → list_any (is_of_level p) app.tasks ≡ true
   level_task p level =
@@ -72,13 +68,9 @@ module _ (app : App) (accepted : IsAccepted app) where
   pub task_priority_is : (n : ℕ) (t : Task) → slice_get app.tasks n ≡ Some t → task_priority app n ≡ t.priority
   task_priority_is n t at = ap (λ o. or_zero (option_map (λ (t : Task). t.priority) o)) at
 
-  pub number_at : (j n : ℕ) → irq_number app j ≡ Some n → slice_get (map (λ d. d.number) app.irqs) j ≡ Some n
-  number_at j n is =
-      let row = made_number (λ d. d.number) (slice_get app.irqs j) n is in
-      mapped_at (λ d. d.number) app.irqs j row.0 row.1 ∙ ap Some row.2
-
   pub same_irq : (j k n : ℕ) → irq_number app j ≡ Some n → irq_number app k ≡ Some n → j ≡ k
-  same_irq j k n first second = sound.numbers_differ j k n (number_at j n first) (number_at k n second)
+  same_irq j k n first second = (accepted_are_sound app accepted).numbers_differ j k n
+      (number_at app accepted j n first) (number_at app accepted k n second)
 
   same_level : (p q : ℕ) → Dispatches p ≡ Dispatches q → p ≡ q
   same_level p q same = cc

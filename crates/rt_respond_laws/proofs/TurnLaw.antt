@@ -2,10 +2,10 @@
 -- message of its own.
 use Rattle.std.proofs.Common.{◌≡◌, ℕ, ◌+◌, Bool, true, false, if◌then◌else◌}
 use Rattle.std.proofs.Common.{count_by, Contains, List, [], ◌∷◌, ◌++◌, append_assoc}
-use Rattle.std.proofs.Common.{slice_index_or, inl, inr, refl, ap, subst}
+use Rattle.std.proofs.Common.{slice_index_or, refl, ap, subst}
 use Rattle.std.proofs.Common.{◌∙◌, arith}
 use Rattle.std.proofs.lemmas.List.Sums.{sum_by-cons}
-use Rattle.rt_lemmas.proofs.Membership.{contains_here, contains_there, contains_cases, contains_none}
+use Rattle.rt_lemmas.proofs.Membership.{contains_here, contains_there}
 use Rattle.rt_trace.specs.Label.{Label, Arrived}
 use Rattle.rt_app.specs.Tree.{App}
 use Rattle.rt_app.specs.Accepted.{IsAccepted}
@@ -21,6 +21,7 @@ use Rattle.rt_laws.specs.MessagesWaiting.{is_ready_at, is_start_at}
 use Rattle.rt_laws.proofs.Well.{StateWell}
 use Rattle.rt_laws.proofs.Happens.{first_well}
 use Rattle.rt_laws.proofs.ItemCounts.{one_if}
+use Rattle.rt_rta.proofs.OnceInitEnds.{split_at}
 use Rattle.rt_laws.proofs.ReadyCounted.{many, next_shown}
 use Rattle.rt_laws.proofs.Keeping.{next_well}
 use Rattle.rt_respond.specs.Form.{is_of_form}
@@ -68,16 +69,6 @@ module _ (app : App) (accepted : IsAccepted app) (form : is_of_form app ≡ true
       added : (c b a x y m n k l : ℕ) → b + x ≡ a + y → c + m ≡ b + n → k ≡ x + m → l ≡ y + n → c + k ≡ a + l
       added c b a x y m n k l first second third fourth = omega (arith, first, second, third, fourth)
 
--- where a label is among others
-pub parts_at : (labels : List Label) (l : Label) → Contains labels l
-    → (front : List Label) × (behind : List Label) × (labels ≡ front ++ l ∷ behind)
-parts_at [] l there = absurd (contains_none l there)
-parts_at (label ∷ labels) l there = elim (contains_cases label labels l there) [
-  | inl same ↦ ([], labels, ap (λ k. k ∷ labels) same)
-  | inr deeper ↦
-      let rest = parts_at labels l deeper in (label ∷ rest.0, rest.1, ap (λ ls. label ∷ ls) rest.2)
-]
-
 -- the front of a run is one
 pub runs_front : (app : App) (front behind : List Label) (s : State) → RunsOn app s (front ++ behind)
     → RunsOn app s front
@@ -107,7 +98,7 @@ runs_turn_for_messages app accepted form limits fine labels runs kept p level fr
 
     other : (irq : ℕ) → Contains front (Arrived irq) → ¬ (turn app p ≡ irq)
     other irq there =
-        let parts = parts_at front (Arrived irq) there in
+        let parts = split_at front (Arrived irq) there in
         other_request app accepted form p level limits.every fine.every irq
         (kept.limited parts.0 (parts.1 ++ behind) irq
         (is ∙ ap (λ xs. xs ++ behind) parts.2 ∙ append_assoc parts.0 (Arrived irq ∷ parts.1) behind))

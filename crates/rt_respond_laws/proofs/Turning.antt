@@ -35,7 +35,6 @@ use Rattle.rt_app.specs.Meaning.{Later, value_in, assign, turns_from, run, run_b
 use Rattle.rt_app.specs.Doings.{nothing, declared_doing, init_doing, idle_doing, task_doing, start_doing}
 use Rattle.rt_app.specs.Doings.{dispatcher_doing, handler_doing}
 use Rattle.rt_app.specs.Accepted.{IsAccepted}
-use Rattle.rt_app.specs.Acceptance.{IsSound}
 use Rattle.rt_app.specs.Sound.{IsSoundSpawn, IsSoundStatement, IsSoundBlock}
 use Rattle.rt_app.proofs.Sound.{accepted_are_sound}
 use Rattle.rt_respond.specs.Form.{is_of_form}
@@ -169,9 +168,6 @@ module _ (app : App) (p : ℕ) where
 
 module _ (app : App) (accepted : IsAccepted app) (form : is_of_form app ≡ true) (p : ℕ)
     (level : Contains (levels app) p) where
-  sound : IsSound app
-  sound = accepted_are_sound app accepted
-
   own : Named app accepted form p level
   own = named app accepted form p level
 
@@ -298,7 +294,8 @@ module _ (app : App) (accepted : IsAccepted app) (form : is_of_form app ≡ true
       → block_pends own.index m.body.block ≡ false → RestTurns app p rest
       → RestTurns app p (declared_doing app (Some m.body) args rest)
   body_turns id m at args rest none later vs =
-      block_turns m m.body.block m.args [] [] (λ vars. rest) (sound.bodies id m at) none (λ vars. later)
+      block_turns m m.body.block m.args [] [] (λ vars. rest) ((accepted_are_sound app accepted).bodies id m at) none
+      (λ vars. later)
       (args ++ replicate (variables m.body.block) 0) vs
 
   abbrev task_member : ℕ → Task → Member

@@ -1,5 +1,5 @@
 -- An interrupt that no body pends becomes pending by requests from outside alone.
-use Rattle.std.proofs.Common.{◌≡◌, ℕ, suc, ◌-◌, ◌*◌, ◌<◌, ◌==◌, ◌||◌, Bool, true, false}
+use Rattle.std.proofs.Common.{◌≡◌, ℕ, suc, ◌-◌, ◌<◌, ◌==◌, ◌||◌, Bool, true, false}
 use Rattle.std.proofs.Common.{if◌then◌else◌, Contains, List, [], ◌∷◌, length, slice_get, slice_set, slice_index_or}
 use Rattle.std.proofs.Common.{option_map}
 use Rattle.std.proofs.Common.{Option, Some, None, refl, sym, ap, subst, ◌∙◌, arith, eq-eqb}
@@ -33,7 +33,7 @@ use Rattle.rt_laws.proofs.Well.{StateWell}
 use Rattle.rt_rta.proofs.Beginning.{next_well}
 use Rattle.rt_rta.proofs.Owing.{other_set}
 use Rattle.rt_respond.specs.Form.{is_of_form}
-use Rattle.rt_respond.specs.Number.{capped, plus, greater_of, times}
+use Rattle.rt_respond.specs.Number.{plus, greater_of, times}
 use Rattle.rt_respond.specs.Pends.{statement_pends, block_pends, body_pends, is_pended}
 use Rattle.rt_respond.specs.Work.{spawn_sends, value_sends, statement_sends, block_sends, body_sends}
 use Rattle.rt_respond.specs.declared.handler.Release.{Release}
@@ -47,14 +47,12 @@ use Rattle.rt_respond_laws.proofs.Bodies.{AllPendOnly, task_at_most, dispatcher_
 use Rattle.rt_respond_laws.proofs.Passing.{Passed, Passes, Silently, Acts, Anew, Returned}
 use Rattle.rt_respond_laws.proofs.Claims.{no_alarm, Effect, Kept, Put, Readied, Started, effect_of}
 use Rattle.rt_respond_laws.proofs.Cases.{StepCase, Takes, Goes, step_case}
+use Rattle.rt_respond_laws.proofs.Tracing.{times_zero}
 
 -- where a `pend` of this index asks for no number, and any other release for nothing
 abbrev asks_but : ℕ → Release → Option ℕ
 asks_but j (released_by.Request k) = if k == j then None else Some 0
 asks_but j (released_by.Message t) = Some 0
-
-times_nothing : (n : ℕ) → times n (Some 0) ≡ Some 0
-times_nothing n = ap (λ m. Some (capped m)) (let none : n * 0 ≡ 0 = omega arith in none)
 
 spawn_none : (j : ℕ) (s : Spawn) → spawn_sends (asks_but j) s ≡ Some 0
 spawn_none j (Soon t args at) = refl
@@ -76,7 +74,7 @@ mutual
       ap (λ w. greater_of w (block_sends (asks_but j) second)) (block_none j first both.0)
       ∙ ap (greater_of (Some 0)) (block_none j second both.1)
   statement_none j (Repeat x first last turn) none =
-      ap (times (last - first)) (block_none j turn none) ∙ times_nothing (last - first)
+      ap (times (last - first)) (block_none j turn none) ∙ times_zero (last - first)
   statement_none j (Locked r inner at) none = block_none j inner none
   statement_none j (Emit e) none = refl
   statement_none j (Pend k) none = ap (λ b. if b then None else Some 0) none

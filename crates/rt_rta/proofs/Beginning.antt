@@ -66,11 +66,26 @@ long_stays app v (Stepped (Some w)) = refl
 abbrev pub Unspent : App → State → List Label → Type 0
 Unspent app s labels = (n : ℕ) → AreUnspent (after_all app s (take n labels)).jobs
 
+-- a limit of positive ones is positive
+positive_limit : (limits : List Limit) → AllByRecursion (λ limit. 1 ≤ limit.every) limits → (irq every : ℕ)
+    → every_of limits irq ≡ Some every → 1 ≤ every
+positive_limit limits positive irq every row =
+    let one = made_number (λ (l : Limit). l.every) (find (λ l. l.irq == irq) limits) every row in
+    subst (λ n. 1 ≤ n) one.2 (find_has (λ l. 1 ≤ l.every) (λ l. l.irq == irq) limits one.0 positive one.1)
+
 pub positive_row : (limits : List Limit) → {app : App} → AreLimits app limits → (i every : ℕ) → every_of limits i
     ≡ Some every → 1 ≤ every
-positive_row limits fine i every row =
-    let one = made_number (λ (l : Limit). l.every) (find (λ l. l.irq == i) limits) every row in
-    subst (λ n. 1 ≤ n) one.2 (find_has (λ l. 1 ≤ l.every) (λ l. l.irq == i) limits one.0 fine.positive one.1)
+positive_row limits fine = positive_limit limits fine.positive
+
+-- what is pending as `init` ends waits no longer than its limit
+pub pending_short : (limits : List Limit) → AllByRecursion (λ limit. 1 ≤ limit.every) limits → (pending : List Bool)
+    → (irq every : ℕ) → every_of limits irq ≡ Some every → (pending_waits limits pending irq ≤ every) × (1 ≤ every)
+pending_short limits positive pending irq every row =
+    (by (slice_index_or pending irq false), positive_limit limits positive irq every row)
+  where
+    by : (b : Bool) → (if b then or_zero (every_of limits irq) else 0) ≤ every
+    by true = let is : or_zero (every_of limits irq) ≡ every = ap or_zero row in omega (arith, is)
+    by false = omega arith
 
 -- a declared interrupt has its index among the pending ones
 pub is_within : (app : App) → IsAccepted app → (irq : ℕ) (v : Observer) → is_declared app irq ≡ true
@@ -175,14 +190,6 @@ module _ (app : App) (accepted : IsAccepted app) (form : has_response_times app 
   early_quiet s v shown labels early = (lowers app accepted form p positive s v early.well early.quiet shown
       early.runs.0).quiet
 
-  pending_short : (pending : List Bool)
-      → Brief (pending_waits limits pending)
-  pending_short pending i every row = (by (slice_index_or pending i false), positive_row limits fine i every row)
-    where
-      by : (b : Bool) → (if b then or_zero (every_of limits i) else 0) ≤ every
-      by true = let is : or_zero (every_of limits i) ≡ every = ap or_zero row in omega arith
-      by false = omega arith
-
   -- no step of it ends `idle`
   not_idle : (s : State) (v : Observer) (shown : Option What) (labels : List Label)
       → Early s v (Stepped shown ∷ labels) → ¬ (shown ≡ Some (what.End body.Idle))
@@ -225,12 +232,12 @@ module _ (app : App) (accepted : IsAccepted app) (form : has_response_times app 
         well = well;
         quiet = early_quiet s v (Some (what.End body.Init)) behind early;
         runs = early.runs.1;
-        short = pending_short s.pending;
+        short = pending_short limits fine.positive s.pending;
         spaced = spaced_from_end limits s.pending behind early.kept;
         long = early.long;
         stretch = fresh_from_end app accepted form limits p positive top least suffices
             (after app s end_of_init) (sees app v end_of_init) s.pending well spent.pending early.kept.pending_limited
-            (pending_short s.pending) none;
+            (pending_short limits fine.positive s.pending) none;
         unspent = λ n. early.unspent (suc n);
         set = still;
       }

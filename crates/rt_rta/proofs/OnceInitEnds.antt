@@ -1,6 +1,6 @@
 -- The end of `init` in labels; and what holds of requests at any time says no less than what holds of those behind it.
-use Rattle.std.proofs.Common.{◌≡◌, ◌⊎◌, inl, inr, Bool, true, false, List, [], ◌∷◌, ◌++◌, Contains, Some, None, refl}
-use Rattle.std.proofs.Common.{sym, ap, subst, ◌∙◌, append_assoc}
+use Rattle.std.proofs.Common.{◌≡◌, ◌⊎◌, inl, inr, ℕ, Bool, true, false, List, [], ◌∷◌, ◌++◌, Contains, Some, None}
+use Rattle.std.proofs.Common.{refl, sym, ap, subst, ◌∙◌, append_assoc}
 use Rattle.std.proofs.lemmas.List.Elements.{Contains-append_left}
 use Rattle.rt_lemmas.proofs.Bools.{true_and_false}
 use Rattle.rt_lemmas.proofs.Membership.{contains_none, contains_cases}
@@ -65,7 +65,8 @@ first_end_in (label ∷ labels) there = by (λ deeper. first_end_in labels deepe
             let ends = next deeper in
             (label ∷ ends.0, ends.1, ends_on label labels ends.0 ends.1 other ends.2)
 
-split_at : (xs : List Label) (x : Label) → Contains xs x
+-- where a label is among others
+pub split_at : (xs : List Label) (x : Label) → Contains xs x
     → (front : List Label) × (behind : List Label) × (xs ≡ front ++ x ∷ behind)
 split_at [] x there = absurd (contains_none x there)
 split_at (y ∷ xs) x there = by (λ deeper. split_at xs x deeper) (contains_cases y xs x there)
@@ -74,6 +75,21 @@ split_at (y ∷ xs) x there = by (λ deeper. split_at xs x deeper) (contains_cas
         → (y ≡ x) ⊎ Contains xs x → (front : List Label) × (behind : List Label) × (y ∷ xs ≡ front ++ x ∷ behind)
     by next (inl same) = ([], xs, ap (λ z. z ∷ xs) same)
     by next (inr deeper) = let parts = next deeper in (y ∷ parts.0, parts.1, ap (λ zs. y ∷ zs) parts.2)
+
+-- a request behind an end comes behind the first one
+pub ended_before : (labels front behind : List Label) (irq : ℕ) → labels ≡ front ++ Arrived irq ∷ behind
+    → Contains front end_of_init
+    → (during : List Label) × (between : List Label) × InitEnds labels during (between ++ Arrived irq ∷ behind)
+ended_before labels front behind irq is there =
+    let ends = first_end_in front there in (
+      ends.0,
+      ends.1,
+      record {
+        parts = is ∙ ap (λ xs. xs ++ Arrived irq ∷ behind) ends.2.parts
+            ∙ append_assoc ends.0 (end_of_init ∷ ends.1) (Arrived irq ∷ behind);
+        first_end = ends.2.first_end;
+      },
+    )
 
 pub once_init_ends_says_more : OnceInitEndsSaysMore
 once_init_ends_says_more = record {
@@ -95,12 +111,7 @@ once_init_ends_says_more = record {
     limited = kept.limited;
   };
   says_no_less = λ app limits labels kept responds front behind irq service steps is served response enough.
-      let ends = first_end_in front (kept.late front behind irq is) in
-      let whole : InitEnds labels ends.0 (ends.1 ++ Arrived irq ∷ behind) = record {
-        parts = is ∙ ap (λ xs. xs ++ Arrived irq ∷ behind) ends.2.parts
-            ∙ append_assoc ends.0 (end_of_init ∷ ends.1) (Arrived irq ∷ behind);
-        first_end = ends.2.first_end;
-      } in
-      (responds ends.0 (ends.1 ++ Arrived irq ∷ behind) whole).requests_behind ends.1 behind irq service steps refl
+      let ends = ended_before labels front behind irq is (kept.late front behind irq is) in
+      (responds ends.0 (ends.1 ++ Arrived irq ∷ behind) ends.2).requests_behind ends.1 behind irq service steps refl
       served response enough;
 }

@@ -67,7 +67,7 @@ module _ (app : App) (limits : List Limit) where
       search (if_ok_chosen, tells)
 
 -- an interrupt that stands among the limits has one
-has_limit : (limits : List Limit) (irq : ℕ)
+pub has_limit : (limits : List Limit) (irq : ℕ)
     → is_some (every_of limits irq) ≡ list_any (λ n. n == irq) (map (λ l. l.irq) limits)
 has_limit [] irq = refl
 has_limit (l ∷ limits) irq =

@@ -28,18 +28,18 @@ abbrev pub Fits : Option ℕ → ℕ → ℕ → ℕ → Type 0
 Fits None count steps waits = count ≡ 0
 Fits (Some every) count steps waits = (count * every ≤ steps + waits) × (waits ≤ every) × (1 ≤ every)
 
-fits_start : (o : Option ℕ) (waits : ℕ) → ((every : ℕ) → o ≡ Some every → (waits ≤ every) × (1 ≤ every))
+pub fits_start : (o : Option ℕ) (waits : ℕ) → ((every : ℕ) → o ≡ Some every → (waits ≤ every) × (1 ≤ every))
     → Fits o 0 0 waits
 fits_start None waits short = refl
 fits_start (Some every) waits short = let few = short every refl in (omega arith, few.0, few.1)
 
-fits_step : (o : Option ℕ) (count steps waits : ℕ) → Fits o count steps waits → Fits o count (steps + 1) (waits - 1)
+pub fits_step : (o : Option ℕ) (count steps waits : ℕ) → Fits o count steps waits → Fits o count (steps + 1) (waits - 1)
 fits_step None count steps waits fits = fits
 fits_step (Some every) count steps waits fits = let few = fits.0 in let short = fits.1 in
     (omega arith, omega arith, fits.2)
 
 -- right behind a step no more requests can have been made than may begin
-fits_begun : (o : Option ℕ) (count steps waits : ℕ) → Fits o count steps waits → count ≤ requests o (steps + 1)
+pub fits_begun : (o : Option ℕ) (count steps waits : ℕ) → Fits o count steps waits → count ≤ requests o (steps + 1)
 fits_begun None count steps waits fits = let none : count ≡ 0 = fits in omega arith
 fits_begun (Some every) count steps waits fits =
     let few = fits.0 in

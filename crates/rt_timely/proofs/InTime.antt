@@ -115,7 +115,7 @@ module _ (img : Image) (checked : IsChecked img) where
     job_within (HandlerOf irq) start n begins way (owner.Handling index) longest is told =
         handler_within irq index longest start n begins is told way
 
-    jobs_below : (jobs : List SeenJob) (ps : List Point) → AreJobsAt img jobs ps
+    pub jobs_below : (jobs : List SeenJob) (ps : List Point) → AreJobsAt img jobs ps
         → AllByRecursion (KeepsLines img b IsBelow) jobs
     jobs_below [] ps at = tt
     jobs_below (job ∷ jobs) [] at = absurd at

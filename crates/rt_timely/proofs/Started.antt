@@ -36,7 +36,7 @@ module _ (img : Image) where
             (above_all q qs below stacked.1 jobs at.1),
       )
 
-  runs_highest : (p : Point) (qs : List Point) (below : List Context) → IsStacked img p qs below → (jobs : List SeenJob)
+  pub runs_highest : (p : Point) (qs : List Point) (below : List Context) → IsStacked img p qs below → (jobs : List SeenJob)
       → AreJobsAt img jobs (p ∷ qs) → RunsTheHighest jobs
   runs_highest p qs below stacked [] at = tt
   runs_highest p qs below stacked (job ∷ jobs) at =

@@ -51,9 +51,10 @@ from_map f (x ∷ xs) y has =
     (contains_cases (f x) (map f xs) y has)
 
 module _ (img : Image) (b : Bounds) (are : AreBounds img b) where
-  -- a handler's line
-  handler_told : (irq : ℕ) (start : Point) → BeginsAtEntry img irq start → HasJobLine img b (HandlerOf irq)
-  handler_told irq start begins =
+  -- a handler's row
+  pub handler_row : (irq : ℕ) (start : Point) → (begins : BeginsAtEntry img irq start)
+      → (row : HandlerBound) × Contains b.handlers.items row × (row.index ≡ begins.index)
+  handler_row irq start begins =
       let there : handler_at img begins.index ≡ Some begins.handler =
       ap (λ o. then_from o (λ r. r.handler)) begins.at ∙ begins.enabled in
       let passes : is_enabled img begins.index ≡ true = ap (λ (o : Option Handler). is_some o) there in
@@ -61,7 +62,12 @@ module _ (img : Image) (b : Bounds) (are : AreBounds img b) where
       let has : Contains (map (λ row. row.index) b.handlers.items) begins.index =
       subst (λ (xs : List ℕ). Contains xs begins.index) (sym are.handlers.enabled)
       (those_have (is_enabled img) (length img.irqs) begins.index within passes) in
-      let one = from_map (λ (row : HandlerBound). row.index) b.handlers.items begins.index has in
+      from_map (λ (row : HandlerBound). row.index) b.handlers.items begins.index has
+
+  -- a handler's line
+  handler_told : (irq : ℕ) (start : Point) → BeginsAtEntry img irq start → HasJobLine img b (HandlerOf irq)
+  handler_told irq start begins =
+      let one = handler_row irq start begins in
       let numbered : IsOf img (owner.Handling begins.index) (HandlerOf irq) =
       record { row = begins.row; at = begins.at; number = begins.number } in
       (owner.Handling begins.index, one.0.longest, numbered, (one.0, one.1, one.2, refl))

@@ -15,6 +15,7 @@ use Rattle.rt_code.specs.Image.{Image}
 use Rattle.rt_code.specs.declared.image.Handler.{Handler}
 use Rattle.rt_code.specs.declared.image.IrqRow.{IrqRow}
 use Rattle.rt_core.specs.Core.{Core, reset}
+use Rattle.rt_core.specs.Priority.{execution, pick, value_or_none}
 use Rattle.rt_core.specs.Stepping.{step}
 use Rattle.rt_core.specs.Trace.{core_after}
 use Rattle.rt_core.specs.Transfer.{core_after_pend}
@@ -29,6 +30,7 @@ use Rattle.rt_safe.specs.Inside.RunsAtPoints.{RunsAtPoints}
 use Rattle.rt_timely.specs.Waiting.{stepper_by, shows_take, steppers, lower, IsHeldIn, AreFewer, LieInOneSection}
 use Rattle.rt_timely.specs.Waiting.{IsPending, WaitsAreShort}
 use Rattle.rt_timely.specs.Watching.{SeenJob, Watch, after_step, watched}
+use Rattle.rt_timely.proofs.Choosing.{none_taken, one_taken}
 use Rattle.rt_timely.proofs.Frames.{frames_of}
 use Rattle.rt_timely.proofs.Holding.{AreWithin, IsFree, IsHeld, held_within, either}
 use Rattle.rt_timely.proofs.HoldingOn.{IsHeldBy}
@@ -131,6 +133,15 @@ module _ (img : Image) (checked : IsChecked img) (index : ℕ) (row : IrqRow) (h
   jobs_at : (c : Core) (w : Watch) (p : Point) (qs : List Point) → Waits c w p qs → AreJobsAt img w.jobs (p ∷ qs)
   jobs_at c w p qs on = jobs_of img w (p ∷ qs) (frames_of c) on.tied
 
+  -- while it waits, its value is busy
+  off : (c : Core) (w : Watch) (p : Point) (qs : List Point) → Waits c w p qs → pick img c ≡ None
+      → execution c ≤ value
+  off c w p qs on = none_taken img c index row h at enabled on.pending
+
+  high : (c : Core) (w : Watch) (p : Point) (qs : List Point) → Waits c w p qs → (other : IrqRow)
+      → pick img c ≡ Some other → value_or_none other.handler ≤ value
+  high c w p qs on = one_taken img c index row h at enabled on.pending
+
   module _ (c : Core) (w : Watch) (p : Point) (qs : List Point) (on : Waits c w p qs) where
     after_arrival : (n : ℕ) → Waits (core_after_pend c n) w p qs
     after_arrival n = record {
@@ -161,18 +172,18 @@ module _ (img : Image) (checked : IsChecked img) (index : ℕ) (row : IrqRow) (h
 
     one_free : IsFree img value (p ∷ qs) → IsFree img value (one.point ∷ one.below)
     one_free free =
-        free_on img checked index row h at enabled c p qs on.fits on.pending one.shown one.point one.below one.how free
+        free_on img checked value c p qs on.fits (off c w p qs on) (high c w p qs on) one.shown one.point one.below one.how free
 
     one_waits : IsFree img value (p ∷ qs) → lower value (stepper_by one.shown w.jobs) ≡ []
     one_waits free =
-        free_waits img checked index row h at enabled c p qs on.fits on.pending one.shown one.point one.below w
+        free_waits img checked value c p qs on.fits (off c w p qs on) (high c w p qs on) one.shown one.point one.below w
         (jobs_at c w p qs on) one.how free
 
     one_held : (since steps : ℕ) → IsHeld img value since steps w.jobs (p ∷ qs)
         → IsHeldBy img value since steps (stepper_by one.shown w.jobs)
         (after_step c w (one.core, one.shown)).jobs (one.point ∷ one.below)
     one_held since steps held =
-        held_on img checked index row h at enabled c p qs on.fits on.pending one.shown one.point one.below w
+        held_on img checked value c p qs on.fits (off c w p qs on) (high c w p qs on) one.shown one.point one.below w
         (jobs_at c w p qs on) one.core since steps held one.how
 
   -- while the first lower job is free, none takes a step
