@@ -29,7 +29,7 @@ use Rattle.rt_native.specs.Target.{Target}
 use Rattle.rt_native.specs.declared.outside.Outside.{Outside}
 
 -- the bytes of joined code
-joined : (xs ys : List Instruction) → bytes_of (xs ++ ys) ≡ bytes_of xs + bytes_of ys
+pub joined : (xs ys : List Instruction) → bytes_of (xs ++ ys) ≡ bytes_of xs + bytes_of ys
 joined xs ys = sum_by-append (λ i. size (encode i)) xs ys
 
 -- code with the same bytes behind the same
@@ -275,7 +275,7 @@ unfolding copy_words address
 copy_bytes from other to behind = refl
 
 -- what runs at reset takes as many bytes wherever first values lie
-reset_bytes : (at : Outside) (reload : Option ℕ) (img : Image) (load other : ℕ)
+pub reset_bytes : (at : Outside) (reload : Option ℕ) (img : Image) (load other : ℕ)
     → bytes_of (reset at reload img load) ≡ bytes_of (reset at reload img other)
 reset_bytes at reload img load other =
     let first = instruction.DisableInterrupts ∷ flat_map (λ (row : IrqRow). enable row.number row.handler) img.irqs in
@@ -289,7 +289,7 @@ reset_bytes at reload img load other =
     ∙ sym (ap bytes_of (reset_parts at reload img other)))
 
 -- what runs at reset begins behind what runs first as interrupts are taken
-reset_begins : (img : Image) (target : Target)
+pub reset_begins : (img : Image) (target : Target)
     → reset_at img target ≡ stubs_at img target
     + bytes_of (entrances_from (outside img target) target (places img target) (stub_places img target) 0 img.irqs)
 reset_begins img target =

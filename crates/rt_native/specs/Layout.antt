@@ -61,6 +61,7 @@ module _ (img : Image) (target : Target) where
   abbrev pub values_size : ℕ
   values_size = 4 * (length img.cells + 2)
 
+  -- where what lies outside of the stack is: cells from the stack's top on, and behind them the time
   abbrev pub outside : Outside
   outside = record { cells = stack_top; time = stack_top + 4 * length img.cells; port = target.port }
 
@@ -69,6 +70,7 @@ module _ (img : Image) (target : Target) where
   sizes_from n [] = []
   sizes_from n (line ∷ more) = bytes_of (sequence outside img [] n line.0) ∷ sizes_from (n + 1) more
 
+  -- the bytes of the vector table: a word for each exception of the core, and for each interrupt line (section B1.5.2)
   abbrev pub vectors_size : ℕ
   vectors_size = 4 * (SYSTEM_VECTORS + line_count img.irqs)
 

@@ -90,6 +90,7 @@ set_slot d v = number 0 v ++ write_slot 0 d
 unfoldable pub copy_slot : ℕ → ℕ → List Instruction
 copy_slot d s = read_slot 0 s ++ write_slot 0 d
 
+-- both slots are read, the operation is carried out on r0 and r1, and its result goes into a slot
 unfoldable pub calculate : Op → ℕ → ℕ → ℕ → List Instruction
 calculate o d a b = read_slot 0 a ++ read_slot 1 b ++ calculation o ++ write_slot 0 d
 
@@ -161,6 +162,7 @@ ret words = close_frame words ++ instruction.BranchExchange 14 ∷ []
 unfoldable pub branch : ℕ → ℕ → List Instruction
 branch behind place = instruction.Branch (leap behind place) ∷ []
 
+-- the slot is read and compared with 0, and BEQ goes to the place
 unfoldable pub branch_if_zero : ℕ → ℕ → ℕ → List Instruction
 branch_if_zero behind s place =
     read_slot 0 s ++ instruction.CompareNumber 0 0 ∷ instruction.BranchIf condition.Equal (leap behind place) ∷ []

@@ -102,6 +102,7 @@ stub at inputs places behind irq (Some h) =
 unfoldable pub keep_return : List Instruction
 keep_return = instruction.SubtractStack 8 ∷ instruction.StoreWide 14 13 0 ∷ []
 
+-- LR comes back from the stack, and its 8 bytes are given back
 unfoldable pub take_return : List Instruction
 take_return = instruction.LoadWide 14 13 0 ∷ instruction.AddStack 8 ∷ []
 
@@ -124,6 +125,7 @@ abbrev pub calls_first : List ℕ → ℕ → Option Handler → Bool
 calls_first calls irq None = false
 calls_first calls irq (Some h) = is_called calls irq
 
+-- what an entry begins with: the call of a function, where its interrupt has a handler and one was asked for
 abbrev pub first_call : List ℕ → ℕ → Option Handler → List Instruction
 first_call calls irq handler = if calls_first calls irq handler then call_function else []
 

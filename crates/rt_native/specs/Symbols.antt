@@ -83,6 +83,7 @@ module _ (img : Image) (target : Target) where
       symbol (codes "$d") [] target.flash.address kind.Mark ∷ symbol (codes "$t") [] (fault_at img target) kind.Mark
       ∷ []
 
+  -- the names of everything that has an address: functions in the order of their places, then what lies in RAM
   abbrev pub symbols : List Symbol
   symbols =
       function (codes "fault") [] (fault_at img target) ∷ function (codes "tick") [] (tick_at img target)

@@ -70,7 +70,7 @@ module _ (img : Image) (irq : ℕ) (c : Core) where
   and_false false true d e = sym e
   and_false false false d e = refl
 
-  same_pick : IsNotTaken img irq c → pick img (rung irq c) ≡ pick img c
+  pub same_pick : IsNotTaken img irq c → pick img (rung irq c) ≡ pick img c
   same_pick free =
       same_best (can_preempt (rung irq c)) (can_preempt c) precedes img.irqs (λ (row : IrqRow) there.
       ⊎_elim
@@ -203,9 +203,10 @@ module _ (img : Image) (irq : ℕ) (c : Core) where
       (not (are_there (slots_of line.0) c.processor.slots)) (model.unchecked_effect line.0 c.time c.processor)
       (by_kind line.1 line.0 h)
 
-  attempts_alike : IsNotTaken img irq c → SetsNoAlarm (instruction_at img c) → (o : Option IrqRow) → pick img c ≡ o
+  attempts_alike : IsNotTaken img irq c → (pick img c ≡ None → SetsNoAlarm (instruction_at img c))
+      → (o : Option IrqRow) → pick img c ≡ o
       → attempt img (rung irq c) o ≡ rung_outcome irq (attempt img c o)
-  attempts_alike free none None e = runs_alike (slice_get img.code c.processor.address) none
+  attempts_alike free none None e = runs_alike (slice_get img.code c.processor.address) (none e)
   attempts_alike free none (Some row) e =
       let found = picked_row img c row e in
       takes_alike row.number (λ f.

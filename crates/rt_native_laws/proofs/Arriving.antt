@@ -1,5 +1,5 @@
 -- A request comes.
-use Rattle.std.proofs.Common.{◌≡◌, ◌≢◌, ◌∙◌, ℕ, ◌<◌, Bool, true, false, List, [], ◌∷◌}
+use Rattle.std.proofs.Common.{◌≡◌, ◌≢◌, ◌∙◌, ℕ, ◌<◌, Bool, true, false, List, [], ◌∷◌, Some}
 use Rattle.std.proofs.Common.{sym, refl, ap, subst, arith, length, ⊎_elim, option_map}
 use Rattle.std.proofs.lemmas.Bool.{cases_eq}
 use Rattle.std.proofs.lemmas.List.{length-set, get_or-set_same, get_or-set_other}
@@ -8,6 +8,7 @@ use Rattle.rt_code.specs.Image.{Image}
 use Rattle.rt_code.specs.declared.instr.Instr.{Instr}
 use Rattle.rt_core.specs.Core.{Core}
 use Rattle.rt_native.specs.declared.outside.Outside.{Outside}
+use Rattle.rt_native.specs.declared.target.Input.{Input}
 use Rattle.rt_thumb.specs.Exceptions.{external, systick}
 use Rattle.rt_thumb.specs.Machine.{Machine}
 use Rattle.rt_thumb.specs.Step.{Program, pended}
@@ -18,7 +19,8 @@ use Rattle.rt_native_laws.specs.Arriving.{ArrivalsKeepPhases, IsAsFresh, Pending
 use Rattle.rt_native_laws.specs.Doing.{IsAt, with_slots}
 use Rattle.rt_native_laws.specs.Own.{RunsPrivately, StepsPrivately, is_private}
 use Rattle.rt_native_laws.specs.Phases.{AlreadyDone, Calling, Entering, HasBegun, IsCalling, IsDone, IsEntering}
-use Rattle.rt_native_laws.specs.Phases.{IsSameAbove, IsToCome, Phase, ToCome}
+use Rattle.rt_native_laws.specs.Phases.{IsSameAbove, IsToCome, Phase, Reads, ToCome}
+use Rattle.rt_native_laws.specs.Reading.{AtCellLow, AtCellTop, AtLoad, AtLow, AtStore, AtTop, Holds, IsReading, Reading}
 use Rattle.rt_native_laws.specs.Standing.{HoldsWords, StandsFor}
 use Rattle.rt_native_laws.proofs.Tests.{not_equal, same_number}
 
@@ -102,6 +104,15 @@ module _ (p : Program) (e : ℕ) where
       stands = stands_with c m tells x.stands;
       words = words_with m x.words;
     }
+
+    held_with : (input : Input) (value : ℕ) (m : Machine) (stage : Reading) → Holds at input value m stage
+        → Holds at input value (pended e m) stage
+    held_with input value m AtLow h = h
+    held_with input value m AtTop h = h
+    held_with input value m AtLoad h = h
+    held_with input value m AtCellLow h = h
+    held_with input value m AtCellTop h = h
+    held_with input value m AtStore h = h
 
     module _ (c : Core) (top : ℕ) (m : Machine) (tells : Tells c.pending) where
       to_come_with : IsToCome at bottom img places p c top m
@@ -200,15 +211,49 @@ module _ (p : Program) (e : ℕ) where
         refl,
       )
 
+      reading_with : (x : IsReading at bottom img places p c top m)
+          → (y : IsReading at bottom img places p (asked c) top (pended e m)) × (y.declared ≡ x.declared)
+      reading_with x = (
+        record {
+          to = x.to;
+          irq = x.irq;
+          handler = x.handler;
+          input = x.input;
+          more = x.more;
+          inputs = x.inputs;
+          declared = x.declared;
+          among = x.among;
+          exception = x.exception;
+          stage = x.stage;
+          value = x.value;
+          holds = held_with x.input x.value m x.stage x.holds;
+          code = x.code;
+          low = x.low;
+          laid = x.laid;
+          entry = x.entry;
+          frame = x.frame;
+          free = x.free;
+          room = x.room;
+          stands = stands_with (with_slots at bottom img places p [] c)
+              (record m { address = slice_index places x.handler.entry }) tells x.stands;
+          ends = x.ends;
+          settled = x.settled;
+          words = words_with m x.words;
+        },
+        refl,
+      )
+
       phase_with : (phase : Phase at bottom img places p c top m)
           → IsAsFresh at bottom img places p c (asked c) top m (pended e m) phase
-      phase_with (ToCome x) = (ToCome (to_come_with x), omega arith, refl)
-      phase_with (AlreadyDone x) = (AlreadyDone (done_with x), omega arith, refl)
-      phase_with (Entering x) = (Entering (entering_with x), omega arith, refl)
+      phase_with (ToCome x) = (ToCome (to_come_with x), omega arith, refl, refl)
+      phase_with (AlreadyDone x) = (AlreadyDone (done_with x), omega arith, refl, refl)
+      phase_with (Entering x) = (Entering (entering_with x), omega arith, refl, refl)
       phase_with (Calling x) =
           let same : c.pending ≡ x.before.pending = ap (λ (y : Core). y.pending) x.called.core in
           let y = calling_with x (subst Tells same tells) in
-          (Calling y.0, omega (arith, y.1), refl)
+          (Calling y.0, omega (arith, y.1), refl, refl)
+      phase_with (Reads x) =
+          let y = reading_with x in (Reads y.0, omega arith, refl, ap (λ (ds : List Input). Some ds) y.1)
 
 -- what is pending, with one more
 one_more : (old : List Bool) (irq : ℕ) (pending : ℕ → Bool)

@@ -10,12 +10,14 @@ use Rattle.rt_code.specs.Image.{Image, entry_words}
 use Rattle.rt_code.specs.Stack.{words_of, caller_frame, last_slot}
 use Rattle.rt_core.specs.Core.{Core, Context, context_words}
 use Rattle.rt_native.specs.declared.outside.Outside.{Outside}
+use Rattle.rt_native.specs.declared.target.Input.{Input}
 use Rattle.rt_thumb.specs.Machine.{Machine}
 use Rattle.rt_thumb.specs.Step.{Program}
 use Rattle.rt_native_laws.specs.Deep.{IsWithinFrames, PhasesAreWithinFrames, StackIsNoDeeper}
 use Rattle.rt_native_laws.specs.Moments.{Taking}
 use Rattle.rt_native_laws.specs.Phases.{AlreadyDone, Calling, Entering, IsCalling, IsDone, IsEntering, IsToCome, Phase}
-use Rattle.rt_native_laws.specs.Phases.{ToCome}
+use Rattle.rt_native_laws.specs.Phases.{Reads, ToCome}
+use Rattle.rt_native_laws.specs.Reading.{IsReading}
 use Rattle.rt_native_laws.specs.Standing.{IsLaidOut}
 use Rattle.rt_native_laws.specs.Waiting.{Waiting, interrupted_core, resumed}
 use Rattle.rt_native_laws.proofs.Calls.{is_free}
@@ -75,11 +77,20 @@ module _ (at : Outside) (bottom : ℕ) (img : Image) (places : List ℕ) (p : Pr
         below_cells = omega (arith, x.ends, x.stands.stands.frames);
       }
 
+  reading_within : IsReading at bottom img places p c top m → IsWithinFrames at bottom c top m
+  reading_within x = record {
+    low = omega (arith, x.room);
+    high = omega (arith, x.ends);
+    frames = omega (arith, x.ends);
+    below_cells = omega (arith, x.ends, x.stands.frames);
+  }
+
   within : Phase at bottom img places p c top m → IsWithinFrames at bottom c top m
   within (ToCome x) = to_come_within x
   within (AlreadyDone x) = done_within x
   within (Entering x) = entering_within x
   within (Calling x) = calling_within x
+  within (Reads x) = reading_within x
 
 pub phases_are_within_frames : PhasesAreWithinFrames
 phases_are_within_frames at bottom img places p c top m laid port phase =
@@ -90,14 +101,15 @@ pub eight : (fpu : Bool) → 8 ≤ exception.entry_words fpu
 eight true = omega arith
 eight false = omega arith
 
-module _ (at : Outside) (bottom highest : ℕ) (img : Image) (places : List ℕ) (p : Program) (port : p.port ≡ at.port)
+module _ (at : Outside) (bottom highest : ℕ) (inputs : List Input) (img : Image) (places : List ℕ) (p : Program)
+    (port : p.port ≡ at.port)
   where
     abbrev contexts : List Context → ℕ
     contexts below = sum_by (context_words (entry_words img)) below
 
     pub others_deep : (takings : List Taking) (below : List Context) (c : Core) (top : ℕ) (m : Machine)
         → IsLaidOut at bottom (length c.processor.cells)
-        → Waiting at bottom highest img places p takings below c top m → highest ≤ top + 4 * contexts below
+        → Waiting at bottom highest inputs img places p takings below c top m → highest ≤ top + 4 * contexts below
     others_deep [] [] c top m laid jobs = omega (arith, jobs.0)
     others_deep [] (x ∷ below) c top m laid jobs = absurd jobs
     others_deep (taking ∷ takings) [] c top m laid jobs = absurd jobs
@@ -110,7 +122,7 @@ module _ (at : Outside) (bottom highest : ℕ) (img : Image) (places : List ℕ)
         omega (arith, frames, rest, up, sum_by-cons (context_words (entry_words img)) x below, eight img.fpu)
 
 pub stack_is_no_deeper : StackIsNoDeeper
-stack_is_no_deeper at bottom highest img places p takings c top m laid port phase jobs =
+stack_is_no_deeper at bottom highest inputs img places p takings c top m laid port phase jobs =
     let frames = (phases_are_within_frames at bottom img places p c top m laid port phase).frames in
-    let rest = others_deep at bottom highest img places p port takings c.below c top m laid jobs in
+    let rest = others_deep at bottom highest inputs img places p port takings c.below c top m laid jobs in
     omega (arith, frames, rest)

@@ -17,6 +17,7 @@ use Rattle.rt_core.specs.Transfer.{back_to, call_fits, call_row, has_room, may_c
 use Rattle.rt_native.specs.Frames.{body_words, handler_words}
 use Rattle.rt_native.specs.Sequences.{sequence}
 use Rattle.rt_native.specs.declared.outside.Outside.{Outside}
+use Rattle.rt_native.specs.declared.target.Input.{Input}
 use Rattle.rt_thumb.specs.Exceptions.{popped, return_to_handler, return_to_thread, returned}
 use Rattle.rt_thumb.specs.Machine.{Machine}
 use Rattle.rt_thumb.specs.Step.{Program}
@@ -29,7 +30,7 @@ use Rattle.rt_native_laws.specs.Going.{StepsBy}
 use Rattle.rt_native_laws.specs.EachKind.{BySteps, ByReturn, EachGoes, EachKindGoesOn, HasOneCommit, Silently}
 use Rattle.rt_native_laws.specs.Moments.{CameBack, Moment, Taking, instruction_at, last_after, settled_words}
 use Rattle.rt_native_laws.specs.Own.{AreSteady, Executes, RunsPrivately}
-use Rattle.rt_native_laws.specs.Phases.{AlreadyDone, Calling, Entering, IsButForWords, IsDone}
+use Rattle.rt_native_laws.specs.Phases.{AlreadyDone, Calling, Entering, IsButForWords, IsDone, IsNoReading, Reads}
 use Rattle.rt_native_laws.specs.Phases.{IsNoCall, IsToCome, Phase, ToCome, kept_words}
 use Rattle.rt_native_laws.specs.Standing.{HoldsWords, IsLaidOut, StandsFor, caller_words, frames_end}
 use Rattle.rt_native_laws.specs.Waiting.{Waiting, return_value}
@@ -149,7 +150,8 @@ kind_of img ceiling s instr.Back one well = IsBack refl
 kind_of img ceiling s instr.Ret one well = IsRet refl
 kind_of img ceiling s i one well = Plain tt
 
-module _ (at : Outside) (bottom highest ceiling : ℕ) (img : Image) (places : List ℕ) (p : Program) (i : Instr)
+module _ (at : Outside) (bottom highest ceiling : ℕ) (inputs : List Input) (img : Image) (places : List ℕ)
+    (p : Program) (i : Instr)
     (s : Moment) (d : Core) (said : Option What) (top : ℕ) (m : Machine) (code : HasCode at img places p)
     (laid : IsLaidOut at bottom (length s.core.processor.cells)) (reach : highest ≡ bottom + img.stack_bytes)
     (whole : img.stack_bytes % 4 ≡ 0) (st : StepsBy img i s.core d said) (well : GoesWell img ceiling s i)
@@ -178,7 +180,7 @@ module _ (at : Outside) (bottom highest ceiling : ℕ) (img : Image) (places : L
   same_instruction x = ap (λ (y : Instr × Option Note). y.0)
       (same_some (x.instruction, x.note) (i, st.note) (sym x.line ∙ st.line))
 
-  module _ (jobs : Waiting at bottom highest img places p s.takings c.below c top m) where
+  module _ (jobs : Waiting at bottom highest inputs img places p s.takings c.below c top m) where
     -- the handler that returns
     record Link : Type 0 where
       inside : m.exception ≢ 0
@@ -186,7 +188,7 @@ module _ (at : Outside) (bottom highest ceiling : ℕ) (img : Image) (places : L
       link : m.register 13 ≡ top → m.register 14 ≡ return_value (popped m).exception
 
     link_of : (takings : List Taking) (x : Context) (below : List Context)
-        → Waiting at bottom highest img places p takings (x ∷ below) c top m → Link
+        → Waiting at bottom highest inputs img places p takings (x ∷ below) c top m → Link
     link_of [] x below waits = absurd waits
     link_of (taking ∷ takings) x below
         (aligned, small, runs, active, link, up, next, within, fits, phase, more) = record {
@@ -197,15 +199,16 @@ module _ (at : Outside) (bottom highest ceiling : ℕ) (img : Image) (places : L
 
     -- an instruction that is to come
     plain_goes : IsPlain i → IsToCome at bottom img places p c top m → (phase : Phase at bottom img places p c top m)
+        → IsNoReading at bottom img places p c top m phase
         → Goes (kept_words at bottom img places p c top m phase)
-    plain_goes plain x phase =
+    plain_goes plain x phase unread =
         let y = plain_has_next at bottom img places p code i plain c d said st top m x in (
           y.0,
           y.1,
           y.2,
           by_step_or_none _ y.1 (λ e. subst IsPlain e plain)
               (one_event_is_one_step_or_none at bottom img places p i c d said top m y.1 y.0 code laid plain st phase
-              y.2),
+              unread y.2),
         )
 
     ret_goes : i ≡ instr.Ret → IsToCome at bottom img places p c top m → Goes all_words
@@ -214,7 +217,8 @@ module _ (at : Outside) (bottom highest ceiling : ℕ) (img : Image) (places : L
         let ends : ReturnsWell img s = subst (GoesWell img ceiling s) e well in
         let there = return_context img c d said st_now in
         let l = link_of s.takings there.context there.others
-        (subst (λ (b : List Context). Waiting at bottom highest img places p s.takings b c top m) there.below jobs) in
+        (subst (λ (b : List Context). Waiting at bottom highest inputs img places p s.takings b c top m) there.below
+        jobs) in
         let is = same_instruction x ∙ e in
         let y = ret_has_next at bottom img places p code c top m x is there.free ends.frame l.inside l.high l.link in (
           y.0,
@@ -250,7 +254,7 @@ module _ (at : Outside) (bottom highest ceiling : ℕ) (img : Image) (places : L
         )
 
     to_come : KindOf i → (x : IsToCome at bottom img places p c top m) → Goes all_words
-    to_come (Plain plain) x = plain_goes plain x (ToCome x)
+    to_come (Plain plain) x = plain_goes plain x (ToCome x) tt
     to_come (IsCall row from e) x = absurd (subst IsNoCall (same_instruction x ∙ e) x.kind)
     to_come (IsBack e) x = back_goes e x
     to_come (IsRet e) x = ret_goes e x
@@ -273,7 +277,8 @@ module _ (at : Outside) (bottom highest ceiling : ℕ) (img : Image) (places : L
           subst (λ (j : Instr). StepsBy img j c d said) e st in
           let b = called_body img row from c d said st_now in
           let calls : CallsWell b.body from c = subst (GoesWell img ceiling s) e well b.body b.found in
-          let deep = stack_is_no_deeper at bottom highest img places p s.takings c top m laid code.port (AlreadyDone x)
+          let deep = stack_is_no_deeper at bottom highest inputs img places p s.takings c top m laid code.port
+          (AlreadyDone x)
           jobs in
           let room = at_most (stack_in_use img c + b.body.frame) (img.stack_bytes / 4)
           (and_parts (arguments_fit c.processor.slots b.body from) (has_room img c b.body.frame) b.fits).1 in
@@ -297,7 +302,7 @@ module _ (at : Outside) (bottom highest ceiling : ℕ) (img : Image) (places : L
       between : KindOf i → Goes all_words
       between (Plain plain) =
           plain_goes plain (coming (plain_has_first at img places c.processor.address i plain) (no_call i plain))
-          (AlreadyDone x)
+          (AlreadyDone x) tt
       between (IsCall row from e) = call_goes row from e
       between (IsBack e) =
           back_goes e (coming (subst (λ (j : Instr). (y : Instruction) × (ys : List Instruction)
@@ -320,18 +325,21 @@ module _ (at : Outside) (bottom highest ceiling : ℕ) (img : Image) (places : L
         )
 
     by_phase : KindOf i → (phase : Phase at bottom img places p c top m)
+        → IsNoReading at bottom img places p c top m phase
         → Goes (kept_words at bottom img places p c top m phase)
-    by_phase kind (ToCome x) = to_come kind x
-    by_phase kind (AlreadyDone x) = by_left kind x x.left x.steady x.completes
-    by_phase kind (Entering x) =
+    by_phase kind (ToCome x) unread = to_come kind x
+    by_phase kind (AlreadyDone x) unread = by_left kind x x.left x.steady x.completes
+    by_phase kind (Entering x) unread =
         let y = entering_has_next at bottom img places p code c top m x in
         (y.0, y.1, y.2, Silently (entering_goes at bottom img places p code c top m y.1 y.0 y.2 x))
-    by_phase kind (Calling x) =
+    by_phase kind (Reads x) unread = absurd unread
+    by_phase kind (Calling x) unread =
         let y = calling_has_next at bottom img places p code c top m x in
         (y.0, y.1, y.2, Silently (calling_goes at bottom img places p code c top m y.1 y.0 y.2 x))
 
 pub each_kind_goes_on : EachKindGoesOn
-each_kind_goes_on at bottom highest ceiling img places p i s d said top m code laid reach whole one st well words phase
-    jobs =
-    by_phase at bottom highest ceiling img places p i s d said top m code laid reach whole st well words jobs
-    (kind_of img ceiling s i one well) phase
+each_kind_goes_on at bottom highest ceiling inputs img places p i s d said top m code laid reach whole one st well
+    words phase
+    unread jobs =
+    by_phase at bottom highest ceiling inputs img places p i s d said top m code laid reach whole st well words jobs
+    (kind_of img ceiling s i one well) phase unread

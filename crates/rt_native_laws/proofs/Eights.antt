@@ -36,7 +36,7 @@ use Rattle.rt_native_laws.specs.Behaving.{HasEvenFrames}
 use Rattle.rt_native_laws.specs.Going.{HasCode, IsPlain}
 use Rattle.rt_native_laws.specs.Own.{AreSteady, RunsPrivately, is_private, is_steady}
 use Rattle.rt_native_laws.specs.Phases.{AlreadyDone, Calling, Entering, IsCalling, IsDone, IsEntering, IsToCome, Phase}
-use Rattle.rt_native_laws.specs.Phases.{IsNoCall, ToCome}
+use Rattle.rt_native_laws.specs.Phases.{IsNoCall, Reads, ToCome}
 use Rattle.rt_native_laws.specs.Relating.{IsEvenFrame}
 use Rattle.rt_native_laws.specs.Simulating.{HasNoAlarms}
 use Rattle.rt_native_laws.proofs.Calls.{is_free}
@@ -309,3 +309,4 @@ module _ (at : Outside) (bottom : ℕ) (img : Image) (places : List ℕ) (p : Pr
   phase_is_eight (AlreadyDone x) = done_eight x
   phase_is_eight (Entering x) = entering_eight x
   phase_is_eight (Calling x) = calling_eight x
+  phase_is_eight (Reads x) = omega (arith, x.ends, eight)

@@ -13,7 +13,7 @@ use Rattle.rt_code.specs.Image.{Image}
 use Rattle.rt_code.specs.declared.image.Handler.{Handler}
 use Rattle.rt_code.specs.declared.image.IrqRow.{IrqRow}
 use Rattle.rt_core.specs.Core.{Core, depth}
-use Rattle.rt_core.specs.Priority.{execution, mask_value, pick, value_or_none}
+use Rattle.rt_core.specs.Priority.{execution, pick, value_or_none}
 use Rattle.rt_core.specs.Trace.{happen}
 use Rattle.rt_core.specs.Transfer.{core_after_pend}
 use Rattle.rt_core.proofs.Picking.{picked_row}
@@ -45,9 +45,10 @@ use Rattle.rt_native_laws.proofs.Instructing.{instructions_lead_on}
 use Rattle.rt_native_laws.proofs.Interrupting.{entries_lead_on}
 use Rattle.rt_native_laws.proofs.Loading.{loaded_code_is_there}
 use Rattle.rt_native_laws.proofs.Marking.{marks_are_done}
+use Rattle.rt_native_laws.proofs.Owing.{mask_is_small}
 use Rattle.rt_native_laws.proofs.Requesting.{late_instructions_lead_on, pending_ticks_lead_on, requests_lead_on}
 use Rattle.rt_native_laws.proofs.Tests.{is_less, not_equal}
-use Rattle.rt_native_laws.proofs.Ticks.{core_is, frame_deep, once, seen_is, tick_last, tick_moment, tick_shown}
+use Rattle.rt_native_laws.proofs.Ticks.{time_is, frame_deep, once, seen_is, tick_last, tick_moment, tick_shown}
 use Rattle.rt_native_laws.proofs.Ticks.{where_last}
 use Rattle.rt_thumb_laws.proofs.Taking.{ticks_come_first}
 use Rattle.rt_thumb_laws.proofs.Undisturbed.{none_at_top}
@@ -64,15 +65,11 @@ module _ (img : Image) where
   can_both inputs s [] ys h k = k
   can_both inputs s (x ∷ xs) ys h k = (h.0, can_both inputs (moment_after img s x) xs ys h.1 k)
 
-  stays_behind : (inputs : List Input) (ceiling : ℕ) (fits : List Happening → Bool) (s : Moment) (xs : List Happening)
+  pub stays_behind : (inputs : List Input) (ceiling : ℕ) (fits : List Happening → Bool) (s : Moment) (xs : List Happening)
       → AllCanHappen img inputs s xs → StaysGood img inputs ceiling fits s
       → StaysGood img inputs ceiling (λ more. fits (xs ++ more)) (moment_after_all img s xs)
   stays_behind inputs ceiling fits s xs can stays more ok f =
       subst (IsGood img ceiling) (after_both s xs more) (stays (xs ++ more) (can_both inputs s xs more can ok) f)
-
-mask_is_small : (b : Bool) → mask_value b ≤ 256
-mask_is_small true = omega arith
-mask_is_small false = omega arith
 
 -- an interrupt that is picked has a handler
 some_handler : (img : Image) (c : Core) (row : IrqRow) → pick img c ≡ Some row
@@ -118,7 +115,7 @@ none_is_picked img c e = by_pick (pick img c) refl
         absurd (omega (arith, higher, e))
 
 module _ (img : Image) (target : Target) (p : Program) (there : IsInPlace img target p) (ceiling : ℕ)
-    (no_alarms : HasNoAlarms img) (even_frames : HasEvenFrames img) (no_inputs : target.inputs ≡ []) where
+    (no_alarms : HasNoAlarms img) (even_frames : HasEvenFrames img) where
   abbrev Here : (List Happening → Bool) → Moment → Machine → Type 0
   Here fits s m =
       (w : IsWhere img target p s m) × (fits [] ≡ true → IsPastMarks img target p s.core w.top m w.phase)
@@ -130,7 +127,8 @@ module _ (img : Image) (target : Target) (p : Program) (there : IsInPlace img ta
   -- how deep the stack is
   deep : (s : Moment) (m : Machine) → IsWhere img target p s m → stack_top img target ≤ m.register 13 + depth img s.core
   deep s m w =
-      stack_is_no_deeper (outside img target) (lowest img target p) (stack_top img target) img (places img target) p
+      stack_is_no_deeper (outside img target) (lowest img target p) (stack_top img target) target.inputs img
+      (places img target) p
       s.takings s.core w.top m
       (subst (IsLaidOut (outside img target) (lowest img target p)) (sym w.cells) there.laid) there.has.port w.phase
       w.waiting
@@ -140,7 +138,7 @@ module _ (img : Image) (target : Target) (p : Program) (there : IsInPlace img ta
   owed m = one_if (m.is_pending systick)
 
   -- the processor is where the image is, or in a tick that leads there
-  data Stands (fits : List Happening → Bool) (s : Moment) (m : Machine) : Type 0 where
+  pub data Stands (fits : List Happening → Bool) (s : Moment) (m : Machine) : Type 0 where
     At : Here fits s m → Stands fits s m
     Within : (last : Machine) → Here fits s last → IsInTick img p m last → Stands fits s m
 
@@ -153,7 +151,7 @@ module _ (img : Image) (target : Target) (p : Program) (there : IsInPlace img ta
   abbrev FollowsFrom : List processor.Event → Type 0
   FollowsFrom events =
       (fits : List Happening → Bool) (s : Moment) (m : Machine) → StaysGood img target.inputs ceiling fits s
-      → (stands : Stands fits s m) → s.core.alarm ≡ None
+      → (stands : Stands fits s m)
       → s.core.time + owed_then fits s m stands + ticks events + 2 < 2 ^ 32 → StaysBeside img target p fits s m events
 
   -- what an event comes to
@@ -163,7 +161,7 @@ module _ (img : Image) (target : Target) (p : Program) (there : IsInPlace img ta
       × StaysBeside img target p (λ more. fits (happened ++ more)) (moment_after_all img s happened) next events
 
   module _ (events : List processor.Event) (follows : FollowsFrom events) (fits : List Happening → Bool) (s : Moment)
-      (m : Machine) (stays : StaysGood img target.inputs ceiling fits s) (no_alarm : s.core.alarm ≡ None) where
+      (m : Machine) (stays : StaysGood img target.inputs ceiling fits s) where
     -- an event that leads on
     leads_to : (n : Machine) → LeadsOn img target p fits s m n → s.core.time + owed m + ticks events + 2 < 2 ^ 32
         → (event : processor.Event) → arrivals_at event ≡ [] → processor.step p m event ≡ Some n
@@ -180,7 +178,7 @@ module _ (img : Image) (target : Target) (p : Program) (there : IsInPlace img ta
       },
       follows (λ more. fits (l.happened ++ more)) (moment_after_all img s l.happened) n
           (stays_behind img target.inputs ceiling fits s l.happened l.can stays)
-          (At (l.here, λ f. l.marks (ap fits (sym (append-nil l.happened)) ∙ f))) (l.alarm no_alarm)
+          (At (l.here, λ f. l.marks (ap fits (sym (append-nil l.happened)) ∙ f)))
           (omega (arith, bound, l.time, ap one_if l.ticks)),
     )
 
@@ -194,7 +192,7 @@ module _ (img : Image) (target : Target) (p : Program) (there : IsInPlace img ta
       [],
       n,
       record { no_fault = is; can = tt; arrivals = sym silent; seen = seen; deep = low },
-      follows fits s n stays stands no_alarm bound,
+      follows fits s n stays stands bound,
     )
 
     -- a request of a device
@@ -222,7 +220,6 @@ module _ (img : Image) (target : Target) (p : Program) (there : IsInPlace img ta
           },
           follows (λ more. fits (happened ++ more)) s1 n
               (stays_behind img target.inputs ceiling fits s happened (tt, tt) stays) stands
-              (ap (λ (c : Core). c.alarm) (arrived img s irq) ∙ no_alarm)
               (omega (arith, bound, ap (λ (c : Core). c.time) (arrived img s irq))),
         )
 
@@ -233,27 +230,27 @@ module _ (img : Image) (target : Target) (p : Program) (there : IsInPlace img ta
         let good = stays [] tt fitting in
         let w = here.0 in
         let fits_in : s.core.time + 2 < 2 ^ 32 = omega (arith, bound) in
-        let last = tick_last img target p ceiling fits s m there no_alarms even_frames good w no_alarm fits_in
+        let last = tick_last img target p ceiling fits s m there no_alarms even_frames good w fits_in
         ticks_now in
-        let once_more = once img target p ceiling fits s m there no_alarms even_frames good w no_alarm fits_in
+        let once_more = once img target p ceiling fits s m there no_alarms even_frames good w fits_in
         ticks_now in
         let s1 = moment_after img s (Comes Tick) in
         let there_then : IsWhere img target p s1 last =
         subst (λ (z : Moment). IsWhere img target p z last) (sym (tick_moment img s))
-        (where_last img target p ceiling fits s m there no_alarms even_frames good w no_alarm fits_in ticks_now) in
+        (where_last img target p ceiling fits s m there no_alarms even_frames good w fits_in ticks_now) in
         let marked = marks_are_done img target p there ceiling (λ more. fits (Comes Tick ∷ more)) s1 last
         (λ more ok f. stays (Comes Tick ∷ more) (tt, ok) f) there_then in
         let happened = Comes Tick ∷ marked.happened in
         let n = entered systick m in
-        let core_then : s1.core ≡ record s.core { time = suc s.core.time } =
-        ap (λ (z : Moment). z.core) (tick_moment img s)
-        ∙ core_is img target p ceiling fits s m there no_alarms even_frames good w no_alarm fits_in ticks_now in
+        let time_then : s1.core.time ≡ suc s.core.time =
+        ap (λ (z : Moment). z.core.time) (tick_moment img s)
+        ∙ time_is img target p ceiling fits s m there no_alarms even_frames good w fits_in ticks_now in
         let in_tick : IsInTick img p n last = record {
           rest = once_more.executed;
           calm = once_more.calm;
           run = once_more.run;
-          seen = seen_is img target p ceiling fits s m there no_alarms even_frames good w no_alarm fits_in ticks_now;
-          deep = frame_deep img target p ceiling fits s m there no_alarms even_frames good w no_alarm fits_in ticks_now;
+          seen = seen_is img target p ceiling fits s m there no_alarms even_frames good w fits_in ticks_now;
+          deep = frame_deep img target p ceiling fits s m there no_alarms even_frames good w fits_in ticks_now;
         } in (
           happened,
           n,
@@ -262,19 +259,18 @@ module _ (img : Image) (target : Target) (p : Program) (there : IsInPlace img ta
             can = (tt, marked.can);
             arrivals = marked.arrivals;
             seen = sym (ap (λ (xs : List Seen). compared (timer_irq img.code) (reverse xs ++ m.seen))
-                (tick_shown img s marked.happened no_alarm ∙ marked.seen));
+                (tick_shown img s marked.happened ∙ marked.seen));
             deep = (let high = deep (moment_after_all img s happened) last marked.here in
                 omega (arith, high, in_tick.deep));
           },
           follows (λ more. fits (happened ++ more)) (moment_after_all img s happened) n
               (stays_behind img target.inputs ceiling fits s happened (tt, marked.can) stays)
               (Within last (marked.here, λ f. marked.marks (ap fits (sym (append-nil happened)) ∙ f)) in_tick)
-              (marked.alarm (ap (λ (c : Core). c.alarm) core_then ∙ no_alarm))
               (omega (
                 arith,
                 bound,
                 marked.time,
-                ap (λ (c : Core). c.time) core_then,
+                time_then,
                 ap one_if once_more.has_ticked.is_over,
               )),
         )
@@ -298,7 +294,7 @@ module _ (img : Image) (target : Target) (p : Program) (there : IsInPlace img ta
       by_pick quiet (Some row) e =
           let h = some_handler img s.core row e in
           leads_to (entered (external row.number) m)
-          (entries_lead_on img target p ceiling fits s m row h.0 there no_alarms even_frames no_inputs stays fitting r e
+          (entries_lead_on img target p ceiling fits s m row h.0 there no_alarms even_frames stays fitting r e
           h.1) bound processor.Goes refl
           (ap (going p m) (they_take_the_same img s.core m here.0.agrees quiet
           ∙ ap (option_map (λ row. external row.number)) e))
@@ -345,45 +341,45 @@ module _ (img : Image) (target : Target) (p : Program) (there : IsInPlace img ta
   same_owed irq m =
       ap (λ (b : Bool). b || m.is_pending systick) (not_equal systick (external irq) (λ e. omega (arith, e)))
 
-  follow : (events : List processor.Event) → FollowsFrom events
-  follow [] fits s m stays stands no_alarm bound = tt
-  follow (processor.Arrives irq ∷ events) fits s m stays (At here) no_alarm bound = λ fitting can_come.
+  pub follow : (events : List processor.Event) → FollowsFrom events
+  follow [] fits s m stays stands bound = tt
+  follow (processor.Arrives irq ∷ events) fits s m stays (At here) bound = λ fitting can_come.
       let r = related fits s m here fitting in
       let joined = requests_lead_on img target p s m irq there r can_come in
-      request_comes events (follow events) fits s m stays no_alarm irq can_come m r
+      request_comes events (follow events) fits s m stays irq can_come m r
       (At (joined.here, λ f. joined.marks))
       (omega (arith, bound, ap one_if (same_owed irq m))) (omega arith)
-  follow (processor.Arrives irq ∷ events) fits s m stays (Within last here x) no_alarm bound = λ fitting can_come.
+  follow (processor.Arrives irq ∷ events) fits s m stays (Within last here x) bound = λ fitting can_come.
       let r = related fits s last here fitting in
       let joined = requests_lead_on img target p s last irq there r can_come in
-      request_comes events (follow events) fits s m stays no_alarm irq can_come last r
+      request_comes events (follow events) fits s m stays irq can_come last r
       (Within (pended (external irq) last) (joined.here, λ f. joined.marks) (request_in_tick img p (external irq) m
       last x))
       (omega (arith, bound, ap one_if (same_owed irq last))) x.deep
-  follow (processor.Ticks ∷ events) fits s m stays (At here) no_alarm bound = λ fitting can_come.
+  follow (processor.Ticks ∷ events) fits s m stays (At here) bound = λ fitting can_come.
       let joined = pending_ticks_lead_on img target p s m there (related fits s m here fitting) in
-      leaves_it events (follow events) fits s m stays no_alarm (pended systick m) (At (joined.here, λ f. joined.marks))
+      leaves_it events (follow events) fits s m stays (pended systick m) (At (joined.here, λ f. joined.marks))
       (omega (arith, bound)) processor.Ticks refl refl refl
       (let high = deep s (pended systick m) joined.here in omega (arith, high))
-  follow (processor.Ticks ∷ events) fits s m stays (Within last here x) no_alarm bound = λ fitting can_come.
+  follow (processor.Ticks ∷ events) fits s m stays (Within last here x) bound = λ fitting can_come.
       let joined = pending_ticks_lead_on img target p s last there (related fits s last here fitting) in
-      leaves_it events (follow events) fits s m stays no_alarm (pended systick m)
+      leaves_it events (follow events) fits s m stays (pended systick m)
       (Within (pended systick last) (joined.here, λ f. joined.marks) (request_in_tick img p systick m last x))
       (omega (arith, bound)) processor.Ticks refl refl refl
       (let high = deep s last here.0 in omega (arith, high, x.deep))
-  follow (processor.Goes ∷ events) fits s m stays (At here) no_alarm bound = λ fitting can_come.
-      goes_on events (follow events) fits s m stays no_alarm here fitting bound
-  follow (processor.Goes ∷ events) fits s m stays (Within last here x) no_alarm bound = λ fitting can_come.
+  follow (processor.Goes ∷ events) fits s m stays (At here) bound = λ fitting can_come.
+      goes_on events (follow events) fits s m stays here fitting bound
+  follow (processor.Goes ∷ events) fits s m stays (Within last here x) bound = λ fitting can_come.
       let y = tick_goes_on img target p there m last x in
-      ticks_on events (follow events) fits s m stays no_alarm last here x bound processor.Goes refl
+      ticks_on events (follow events) fits s m stays last here x bound processor.Goes refl
       (ap (going p m) y.none ∙ y.no_fault)
-  follow (processor.GoesLate ∷ events) fits s m stays (At here) no_alarm bound = λ fitting can_come.
+  follow (processor.GoesLate ∷ events) fits s m stays (At here) bound = λ fitting can_come.
       let y = late_instructions_lead_on img target p ceiling fits s m there stays fitting
       (related fits s m here fitting) can_come in
-      leads_to events (follow events) fits s m stays no_alarm y.0 y.2 bound processor.GoesLate refl y.1
-  follow (processor.GoesLate ∷ events) fits s m stays (Within last here x) no_alarm bound = λ fitting can_come.
+      leads_to events (follow events) fits s m stays y.0 y.2 bound processor.GoesLate refl y.1
+  follow (processor.GoesLate ∷ events) fits s m stays (Within last here x) bound = λ fitting can_come.
       let y = tick_goes_on img target p there m last x in
-      ticks_on events (follow events) fits s m stays no_alarm last here x bound processor.GoesLate refl y.no_fault
+      ticks_on events (follow events) fits s m stays last here x bound processor.GoesLate refl y.no_fault
 
 -- what no event changes
 module _ (img : Image) (target : Target) (p : Program) (words : List ℕ) (m : Machine) (image : IsImageFor img target p)
@@ -432,7 +428,7 @@ module _ (img : Image) (target : Target) (p : Program) (words : List ℕ) (m : M
       )))
       (λ (x : at.time + 8 ≤ target.flash.address). inr (omega (arith, x))) behind.apart
 
-  there_is : IsInPlace img target p
+  pub there_is : IsInPlace img target p
   there_is = record {
     image = image;
     has = loaded_code_is_there img target p m behind.loaded behind.executed;
@@ -442,14 +438,14 @@ module _ (img : Image) (target : Target) (p : Program) (words : List ℕ) (m : M
     apart = vectors_apart;
   }
 
-  abbrev start : Moment
+  abbrev pub start : Moment
   start = moment_after img (at_reset img) (Fills words)
 
-  where_is : IsWhere img target p start m
+  pub where_is : IsWhere img target p start m
   where_is = record {
     top = stack_top img target;
     phase = AlreadyDone behind.thread;
-    fresh = omega arith;
+    fresh = (omega arith, tt);
     waiting = (refl, behind.exception, behind.agrees.active);
     agrees = record {
       declared = behind.agrees.declared;
@@ -469,22 +465,23 @@ module _ (img : Image) (target : Target) (p : Program) (words : List ℕ) (m : M
     loaded = behind.loaded;
     tick = behind.tick;
     requests = length-replicate IRQ_NUMBERS false;
+    alarm = tt;
     cells = length-map img.cells (λ cell. cell.first);
     frames = tt;
   }
 
-  filled : AreFillings (at_reset img) words
+  pub filled : AreFillings (at_reset img) words
   filled = record {
     long = behind.long ∙ sym (length-replicate img.thread_words 0);
     settled = λ k l. absurd (omega (arith, l));
   }
 
-at_most_one : (b : Bool) → one_if b ≤ 1
+pub at_most_one : (b : Bool) → one_if b ≤ 1
 at_most_one true = omega arith
 at_most_one false = omega arith
 
 pub native_simulates_without_alarms : NativeSimulatesWithoutAlarms
-native_simulates_without_alarms img target p fits words m events image well behind no_alarms no_inputs few =
+native_simulates_without_alarms img target p fits words m events image well behind no_alarms few =
     let there = there_is img target p words m image behind in
     let ceiling = well.ceiling in
     let start_here = start img target p words m image behind in
@@ -500,9 +497,9 @@ native_simulates_without_alarms img target p fits words m events image well behi
       can = can;
       arrivals = marked.arrivals;
       unseen = marked.seen;
-      follows = follow img target p there ceiling no_alarms well.frames no_inputs events
+      follows = follow img target p there ceiling no_alarms well.frames events
           (λ more. fits (first ++ more)) (moment_after_all img (at_reset img) first) m
           (stays_behind img target.inputs ceiling fits (at_reset img) first can well.moments)
-          (At (marked.here, λ f. marked.marks (ap fits (sym (append-nil first)) ∙ f))) (marked.alarm refl)
+          (At (marked.here, λ f. marked.marks (ap fits (sym (append-nil first)) ∙ f)))
           (omega (arith, few, marked.time, at_most_one (m.is_pending systick)));
     }

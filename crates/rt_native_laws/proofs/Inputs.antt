@@ -1,7 +1,7 @@
 -- Inputs are read, one machine instruction after the other.
 use Rattle.std.proofs.Common.{◌≡◌, ◌≢◌, ◌∙◌, ℕ, ◌+◌, ◌*◌, ◌/◌, ◌%◌, ◌^◌, ◌<◌, ◌≤◌, ◌⊎◌, inl, inr}
 use Rattle.std.proofs.Common.{List, [], ◌∷◌, ◌++◌, Option, Some, sym, refl, ap, subst, arith, length, ⊎_elim}
-use Rattle.std.proofs.Common.{append_assoc, flat_map}
+use Rattle.std.proofs.Common.{append_assoc, flat_map, Bool, true, false, suc}
 use Rattle.std.proofs.lemmas.List.{length-set}
 use Rattle.std.specs.List.{AllByRecursion, filter}
 use Rattle.std.specs.Prelude.{if◌then◌else◌, ◌==◌, drop, slice_index}
@@ -10,6 +10,7 @@ use Rattle.rt_code.specs.Stack.{words_of}
 use Rattle.rt_code.specs.declared.image.Handler.{Handler}
 use Rattle.rt_core.specs.Core.{Core}
 use Rattle.rt_core.specs.Transfer.{core_after_entry, core_after_word}
+use Rattle.rt_ids.specs.Choice.{IsIn}
 use Rattle.rt_ids.specs.Operation.{wrapped_number as word}
 use Rattle.rt_native.specs.Pieces.{address, open_frame}
 use Rattle.rt_native.specs.Sequences.{branch, cell}
@@ -25,18 +26,20 @@ use Rattle.rt_thumb.specs.declared.instruction.Instruction.{Instruction}
 use Rattle.rt_thumb.specs.declared.instruction.Instruction.TheVariants as instruction
 use Rattle.rt_native_laws.specs.Doing.{with_slots}
 use Rattle.rt_native_laws.specs.Going.{HasCode}
-use Rattle.rt_native_laws.specs.Inputs.{IsInput, IsReading, IsAtInputs, Reads, Enters, Reading, AtLow, AtTop, AtLoad}
-use Rattle.rt_native_laws.specs.Inputs.{AtCellLow, AtCellTop, AtStore, Holds, ReadingGoes, ReadingGoesOn, passed}
-use Rattle.rt_native_laws.specs.Inputs.{read_behind, ReadingIsKept, EntryReadsInputs}
+use Rattle.rt_native_laws.specs.Inputs.{IsAtInputs, Reads, Enters, ReadingGoes, ReadingGoesOn}
+use Rattle.rt_native_laws.specs.Inputs.{read_behind, EntryReadsInputs}
 use Rattle.rt_native_laws.specs.Laws.{IsNoReturn}
 use Rattle.rt_native_laws.specs.Own.{Executes, Spans}
-use Rattle.rt_native_laws.specs.Phases.{OthersRan}
+use Rattle.rt_native_laws.specs.Reading.{IsInput, IsReading, Reading, AtLow, AtTop, AtLoad}
+use Rattle.rt_native_laws.specs.Reading.{AtCellLow, AtCellTop, AtStore, Holds, passed}
 use Rattle.rt_native_laws.specs.Standing.{IsLaidOut, StandsFor, HoldsWords, IsBeside}
 use Rattle.rt_native_laws.proofs.Accesses.{caller_length}
+use Rattle.rt_native_laws.proofs.Faultless.{HasNext}
 use Rattle.rt_native_laws.proofs.Keeping.{written, word_kept, words_written}
-use Rattle.rt_native_laws.proofs.Phases.{stands_again}
 use Rattle.rt_native_laws.proofs.Pieces.{moved, IsMemory, loading_is, storing_is, other}
 use Rattle.rt_native_laws.proofs.Prefixes.{same_next}
+use Rattle.rt_native_laws.proofs.Private.{equals}
+use Rattle.rt_native_laws.proofs.Reading.{all_inputs}
 use Rattle.rt_native_laws.proofs.Shapes.{stub_has_first}
 use Rattle.rt_native_laws.proofs.Steady.{words_after}
 use Rattle.rt_native_laws.proofs.Tail.{stands_with}
@@ -53,17 +56,15 @@ not_cell at bottom count laid sp after top j k low there beside e =
     ⊎_elim (λ (y : (top ≤ 4 * j) × (4 * j + 4 ≤ at.cells)). omega (arith, y.1, exact))
     (λ (y : at.time + 8 ≤ 4 * j). omega (arith, y, exact, laid.time, there)) z) beside
 
-all_inputs : (count more : ℕ) → more ≡ count → (is : List Input) → AllByRecursion (IsInput count) is
-    → AllByRecursion (IsInput more) is
-all_inputs count more e is h = subst (λ (x : ℕ). AllByRecursion (IsInput x) is) (sym e) h
-
 module _ (at : Outside) (bottom : ℕ) (img : Image) (places : List ℕ) (p : Program) (to irq : ℕ) (h : Handler) (c : Core)
     (top : ℕ) (m : Machine) (u : IsUnopened at bottom img places p to h c top m) where
-  pub begins : (more : List Input) → AllByRecursion (IsInput (length c.processor.cells)) more
+  pub begins : (declared : List Input) → m.exception ≡ external irq → (more : List Input)
+      → AllByRecursion (IsInput (length c.processor.cells)) more
+      → AllByRecursion (λ i. IsIn declared i × (i.irq ≡ irq)) more
       → Spans p m.address (flat_map (read_input at) more ++ stub at [] places to irq (Some h)) to
-      → IsAtInputs at bottom img places p c top m
+      → IsAtInputs at bottom img places p declared c top m
   unfolding read_input address
-  begins [] all span =
+  begins declared inside [] all among span =
       let first = stub_has_first at places to irq h in
       Enters (record {
         to = to;
@@ -95,7 +96,7 @@ module _ (at : Outside) (bottom : ℕ) (img : Image) (places : List ℕ) (p : Pr
         };
         deep = omega (arith, u.ends);
       })
-  begins (j ∷ js) all span =
+  begins declared inside (j ∷ js) all among span =
       Reads (record {
         to = to;
         irq = irq;
@@ -103,6 +104,9 @@ module _ (at : Outside) (bottom : ℕ) (img : Image) (places : List ℕ) (p : Pr
         input = j;
         more = js;
         inputs = all;
+        declared = declared;
+        among = among;
+        exception = inside;
         stage = AtLow;
         value = 0;
         holds = tt;
@@ -118,7 +122,61 @@ module _ (at : Outside) (bottom : ℕ) (img : Image) (places : List ℕ) (p : Pr
         ends = u.ends;
         settled = u.settled;
         words = u.words;
-      })
+      }) refl
+
+module _ (at : Outside) (bottom : ℕ) (img : Image) (places : List ℕ) (p : Program) (c : Core) (top : ℕ) (m : Machine)
+    (code : HasCode at img places p) (x : IsReading at bottom img places p c top m) where
+  abbrev the_place : ℕ
+  the_place = at.cells + 4 * x.input.cell
+
+  is_there : x.input.cell < length c.processor.cells
+  is_there = x.inputs.0.cell
+
+  the_cell_is : cell at x.input.cell ≡ the_place
+  unfolding cell
+  the_cell_is = omega (arith, is_there, x.laid.time, x.laid.in_memory)
+
+  memory_there : IsMemory p.port the_place
+  memory_there = record {
+    aligned = omega (arith, x.laid.aligned);
+    no_port = λ e.
+        ⊎_elim (λ (y : at.port < bottom). omega (arith, y, e, code.port, x.stands.stack, x.stands.frames))
+        (λ (y : at.time + 8 ≤ at.port). omega (arith, y, e, code.port, is_there, x.laid.time)) x.laid.port_apart;
+    below = omega (arith, is_there, x.laid.time, x.laid.in_memory);
+  }
+
+  abbrev left_of : Reading → List Instruction
+  left_of stage =
+      drop (passed stage) (read_input at x.input)
+      ++ (flat_map (read_input at) x.more ++ stub at [] places x.to x.irq (Some x.handler))
+
+  next_by : (stage : Reading) → Spans p m.address (left_of stage) x.to → Holds at x.input x.value m stage → HasNext p m
+  unfolding read_input address
+  next_by AtLow span holds = (_, _, record { found = span.0; does = refl })
+  next_by AtTop span holds = (_, _, record { found = span.0; does = refl })
+  next_by AtLoad span r1 = (
+    instruction.Load 0 1 0,
+    _,
+    record {
+      found = span.0;
+      does = loading_is (instruction.Load 0 1 0) 0 (word (m.register 1 + 0)) x.input.address m
+          (omega (arith, r1, x.inputs.0.address)) x.inputs.0.aligned;
+    },
+  )
+  next_by AtCellLow span holds = (_, _, record { found = span.0; does = refl })
+  next_by AtCellTop span holds = (_, _, record { found = span.0; does = refl })
+  next_by AtStore span (r0, r1) = (
+    instruction.Store 0 1 0,
+    _,
+    record {
+      found = span.0;
+      does = storing_is p.port (instruction.Store 0 1 0) 0 (word (m.register 1 + 0)) the_place m
+          (omega (arith, r1, the_cell_is, memory_there.below)) memory_there;
+    },
+  )
+
+  pub reading_has_next : HasNext p m
+  reading_has_next = next_by x.stage x.code x.holds
 
 module _ (at : Outside) (bottom : ℕ) (img : Image) (places : List ℕ) (p : Program) (c : Core) (top : ℕ) (m n : Machine)
     (executed : Instruction) (code : HasCode at img places p) (x : IsReading at bottom img places p c top m)
@@ -136,7 +194,7 @@ module _ (at : Outside) (bottom : ℕ) (img : Image) (places : List ℕ) (p : Pr
   entry = slice_index places x.handler.entry
 
   abbrev Result : Machine → Type 0
-  Result y = ReadingGoes at bottom img places p c top x.stage input x.value m y
+  Result y = ReadingGoes at bottom img places p c top x.stage input x.value x.declared m y
 
   none : length (words_of c.caller) ≡ 0
   none = ap (λ (o : Option (List ℕ)). length (words_of o)) x.free
@@ -169,6 +227,9 @@ module _ (at : Outside) (bottom : ℕ) (img : Image) (places : List ℕ) (p : Pr
         input = input;
         more = x.more;
         inputs = x.inputs;
+        declared = x.declared;
+        among = x.among;
+        exception = x.exception;
         stage = stage;
         value = value;
         holds = holds;
@@ -186,7 +247,7 @@ module _ (at : Outside) (bottom : ℕ) (img : Image) (places : List ℕ) (p : Pr
         words = words_then i y found does plain;
       } in
       subst Result (leads i y found does) (record {
-        phase = inl (again, refl, e);
+        phase = inl (again, refl, e, refl);
         others = record {
           registers = λ k h g. o k h;
           memory = λ k h. refl;
@@ -204,17 +265,10 @@ module _ (at : Outside) (bottom : ℕ) (img : Image) (places : List ℕ) (p : Pr
   there = x.inputs.0.cell
 
   cell_is : cell at input.cell ≡ place
-  unfolding cell
-  cell_is = omega (arith, there, x.laid.time, x.laid.in_memory)
+  cell_is = the_cell_is at bottom img places p c top m code x
 
   in_memory : IsMemory p.port place
-  in_memory = record {
-    aligned = omega (arith, x.laid.aligned);
-    no_port = λ e.
-        ⊎_elim (λ (y : at.port < bottom). omega (arith, y, e, code.port, x.stands.stack, below_cells))
-        (λ (y : at.time + 8 ≤ at.port). omega (arith, y, e, code.port, there, x.laid.time)) x.laid.port_apart;
-    below = omega (arith, there, x.laid.time, x.laid.in_memory);
-  }
+  in_memory = memory_there at bottom img places p c top m code x
 
   abbrev after : Core
   after = core_after_word c input.cell x.value
@@ -274,9 +328,12 @@ module _ (at : Outside) (bottom : ℕ) (img : Image) (places : List ℕ) (p : Pr
       storing_is p.port i 0 (word (m.register 1 + 0)) place m (omega (arith, r1, cell_is, in_memory.below)) in_memory
       ∙ ap (λ (v : ℕ). Some (record stored { memory = written m.memory place v })) r0 in
       subst Result (leads i stored found does) (record {
-        phase = inr (begins at bottom img places p x.to x.irq x.handler after top stored
-            (unopened (words_then i stored found does tt)) x.more
-            (all_inputs count (length after.processor.cells) as_many x.more x.inputs.1) span);
+        phase = inr (
+          begins at bottom img places p x.to x.irq x.handler after top stored
+              (unopened (words_then i stored found does tt)) x.declared x.exception x.more
+              (all_inputs count (length after.processor.cells) as_many x.more x.inputs.1) x.among.1 span,
+          subst (λ (v : ℕ). v < 2 ^ 32) r0 (x.words.registers 0),
+        );
         others = record {
           registers = λ k h g. refl;
           memory = λ k h. other k (place / 4) x.value (m.memory k)
@@ -327,72 +384,6 @@ pub reading_goes_on : ReadingGoesOn
 reading_goes_on at bottom img places p c top m n executed code x exec =
     by_stage at bottom img places p c top m n executed code x exec x.stage refl x.code x.holds
 
--- What others do leaves a job at its input.
-module _ (at : Outside) (bottom : ℕ) (img : Image) (places : List ℕ) (p : Program) (c d : Core) (top : ℕ)
-    (m n : Machine) (x : IsReading at bottom img places p c top m) (o : OthersRan at (m.register 13) top c d m n) where
-  abbrev now : Machine
-  now = record m {
-    memory = n.memory;
-    is_pending = n.is_pending;
-    is_unsettled = n.is_unsettled;
-    seen = n.seen;
-  }
-
-  no_caller : length (words_of c.caller) ≡ 0
-  no_caller = ap (λ (y : Option (List ℕ)). length (words_of y)) x.free
-
-  reading_again : IsReading at bottom img places p
-      (record c {
-        time = d.time;
-        alarm = d.alarm;
-        pending = d.pending;
-        processor = record c.processor { cells = d.processor.cells };
-      }) top now
-  reading_again = record {
-    to = x.to;
-    irq = x.irq;
-    handler = x.handler;
-    input = x.input;
-    more = x.more;
-    inputs = all_inputs (length c.processor.cells) (length d.processor.cells) o.as_many (x.input ∷ x.more) x.inputs;
-    stage = x.stage;
-    value = x.value;
-    holds = held x.stage x.holds;
-    code = x.code;
-    low = x.low;
-    laid = subst (IsLaidOut at bottom) (sym o.as_many) x.laid;
-    entry = x.entry;
-    frame = x.frame;
-    free = x.free;
-    room = x.room;
-    stands = stands_again at bottom places (with_slots at bottom img places p [] c)
-        (record m { address = slice_index places x.handler.entry }) x.stands d.time d.alarm d.pending d.processor.cells
-        n.memory n.is_pending n.is_unsettled n.seen (λ k f t. absurd (omega (arith, f, t, no_caller))) o.cells o.time
-        o.alarm o.pending;
-    ends = x.ends;
-    settled = o.settled;
-    words = subst HoldsWords o.processor.rest o.words;
-  }
-    where
-      held : (stage : Reading) → Holds at x.input x.value m stage → Holds at x.input x.value now stage
-      held AtLow h = h
-      held AtTop h = h
-      held AtLoad h = h
-      held AtCellLow h = h
-      held AtCellTop h = h
-      held AtStore h = h
-
-pub reading_is_kept : ReadingIsKept
-reading_is_kept at bottom img places p c d top m n x o =
-    subst (λ (y : Core). IsReading at bottom img places p y top n) (sym o.core)
-    (subst (λ (y : Machine). IsReading at bottom img places p
-    (record c {
-      time = d.time;
-      alarm = d.alarm;
-      pending = d.pending;
-      processor = record c.processor { cells = d.processor.cells };
-    }) top y) (sym o.processor.rest) (reading_again at bottom img places p c d top m n x o))
-
 -- what an entry leads to, where inputs are read, in two parts
 parts_of_stub : (at : Outside) (inputs : List Input) (places : List ℕ) (to irq : ℕ) (h : Handler)
     → stub at inputs places to irq (Some h)
@@ -402,11 +393,35 @@ parts_of_stub at inputs places to irq h =
     append_assoc (flat_map (read_input at) (filter (λ i. i.irq == irq) inputs)) (open_frame h.frame)
     (branch to (slice_index places h.entry))
 
+-- the inputs of an interrupt are among all
+one_later : (x : Input) (irq : ℕ) (xs ys : List Input) → AllByRecursion (λ i. IsIn xs i × (i.irq ≡ irq)) ys
+    → AllByRecursion (λ i. IsIn (x ∷ xs) i × (i.irq ≡ irq)) ys
+one_later x irq xs [] h = tt
+one_later x irq xs (y ∷ ys) h = (((suc h.0.0.0, h.0.0.1), h.0.1), one_later x irq xs ys h.1)
+
+among : (irq : ℕ) (xs : List Input)
+    → AllByRecursion (λ i. IsIn xs i × (i.irq ≡ irq)) (filter (λ i. i.irq == irq) xs)
+among irq [] = tt
+among irq (x ∷ xs) =
+    by_number (one_later x irq xs (filter (λ i. i.irq == irq) xs) (among irq xs)) (x.irq == irq) refl
+  where
+    by_number : AllByRecursion (λ i. IsIn (x ∷ xs) i × (i.irq ≡ irq)) (filter (λ i. i.irq == irq) xs) → (b : Bool)
+        → (x.irq == irq) ≡ b
+        → AllByRecursion (λ i. IsIn (x ∷ xs) i × (i.irq ≡ irq)) (if x.irq == irq
+        then x ∷ filter (λ i. i.irq == irq) xs else filter (λ i. i.irq == irq) xs)
+    by_number later true e =
+        subst (λ (b : Bool). AllByRecursion (λ i. IsIn (x ∷ xs) i × (i.irq ≡ irq)) (if b
+        then x ∷ filter (λ i. i.irq == irq) xs else filter (λ i. i.irq == irq) xs)) (sym e)
+        (((0, refl), equals x.irq irq e), later)
+    by_number later false e =
+        subst (λ (b : Bool). AllByRecursion (λ i. IsIn (x ∷ xs) i × (i.irq ≡ irq)) (if b
+        then x ∷ filter (λ i. i.irq == irq) xs else filter (λ i. i.irq == irq) xs)) (sym e) later
+
 pub entry_reads_inputs : EntryReadsInputs
 entry_reads_inputs at bottom img places p inputs to irq h c top m code laid can low inactive unmasked words fits within
     phase below all span room =
     begins at bottom img places p to irq h (core_after_entry c irq h) _ (entered (external irq) m)
     (unopened_inside at bottom img places p irq h c top m laid code.port can low inactive unmasked words fits within
-    phase code to below room) (filter (λ i. i.irq == irq) inputs) all
+    phase code to below room) inputs refl (filter (λ i. i.irq == irq) inputs) all (among irq inputs)
     (subst (λ (zs : List Instruction). Spans p (entered (external irq) m).address zs to)
     (parts_of_stub at inputs places to irq h) span)

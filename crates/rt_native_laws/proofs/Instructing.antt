@@ -1,6 +1,6 @@
 -- A machine instruction where no exception is taken before it leads on.
 use Rattle.std.proofs.Common.{◌≡◌, ◌∙◌, ℕ, ◌⊎◌, inl, inr, Bool, true, false, List, [], ◌∷◌, ◌++◌, Option, Some}
-use Rattle.std.proofs.Common.{None, refl, sym, ap, subst, arith, length, ⊎_elim}
+use Rattle.std.proofs.Common.{IfSome, None, refl, sym, ap, subst, arith, length, ⊎_elim}
 use Rattle.std.specs.Prelude.{if◌then◌else◌, option_map, slice_get, ⊤}
 use Rattle.rt_lemmas.proofs.Bools.{true_and_false}
 use Rattle.rt_code.specs.Image.{Image}
@@ -21,17 +21,21 @@ use Rattle.rt_thumb.specs.declared.instruction.Instruction.{Instruction}
 use Rattle.rt_native_laws.specs.Behaving.{GoesWell, IsGood, StaysGood}
 use Rattle.rt_native_laws.specs.EachKind.{BySteps, ByReturn, EachGoes, HasOneCommit, Silently}
 use Rattle.rt_native_laws.specs.Going.{IsNothing, StepsBy}
-use Rattle.rt_native_laws.specs.Moments.{Happening, Moment, instruction_at}
+use Rattle.rt_native_laws.specs.Moments.{Began, Happening, Moment, instruction_at}
 use Rattle.rt_native_laws.specs.Own.{AreSteady, Executes, RunsPrivately}
-use Rattle.rt_native_laws.specs.Phases.{AlreadyDone, Calling, Entering, IsDone, IsToCome, Phase, ToCome, kept_words}
+use Rattle.rt_native_laws.specs.Phases.{AlreadyDone, Calling, Entering, IsDone, IsNoReading, IsToCome, Phase, Reads}
+use Rattle.rt_native_laws.specs.Phases.{ToCome}
+use Rattle.rt_native_laws.specs.Phases.{kept_words, reads_from}
 use Rattle.rt_native_laws.specs.Relating.{InstructionsLeadOn, IsPastMarks, IsInPlace, IsWhere}
-use Rattle.rt_native_laws.specs.Relating.{LeadsOn, lowest}
+use Rattle.rt_native_laws.specs.Relating.{LeadsOn, Related, lowest}
+use Rattle.rt_native_laws.specs.Simulating.{HasNoAlarms}
 use Rattle.rt_native_laws.specs.Standing.{IsLaidOut}
 use Rattle.rt_native_laws.proofs.Beginning.{calling_goes, entering_goes}
 use Rattle.rt_native_laws.proofs.EachKind.{each_kind_goes_on}
 use Rattle.rt_native_laws.proofs.Faultless.{calling_has_next, done_has_next, entering_has_next}
 use Rattle.rt_native_laws.proofs.Going.{goes_behind}
-use Rattle.rt_native_laws.proofs.Leading.{silence_leads_on, step_leads_on}
+use Rattle.rt_native_laws.proofs.Inputs.{reading_has_next}
+use Rattle.rt_native_laws.proofs.Leading.{reading_leads_on, silence_leads_on, step_leads_on}
 use Rattle.rt_native_laws.proofs.Marking.{steps_by}
 use Rattle.rt_native_laws.proofs.Prefixes.{same_some}
 use Rattle.rt_native_laws.proofs.Returning.{return_leads_on}
@@ -114,16 +118,17 @@ module _ (img : Image) (target : Target) (p : Program) (there : IsInPlace img ta
       inl (y.0, y.1, y.2, goes_behind at bottom img pl p there.has c laid top m y.1 y.0 y.2 x j js steady r)
 
   -- what is next is nothing to the core, or of an instruction that is no mark
-  pub is_silent : (phase : ThePhase) → IsPastMarks img target p c top m phase → pick img c ≡ None
-      → Silent phase ⊎ NoMark
-  is_silent (ToCome x) past none = inr (to_come_no_mark x)
-  is_silent (AlreadyDone x) past none =
+  pub is_silent : (phase : ThePhase) → IsNoReading at bottom img pl p c top m phase
+      → IsPastMarks img target p c top m phase → pick img c ≡ None → Silent phase ⊎ NoMark
+  is_silent (Reads x) unread past none = absurd unread
+  is_silent (ToCome x) unread past none = inr (to_come_no_mark x)
+  is_silent (AlreadyDone x) unread past none =
       ⊎_elim (λ (y : Silent (AlreadyDone x)). inl y) (λ (y : ⊤). inr (past none))
       (done_silent x x.left x.steady x.completes)
-  is_silent (Entering x) past none =
+  is_silent (Entering x) unread past none =
       let y = entering_has_next at bottom img pl p there.has c top m x in
       inl (y.0, y.1, y.2, entering_goes at bottom img pl p there.has c top m y.1 y.0 y.2 x)
-  is_silent (Calling x) past none =
+  is_silent (Calling x) unread past none =
       let y = calling_has_next at bottom img pl p there.has c top m x in
       inl (y.0, y.1, y.2, calling_goes at bottom img pl p there.has c top m y.1 y.0 y.2 x)
 
@@ -143,7 +148,8 @@ module _ (img : Image) (target : Target) (p : Program) (there : IsInPlace img ta
   laid_now : IsLaidOut (outside img target) (lowest img target p) (length c.processor.cells)
   laid_now = subst (IsLaidOut (outside img target) (lowest img target p)) (sym w.cells) there.laid
 
-  module _ (good : IsGood img ceiling s) (none : pick img c ≡ None) (l : HasLine img c) (one : HasOneCommit l.i) where
+  module _ (unread : IsNoReading (outside img target) (lowest img target p) img (places img target) p c w.top m w.phase)
+      (good : IsGood img ceiling s) (none : pick img c ≡ None) (l : HasLine img c) (one : HasOneCommit l.i) where
     st : StepsBy img l.i c (step img c).0 (step img c).1
     st = steps_by img ceiling s good l.i l.note l.line none
 
@@ -177,23 +183,66 @@ module _ (img : Image) (target : Target) (p : Program) (there : IsInPlace img ta
 
     instructs : Result img target p fits s m
     instructs =
-        let y = each_kind_goes_on (outside img target) (lowest img target p) (stack_top img target) ceiling img
+        let y = each_kind_goes_on (outside img target) (lowest img target p)
+        (stack_top img target) ceiling target.inputs img
         (places img target) p l.i s (step img c).0 (step img c).1 w.top m there.has laid_now there.reach
-        (omega (arith, there.image.runnable.sizes.stack_pairs)) one st well w.words w.phase w.waiting in
+        (omega (arith, there.image.runnable.sizes.stack_pairs)) one st well w.words w.phase unread w.waiting in
         by_kind y.0 y.1 y.2 y.3
+
+-- where an input is read, and where none is
+module _ (img : Image) (target : Target) (p : Program) (there : IsInPlace img target p) (ceiling : ℕ)
+    (no_alarms : HasNoAlarms img) (fits : List Happening → Bool) (s : Moment) (m : Machine)
+    (stays : StaysGood img target.inputs ceiling fits s) (fitting : fits [] ≡ true) (r : Related img target p s m)
+    (none : pick img s.core ≡ None) where
+  abbrev ItsPhase : Type 0
+  ItsPhase = Phase (outside img target) (lowest img target p) img (places img target) p s.core r.here.top m
+
+  good : IsGood img ceiling s
+  good = stays [] tt fitting
+
+  no_input : IsNoReading (outside img target) (lowest img target p) img
+      (places img target) p s.core r.here.top m r.here.phase
+      → Result img target p fits s m
+  no_input unread =
+      let laid = laid_now img target p there ceiling fits s m stays r.here in
+      ⊎_elim
+      (λ (y : Silent img target p there s.core r.here.top m laid r.here.phase). (
+        y.1,
+        executes_so p y.0 m y.1 y.2,
+        silence_leads_on img target p there ceiling fits s m y.1 stays r.here y.0 y.2
+            y.3,
+      ))
+      (λ (never : instruction_at img s.core ≡ Some instr.Mark → ⊥).
+      let l = line_there img s.core good.goes none good.no_trap in
+      instructs img target p there ceiling fits s m stays r.here unread good none l
+      (one_commit l.i (λ e. never (ap (option_map (λ x. x.0)) l.line ∙ ap (λ (j : Instr). Some j) e))
+      (λ slot irq e. no_alarms s.core.processor.address slot irq l.note
+      (l.line ∙ ap (λ (j : Instr). Some (j, l.note)) e))))
+      (is_silent img target p there s.core r.here.top m laid r.here.phase unread r.marks none)
+
+  abbrev IsFirst : ItsPhase → Type 0
+  IsFirst phase =
+      IfSome (reads_from (outside img target) (lowest img target p) img (places img target) p s.core r.here.top m phase)
+      (λ declared. (s.last ≡ Began) × (declared ≡ target.inputs))
+
+  abbrev NoInput : ItsPhase → Type 0
+  NoInput phase = IsNoReading (outside img target) (lowest img target p) img
+      (places img target) p s.core r.here.top m phase
+
+  by_phase : (phase : ItsPhase) → r.here.phase ≡ phase → Result img target p fits s m
+  by_phase (Reads x) e =
+      let first : IsFirst (Reads x) = subst IsFirst e r.here.fresh.1 in
+      let y = reading_has_next (outside img target) (lowest img target p) img
+      (places img target) p s.core r.here.top m there.has x in (
+        y.1,
+        executes_so p y.0 m y.1 y.2,
+        reading_leads_on img target p there ceiling fits s m y.1 stays r.here y.0 y.2 x first.0 first.1,
+      )
+  by_phase (ToCome x) e = no_input (subst NoInput (sym e) tt)
+  by_phase (AlreadyDone x) e = no_input (subst NoInput (sym e) tt)
+  by_phase (Entering x) e = no_input (subst NoInput (sym e) tt)
+  by_phase (Calling x) e = no_input (subst NoInput (sym e) tt)
 
 pub instructions_lead_on : InstructionsLeadOn
 instructions_lead_on img target p ceiling fits s m there no_alarms stays fitting r none =
-    let w = r.here in
-    let good = stays [] tt fitting in
-    let laid = laid_now img target p there ceiling fits s m stays w in
-    ⊎_elim
-    (λ (y : Silent img target p there s.core w.top m laid w.phase).
-    (y.1, executes_so p y.0 m y.1 y.2, silence_leads_on img target p there ceiling fits s m y.1 stays w y.0 y.2 y.3))
-    (λ (never : instruction_at img s.core ≡ Some instr.Mark → ⊥).
-    let l = line_there img s.core good.goes none good.no_trap in
-    instructs img target p there ceiling fits s m stays w good none l
-    (one_commit l.i (λ e. never (ap (option_map (λ x. x.0)) l.line ∙ ap (λ (j : Instr). Some j) e))
-    (λ slot irq e. no_alarms s.core.processor.address slot irq l.note
-    (l.line ∙ ap (λ (j : Instr). Some (j, l.note)) e))))
-    (is_silent img target p there s.core w.top m laid w.phase r.marks none)
+    by_phase img target p there ceiling no_alarms fits s m stays fitting r none r.here.phase refl

@@ -3,8 +3,8 @@ use Rattle.std.proofs.Common.{◌≡◌, ◌≢◌, ◌∙◌, ℕ, ◌+◌, ◌
 use Rattle.std.proofs.Common.{[], ◌∷◌, ◌++◌, Option, Some, None, IfSome, refl, sym, ap, subst, arith, length, map}
 use Rattle.std.proofs.Common.{⊎_elim}
 use Rattle.std.proofs.lemmas.List.{length-set}
-use Rattle.std.specs.List.{AllByRecursion}
-use Rattle.std.specs.Prelude.{if◌then◌else◌, min, nat_lt, reverse, slice_get, slice_index, slice_index_or}
+use Rattle.std.specs.List.{AllByRecursion, filter}
+use Rattle.std.specs.Prelude.{if◌then◌else◌, ◌==◌, min, nat_lt, reverse, slice_get, slice_index, slice_index_or}
 use Rattle.rt_ids.specs.Event.{Step}
 use Rattle.rt_lemmas.proofs.Bools.{and_parts, true_and_false}
 use Rattle.rt_lemmas.proofs.Membership.{all_at}
@@ -35,22 +35,25 @@ use Rattle.rt_trace.specs.declared.item.What.{What}
 use Rattle.rt_trace.specs.declared.item.What.TheVariants as what
 use Rattle.rt_native_laws.specs.Behaving.{HasEvenFrames, IsGood, StaysGood}
 use Rattle.rt_native_laws.specs.Deep.{IsWithinFrames}
+use Rattle.rt_native_laws.specs.Inputs.{Enters, IsAtInputs, Reads as ReadsMore}
 use Rattle.rt_native_laws.specs.Moments.{Began, Comes, Happening, Moment, Taking, after_step, moment_after}
 use Rattle.rt_native_laws.specs.Own.{Spans}
-use Rattle.rt_native_laws.specs.Phases.{Phase}
+use Rattle.rt_native_laws.specs.Phases.{Entering, Phase, Reads}
+use Rattle.rt_native_laws.specs.Reading.{IsInput}
 use Rattle.rt_native_laws.specs.Relating.{EntriesLeadOn, IsInPlace, IsWhere, LeadsOn, lowest}
 use Rattle.rt_native_laws.specs.Saving.{CanBeInterrupted}
 use Rattle.rt_native_laws.specs.Simulating.{HasNoAlarms, seen_of_label}
 use Rattle.rt_native_laws.specs.Standing.{IsLaidOut}
-use Rattle.rt_native_laws.specs.Waiting.{Waiting}
+use Rattle.rt_native_laws.specs.Waiting.{IsFresh, Waiting}
 use Rattle.rt_native_laws.proofs.Deep.{eight, phases_are_within_frames, stack_is_no_deeper}
 use Rattle.rt_native_laws.proofs.Eights.{phase_is_eight}
+use Rattle.rt_native_laws.proofs.Inputs.{entry_reads_inputs}
 use Rattle.rt_native_laws.proofs.Loading.{loaded_entries_lead}
 use Rattle.rt_native_laws.proofs.Marking.{marks_are_done, step_seen}
 use Rattle.rt_native_laws.proofs.Relating.{KeepsOutside, loaded_still, tick_still}
 use Rattle.rt_native_laws.proofs.Saving.{entry_pushes_below}
 use Rattle.rt_native_laws.proofs.Tests.{at_most, is_less, not_equal}
-use Rattle.rt_native_laws.proofs.Waiting.{entry_adds_a_job, entry_begins, unopened_inside}
+use Rattle.rt_native_laws.proofs.Waiting.{entry_adds_a_job, unopened_inside}
 
 -- the step that takes an interrupt, where it is no trap
 record IsEntered (img : Image) (c : Core) (irq : ℕ) (h : Handler) : Type 0 where
@@ -95,37 +98,48 @@ none_is_it m irq v (x ∷ below) value higher all nested = (
 )
 
 -- what interrupted jobs say of what runs
-module _ (at : Outside) (bottom highest : ℕ) (img : Image) (places : List ℕ) (p : Program) (c : Core) (top : ℕ)
+module _ (at : Outside) (bottom highest : ℕ) (inputs : List Input) (img : Image) (places : List ℕ) (p : Program)
+    (c : Core) (top : ℕ)
     (m : Machine) where
   pub top_is_eight : (takings : List Taking) (below : List Context)
-      → Waiting at bottom highest img places p takings below c top m → highest % 8 ≡ 0 → top % 8 ≡ 0
+      → Waiting at bottom highest inputs img places p takings below c top m → highest % 8 ≡ 0 → top % 8 ≡ 0
   top_is_eight [] [] jobs z = omega (arith, jobs.0, z)
   top_is_eight [] (x ∷ below) jobs z = absurd jobs
   top_is_eight (taking ∷ takings) [] jobs z = absurd jobs
   top_is_eight (taking ∷ takings) (x ∷ below) jobs z = jobs.0
 
   pub exception_is : (takings : List Taking) (below : List Context)
-      → Waiting at bottom highest img places p takings below c top m → m.exception ≡ exception_number below
+      → Waiting at bottom highest inputs img places p takings below c top m → m.exception ≡ exception_number below
   exception_is [] [] jobs = jobs.1
   exception_is [] (x ∷ below) jobs = absurd jobs
   exception_is (taking ∷ takings) [] jobs = absurd jobs
   exception_is (taking ∷ takings) (x ∷ below) jobs = jobs.2
 
--- what runs first as an interrupt is taken, where no function is called and no input read
+-- what runs first as an interrupt is taken, where no function is called
 entrance_is : (at : Outside) (target : Target) (places : List ℕ) (to : ℕ) (row : IrqRow) (h : Handler)
-    → row.handler ≡ Some h → target.calls ≡ [] → target.inputs ≡ []
-    → entrance at target places to row ≡ stub at [] places to row.number (Some h)
+    → row.handler ≡ Some h → target.calls ≡ []
+    → entrance at target places to row ≡ stub at target.inputs places to row.number (Some h)
 unfolding entrance
-entrance_is at target places to row h handled no_functions no_inputs =
+entrance_is at target places to row h handled no_functions =
     ap (λ (o : Option Handler). first_call target.calls row.number o ++ stub at target.inputs places to row.number o)
     handled
-    ∙ (ap (λ (cs : List ℕ). first_call cs row.number (Some h) ++ stub at target.inputs places to row.number (Some h))
+    ∙ ap (λ (cs : List ℕ). first_call cs row.number (Some h) ++ stub at target.inputs places to row.number (Some h))
     no_functions
-    ∙ ap (λ (is : List Input). first_call [] row.number (Some h) ++ stub at is places to row.number (Some h)) no_inputs)
+
+-- those of a list that pass are as all are
+all_of : (P : Input → Type 0) (passes : Input → Bool) (xs : List Input) → AllByRecursion P xs
+    → AllByRecursion P (filter passes xs)
+all_of P passes [] h = tt
+all_of P passes (x ∷ xs) h = by_test (all_of P passes xs h.1) (passes x)
+  where
+    by_test : AllByRecursion P (filter passes xs) → (b : Bool)
+        → AllByRecursion P (if b then x ∷ filter passes xs else filter passes xs)
+    by_test later true = (h.0, later)
+    by_test later false = later
 
 module _ (img : Image) (target : Target) (p : Program) (ceiling : ℕ) (fits : List Happening → Bool) (s : Moment)
     (m : Machine) (row : IrqRow) (h : Handler) (there : IsInPlace img target p) (no_alarms : HasNoAlarms img)
-    (even_frames : HasEvenFrames img) (no_inputs : target.inputs ≡ [])
+    (even_frames : HasEvenFrames img)
     (stays : StaysGood img target.inputs ceiling fits s) (fitting : fits [] ≡ true) (w : IsWhere img target p s m)
     (picked : pick img s.core ≡ Some row) (handled : row.handler ≡ Some h) where
   abbrev at : Outside
@@ -139,6 +153,9 @@ module _ (img : Image) (target : Target) (p : Program) (ceiling : ℕ) (fits : L
 
   abbrev highest : ℕ
   highest = stack_top img target
+
+  abbrev inputs : List Input
+  inputs = target.inputs
 
   abbrev c : Core
   c = s.core
@@ -197,7 +214,8 @@ module _ (img : Image) (target : Target) (p : Program) (ceiling : ℕ) (fits : L
   eights : m.register 13 % 8 ≡ 0
   eights =
       phase_is_eight at bottom img pl p there.has even_frames no_alarms c w.top m
-      (top_is_eight at bottom highest img pl p c w.top m s.takings c.below w.waiting highest_eight) good.frames w.phase
+      (top_is_eight at bottom highest inputs img pl p c w.top m s.takings c.below w.waiting highest_eight) good.frames
+      w.phase
 
   within : IsWithinFrames at bottom c w.top m
   within = phases_are_within_frames at bottom img pl p c w.top m laid there.has.port w.phase
@@ -207,7 +225,7 @@ module _ (img : Image) (target : Target) (p : Program) (ceiling : ℕ) (fits : L
 
   room : bottom + 4 * h.frame + 32 ≤ m.register 13
   room =
-      let deep = stack_is_no_deeper at bottom highest img pl p s.takings c w.top m laid there.has.port w.phase
+      let deep = stack_is_no_deeper at bottom highest inputs img pl p s.takings c w.top m laid there.has.port w.phase
       w.waiting in
       let fits_in = at_most (stack_in_use img c + (entry_words img + h.frame)) (img.stack_bytes / 4) entry.room in
       omega (arith, deep, fits_in, there.reach, there.image.runnable.sizes.stack_pairs, eight img.fpu)
@@ -221,25 +239,37 @@ module _ (img : Image) (target : Target) (p : Program) (ceiling : ℕ) (fits : L
     room = omega (arith, room);
     address = w.placed.0;
     exception = subst (λ (x : ℕ). x < 2 ^ 9)
-        (sym (exception_is at bottom highest img pl p c w.top m s.takings c.below w.waiting))
+        (sym (exception_is at bottom highest inputs img pl p c w.top m s.takings c.below w.waiting))
         (number_is_small m c.below w.agrees.values);
   }
 
   abbrev to : ℕ
   to = slice_index (stub_places img target) ((picked_row img c row picked).0.0 + 1)
 
-  lies : Spans p n.address (stub at [] pl to row.number (Some h)) to
+  lies : Spans p n.address (stub at target.inputs pl to row.number (Some h)) to
   lies =
       subst (λ (zs : List Instruction). Spans p n.address zs to)
-      (entrance_is at target pl to row h handled there.image.no_functions no_inputs)
+      (entrance_is at target pl to row h handled there.image.no_functions)
       (loaded_entries_lead img target p m w.loaded there.image.runnable.rows.numbers
       (picked_row img c row picked).0.0 row h at_index handled)
 
-  phase : Phase at bottom img pl p d (n.register 13) n
+  all_inputs : AllByRecursion (IsInput (length c.processor.cells)) (filter (λ i. i.irq == row.number) target.inputs)
+  all_inputs =
+      all_of (IsInput (length c.processor.cells)) (λ i. i.irq == row.number) target.inputs
+      (subst (λ (k : ℕ). AllByRecursion (IsInput k) target.inputs) (sym w.cells) there.image.inputs)
+
+  phase_of : IsAtInputs at bottom img pl p target.inputs d (n.register 13) n
+      → (phase : Phase at bottom img pl p d (n.register 13) n)
+      × IsFresh at bottom highest inputs img pl p Began d (n.register 13) n phase
+  phase_of (ReadsMore x same) = (Reads x, (omega arith, (refl, same)))
+  phase_of (Enters x) = (Entering x, (omega arith, tt))
+
+  phase : (phase : Phase at bottom img pl p d (n.register 13) n)
+      × IsFresh at bottom highest inputs img pl p Began d (n.register 13) n phase
   phase =
-      entry_begins at bottom img pl p to row.number h c w.top m there.has laid can w.placed.1 inactive unmasked w.words
-      within.high within.below_cells w.phase
-      (there.entrances ((picked_row img c row picked).0.0 + 1)) lies room
+      phase_of (entry_reads_inputs at bottom img pl p target.inputs to row.number h c w.top m there.has laid can
+      w.placed.1 inactive unmasked w.words within.high within.below_cells w.phase
+      (there.entrances ((picked_row img c row picked).0.0 + 1)) all_inputs lies room)
 
   keeps : KeepsOutside at bottom m n
   keeps k beside =
@@ -256,9 +286,10 @@ module _ (img : Image) (target : Target) (p : Program) (ceiling : ℕ) (fits : L
   where_then : IsWhere img target p (record { core = d; last = Began; takings = taking ∷ s.takings }) n
   where_then = record {
     top = n.register 13;
-    phase = phase;
-    fresh = omega arith;
-    waiting = entry_adds_a_job at bottom highest img pl p s.takings s.last row.number h c w.top m laid there.has.port
+    phase = phase.0;
+    fresh = phase.1;
+    waiting = entry_adds_a_job at bottom highest inputs img pl p s.takings s.last row.number h c w.top m laid
+        there.has.port
         can
         w.placed.1 inactive unmasked w.words within.high within.below_cells w.phase w.fresh w.waiting;
     agrees = entries_keep_agreeing img c m row h w.agrees picked handled (omega (arith, room, lowest_is))
@@ -270,6 +301,7 @@ module _ (img : Image) (target : Target) (p : Program) (ceiling : ℕ) (fits : L
     loaded = loaded_still img target p there m n keeps w.loaded;
     tick = tick_still img target p there m n keeps w.tick;
     requests = length-set c.pending row.number false ∙ w.requests;
+    alarm = w.alarm;
     cells = w.cells;
     frames = (good.frames, w.frames);
   }
@@ -297,12 +329,11 @@ module _ (img : Image) (target : Target) (p : Program) (ceiling : ℕ) (fits : L
         ticks = ap (λ (b : Bool). if b then false else m.is_pending systick)
             (not_equal systick e (λ f. omega (arith, f)));
         time = marked.time ∙ ap (λ (z : Moment). z.core.time) next_is;
-        alarm = λ f. marked.alarm (ap (λ (z : Moment). z.core.alarm) next_is ∙ f);
         here = marked.here;
         marks = marked.marks;
       }
 
 pub entries_lead_on : EntriesLeadOn
-entries_lead_on img target p ceiling fits s m row h there no_alarms even_frames no_inputs stays fitting r picked
+entries_lead_on img target p ceiling fits s m row h there no_alarms even_frames stays fitting r picked
     handled =
-    leads img target p ceiling fits s m row h there no_alarms even_frames no_inputs stays fitting r.here picked handled
+    leads img target p ceiling fits s m row h there no_alarms even_frames stays fitting r.here picked handled

@@ -1,15 +1,19 @@
 -- A machine instruction leads on: what others see of it the image shows, and then the processor is where the image is.
 use Rattle.std.proofs.Common.{◌≡◌, ◌∙◌, ℕ, ◌%◌, ◌^◌, ◌<◌, ◌≤◌, Bool, List, [], ◌∷◌, ◌++◌, Option, Some, refl}
-use Rattle.std.proofs.Common.{sym, ap, subst, arith, length, flat_map}
+use Rattle.std.proofs.Common.{None, inl, inr, ◌⊎◌, sym, ap, subst, arith, length, flat_map}
+use Rattle.std.proofs.lemmas.List.{length-set}
 use Rattle.std.specs.Prelude.{option_map, reverse}
+use Rattle.rt_ids.specs.Choice.{IsIn}
 use Rattle.rt_ids.specs.Event.{Step}
 use Rattle.rt_code.specs.Image.{Image}
 use Rattle.rt_code.specs.declared.instr.Instr.{Instr}
-use Rattle.rt_core.specs.Core.{Core}
+use Rattle.rt_core.specs.Core.{Context, Core}
 use Rattle.rt_core.specs.Stepping.{step}
-use Rattle.rt_native.specs.Layout.{outside, places}
+use Rattle.rt_core.specs.Transfer.{core_after_word}
+use Rattle.rt_native.specs.Layout.{outside, places, stack_top}
 use Rattle.rt_native.specs.Target.{Target}
 use Rattle.rt_native.specs.declared.outside.Outside.{Outside}
+use Rattle.rt_native.specs.declared.target.Input.{Input}
 use Rattle.rt_thumb.specs.Exceptions.{systick}
 use Rattle.rt_thumb.specs.Machine.{Machine, Seen}
 use Rattle.rt_thumb.specs.Step.{Program}
@@ -20,19 +24,26 @@ use Rattle.rt_native_laws.specs.Behaving.{StaysGood}
 use Rattle.rt_native_laws.specs.Doing.{seen_of}
 use Rattle.rt_native_laws.specs.Going.{IsNothing, IsOneStep, StepsBy}
 use Rattle.rt_native_laws.specs.EachKind.{IsLoosely}
-use Rattle.rt_native_laws.specs.Moments.{AreFillings, Comes, Fills, Last, Moment, instruction_at, last_after}
+use Rattle.rt_native_laws.specs.Inputs.{Enters, IsAtInputs, Reads as ReadsMore, ReadingGoes}
+use Rattle.rt_native_laws.specs.Inputs.{read_behind}
+use Rattle.rt_native_laws.specs.Moments.{AreFillings, Began, Comes, Fills, HasBegun, IsPut, Puts, Taking, Last, Moment}
+use Rattle.rt_native_laws.specs.Moments.{instruction_at, last_after}
 use Rattle.rt_native_laws.specs.Moments.{moment_after}
 use Rattle.rt_native_laws.specs.Moments.{Happening, settled_words, shown, with_core, with_frame}
 use Rattle.rt_native_laws.specs.Own.{Executes}
-use Rattle.rt_native_laws.specs.Phases.{Phase, kept_words}
+use Rattle.rt_native_laws.specs.Phases.{Entering, IsNew, Phase, Reads, kept_words}
+use Rattle.rt_native_laws.specs.Reading.{IsReading}
 use Rattle.rt_native_laws.specs.Relating.{IsInPlace, IsWhere, LeadsOn, lowest}
 use Rattle.rt_native_laws.specs.Simulating.{seen_of_label}
 use Rattle.rt_native_laws.specs.Standing.{IsLaidOut}
+use Rattle.rt_native_laws.specs.Waiting.{IsFresh, Waiting}
 use Rattle.rt_native_laws.proofs.Above.{private_keeps_above, steps_keep_above, words_stay_in_private}
 use Rattle.rt_native_laws.proofs.Above.{words_stay_in_steps}
 use Rattle.rt_native_laws.proofs.Deep.{phases_are_within_frames}
 use Rattle.rt_native_laws.proofs.Even.{goes_to_even}
+use Rattle.rt_native_laws.proofs.Inputs.{reading_goes_on}
 use Rattle.rt_native_laws.proofs.Marking.{marks_are_done, moment_is, step_seen}
+use Rattle.rt_native_laws.proofs.Reading.{fresh_of}
 use Rattle.rt_native_laws.proofs.Relating.{is_where_on, private_keeps_outside, steps_keep_outside}
 use Rattle.rt_native_laws.proofs.Shaping.{KeepsShape, StaysInContext, step_keeps_shape, step_shows}
 
@@ -80,7 +91,17 @@ module _ (img : Image) (target : Target) (p : Program) (there : IsInPlace img ta
   -- a phase of another core, of which so many words are the core's
   abbrev Kept : ℕ → Core → Type 0
   Kept kept k =
-      (phase : Phase at bottom img pl p k w.top n) × (kept ≤ kept_words at bottom img pl p k w.top n phase)
+      (phase : Phase at bottom img pl p k w.top n) × IsNew at bottom img pl p k w.top n kept phase
+
+  -- what is new is fresh
+  fresh_then : (k : Core) (last : Last) (kept : ℕ) (now : Kept kept k)
+      → settled_words last (length k.processor.slots) ≤ kept
+      → IsFresh at bottom (stack_top img target) target.inputs img pl p last k w.top n now.0
+  fresh_then k last kept now within =
+      fresh_of at bottom (stack_top img target) target.inputs img pl p k w.top n kept last now.0 now.1 within
+
+  kept_now : settled_words s.last (length c.processor.slots) ≤ kept_words at bottom img pl p c w.top m w.phase
+  kept_now = w.fresh.0
 
   -- nothing to the core
   module _ (y : IsNothing at bottom img pl p c w.top m n (kept_words at bottom img pl p c w.top m w.phase)) where
@@ -93,21 +114,22 @@ module _ (img : Image) (target : Target) (p : Program) (there : IsInPlace img ta
     settled : settled_words s.last (length words) ≤ kept_words at bottom img pl p c w.top m w.phase
     settled =
         subst (λ (k : ℕ). settled_words s.last k ≤ kept_words at bottom img pl p c w.top m w.phase) (sym y.words.long)
-        w.fresh
+        kept_now
 
     filled : AreFillings s words
     filled = record {
       long = y.words.long;
-      settled = λ k l. y.words.words k (omega (arith, l, w.fresh));
+      settled = λ k l. y.words.words k (omega (arith, l, kept_now));
     }
 
     where_then : IsWhere img target p (moment_after img s (Fills words)) n
     where_then =
-        is_where_on img target p there s m n w (with_frame words c) s.last now.0 (omega (arith, settled, now.1))
+        is_where_on img target p there s m n w (with_frame words c) s.last now.0
+        (fresh_then (with_frame words c) s.last _ now settled)
         (private_keeps_above at y.floor w.top m n y.unseen)
         (private_keeps_outside at bottom y.floor w.top m n y.deep high y.unseen)
         (words_stay_in_private at img pl p executed y.floor w.top m n there.has exec y.unseen w.words) placed refl refl
-        refl refl
+        refl refl (inl refl)
 
     pub silence_leads_on : LeadsOn img target p fits s m n
     silence_leads_on =
@@ -121,7 +143,6 @@ module _ (img : Image) (target : Target) (p : Program) (there : IsInPlace img ta
               ∙ sym (ap (λ (xs : List Seen). reverse xs ++ m.seen) marked.seen);
           ticks = ap (λ (x : Machine). x.is_pending systick) y.unseen.rest;
           time = marked.time;
-          alarm = marked.alarm;
           here = marked.here;
           marks = marked.marks;
         }
@@ -159,8 +180,8 @@ module _ (img : Image) (target : Target) (p : Program) (there : IsInPlace img ta
     stepped =
         subst (Kept (settled_words last_now (length frame))) loosely.core (
           y.phase,
-          subst (λ (o : Option Instr). settled_words (last_after img o) (length frame)
-              ≤ kept_words at bottom img pl p core w.top n y.phase) at_it y.fresh,
+          subst (λ (o : Option Instr). IsNew at bottom img pl p core w.top n
+              (settled_words (last_after img o) (length frame)) y.phase) at_it y.fresh,
         )
 
     low_now : bottom ≤ n.register 13
@@ -181,11 +202,12 @@ module _ (img : Image) (target : Target) (p : Program) (there : IsInPlace img ta
     where_stepped : IsWhere img target p (moment_after img (moment_after img s (Comes Step)) (Fills frame)) n
     where_stepped =
         subst (λ (z : Moment). IsWhere img target p (with_core z (with_frame frame z.core)) n) (sym next_is)
-        (is_where_on img target p there s m n w (with_frame frame d) last_now stepped.0 stepped.1
+        (is_where_on img target p there s m n w (with_frame frame d) last_now stepped.0
+        (fresh_then (with_frame frame d) last_now _ stepped (omega arith))
         (steps_keep_above at w.top said m n y.others)
         (steps_keep_outside at bottom w.top said m n low low_now y.others)
         (words_stay_in_steps at img pl p executed w.top said m n there.has exec y.others w.words) placed shape.below
-        shape.cells shape.requests shape.stopped)
+        shape.cells shape.requests shape.stopped shape.alarm)
 
     pub step_leads_on : LeadsOn img target p fits s m n
     step_leads_on =
@@ -207,7 +229,108 @@ module _ (img : Image) (target : Target) (p : Program) (there : IsInPlace img ta
               ∙ ap (λ (xs : List Seen). xs ++ m.seen) (one_seen said));
           ticks = y.others.tick;
           time = marked.time ∙ (ap (λ (z : Moment). z.core.time) next_is ∙ shape.time);
-          alarm = λ e. marked.alarm (ap (λ (z : Moment). z.core.alarm) next_is ∙ shape.alarm e);
           here = marked.here;
           marks = marked.marks;
         }
+
+  -- an input is read
+  module _ (x : IsReading at bottom img pl p c w.top m) (first : s.last ≡ Began) (all : x.declared ≡ target.inputs)
+    where
+      goes : ReadingGoes at bottom img pl p c w.top x.stage x.input x.value x.declared m n
+      goes = reading_goes_on at bottom img pl p c w.top m n executed there.has x exec
+
+      settled_first : (words : ℕ) → settled_words s.last words ≤ 0
+      settled_first words = subst (λ (l : Last). settled_words l words ≤ 0) (sym first) (omega arith)
+
+      -- which handler has begun
+      begun_by : (takings : List Taking) (below : List Context)
+          → Waiting at bottom (stack_top img target) target.inputs img pl p takings below c w.top m
+          → HasBegun x.input.irq below Began
+      begun_by [] [] jobs = absurd (omega (arith, jobs.1, x.exception))
+      begun_by [] (context ∷ below) jobs = absurd jobs
+      begun_by (taking ∷ takings) [] jobs = absurd jobs
+      begun_by (taking ∷ takings) (context ∷ below) jobs = omega (arith, jobs.2, x.exception, x.among.0.1)
+
+      -- the core goes on to another, which has as many cells
+      module _ (d : Core) (phase : Phase at bottom img pl p d w.top n)
+          (fresh : IsFresh at bottom (stack_top img target) target.inputs img pl p s.last d w.top n phase)
+          (below : d.below ≡ c.below) (as_many : length d.processor.cells ≡ length c.processor.cells)
+          (requests : length d.pending ≡ length c.pending) (stopped : d.stopped ≡ c.stopped)
+          (alarm : (d.alarm ≡ c.alarm) ⊎ (d.alarm ≡ None)) where
+        low_then : bottom ≤ n.register 13
+        low_then =
+            (phases_are_within_frames at bottom img pl p d w.top n (subst (IsLaidOut at bottom) (sym as_many) laid)
+            there.has.port phase).low
+
+        where_read : IsWhere img target p (with_core s d) n
+        where_read =
+            is_where_on img target p there s m n w d s.last phase fresh
+            (steps_keep_above at w.top None m n goes.others)
+            (steps_keep_outside at bottom w.top None m n low low_then goes.others)
+            (words_stay_in_steps at img pl p executed w.top None m n there.has exec goes.others w.words) placed below
+            as_many requests stopped alarm
+
+      -- nothing to the core
+      reads_on : (again : IsReading at bottom img pl p c w.top n) → again.declared ≡ x.declared
+          → LeadsOn img target p fits s m n
+      reads_on again same =
+          let here = where_read c (Reads again)
+          (settled_first (length c.processor.slots), (first, same ∙ all)) refl refl refl refl (inl refl) in
+          let marked = marks_are_done img target p there ceiling fits s n stays here in
+          record {
+            happened = marked.happened;
+            can = marked.can;
+            arrivals = marked.arrivals;
+            seen = goes.others.seen ∙ sym (ap (λ (xs : List Seen). reverse xs ++ m.seen) marked.seen);
+            ticks = goes.others.tick;
+            time = marked.time;
+            here = marked.here;
+            marks = marked.marks;
+          }
+
+      abbrev put : Core
+      put = core_after_word c x.input.cell x.value
+
+      phase_of : IsAtInputs at bottom img pl p x.declared put w.top n
+          → (phase : Phase at bottom img pl p put w.top n)
+          × IsFresh at bottom (stack_top img target) target.inputs img pl p s.last put w.top n phase
+      phase_of (ReadsMore y same) =
+          (Reads y, (settled_first (length put.processor.slots), (first, same ∙ all)))
+      phase_of (Enters y) = (Entering y, (settled_first (length put.processor.slots), tt))
+
+      -- a word comes into a cell
+      puts : IsAtInputs at bottom img pl p x.declared put w.top n → x.value < 2 ^ 32 → LeadsOn img target p fits s m n
+      puts at_inputs small =
+          let can : IsPut target.inputs s x.input.cell x.value = record {
+            input = x.input;
+            among = subst (λ (is : List Input). IsIn is x.input) all x.among.0.0;
+            for_cell = refl;
+            begun = subst (HasBegun x.input.irq c.below) (sym first) (begun_by s.takings c.below w.waiting);
+            small = small;
+          } in
+          let f = phase_of at_inputs in
+          let here = where_read put f.0 f.1 refl (length-set c.processor.cells x.input.cell x.value) refl refl
+          (inl refl) in
+          let marked = marks_are_done img target p there ceiling (λ more. fits (Puts x.input.cell x.value ∷ more))
+          (moment_after img s (Puts x.input.cell x.value)) n
+          (λ more ok f. stays (Puts x.input.cell x.value ∷ more) (can, ok) f) here in
+          record {
+            happened = Puts x.input.cell x.value ∷ marked.happened;
+            can = (can, marked.can);
+            arrivals = marked.arrivals;
+            seen = goes.others.seen ∙ sym (ap (λ (xs : List Seen). reverse xs ++ m.seen) marked.seen);
+            ticks = goes.others.tick;
+            time = marked.time;
+            here = marked.here;
+            marks = marked.marks;
+          }
+
+      pub reading_leads_on : LeadsOn img target p fits s m n
+      reading_leads_on = by_case goes.phase
+        where
+          by_case : ((again : IsReading at bottom img pl p c w.top n) × (again.input ≡ x.input)
+              × (again.value ≡ read_behind x.stage x.input x.value m) × (again.declared ≡ x.declared))
+              ⊎ (IsAtInputs at bottom img pl p x.declared put w.top n × (x.value < 2 ^ 32))
+              → LeadsOn img target p fits s m n
+          by_case (inl y) = reads_on y.0 y.3
+          by_case (inr y) = puts y.0 y.1

@@ -19,6 +19,7 @@ use Rattle.rt_native.specs.Frames.{body_words, handler_words}
 use Rattle.rt_native.specs.Pieces.{close_frame, read_slot}
 use Rattle.rt_native.specs.Sequences.{RETURN_SLOT, back}
 use Rattle.rt_native.specs.declared.outside.Outside.{Outside}
+use Rattle.rt_native.specs.declared.target.Input.{Input}
 use Rattle.rt_thumb.specs.Effect.{effect}
 use Rattle.rt_thumb.specs.Exceptions.{external, popped, returned, systick, return_to_handler, return_to_thread}
 use Rattle.rt_thumb.specs.Machine.{Machine, Seen, with_register, word_at}
@@ -375,7 +376,8 @@ same_stack top m e =
         ap (λ (b : Bool). if b then top else m.register k) f ∙ (sym e ∙ ap m.register (sym is))
     by_number k false f = ap (λ (b : Bool). if b then top else m.register k) f
 
-module _ (at : Outside) (bottom highest : ℕ) (img : Image) (places : List ℕ) (p : Program) (taking : Taking)
+module _ (at : Outside) (bottom highest : ℕ) (inputs : List Input) (img : Image) (places : List ℕ) (p : Program)
+    (taking : Taking)
     (takings : List Taking) (x : Context) (below : List Context) (c d : Core) (said : Option What) (top : ℕ)
     (m n : Machine) (st : StepsBy img instr.Ret c d said) (waits : c.below ≡ x ∷ below) (free : c.caller ≡ None)
     (base : c.processor.basepri ≡ taking.base_priority) (unmasked : c.processor.primask ≡ false)
@@ -412,10 +414,10 @@ module _ (at : Outside) (bottom highest : ℕ) (img : Image) (places : List ℕ)
   abbrev Fresh : Core → ℕ → Machine → Type 0
   Fresh y next z =
       (phase : Phase at bottom img places p y next z)
-      × IsFresh at bottom highest img places p taking.last y next z phase
+      × IsFresh at bottom highest inputs img places p taking.last y next z phase
 
-  resumes : Waiting at bottom highest img places p (taking ∷ takings) (x ∷ below) c top m
-      → Resumes at bottom highest img places p taking.last takings below d n
+  resumes : Waiting at bottom highest inputs img places p (taking ∷ takings) (x ∷ below) c top m
+      → Resumes at bottom highest inputs img places p taking.last takings below d n
   resumes (aligned, small, runs, active, link, up, next, within, fits, phase, more) =
       let there = interrupted_core priority c x below in
       let now : Fresh d next n =
@@ -424,12 +426,15 @@ module _ (at : Outside) (bottom highest : ℕ) (img : Image) (places : List ℕ)
         top = next;
         phase = now.0;
         fresh = now.1;
-        others = subst (λ (y : Core). Waiting at bottom highest img places p takings below y next n) (sym core_is)
-            (subst (λ (y : Machine). Waiting at bottom highest img places p takings below there next y) state_is more);
+        others = subst (λ (y : Core). Waiting at bottom highest inputs img places p takings below y next n)
+            (sym core_is)
+            (subst (λ (y : Machine). Waiting at bottom highest inputs img places p takings below there next y) state_is
+            more);
       }
 
 pub return_resumes : ReturnResumes
-return_resumes at bottom highest img places p taking takings x below c d said top m n st waits free base unmasked
+return_resumes at bottom highest inputs img places p taking takings x below c d said top m n st waits free base unmasked
     same_base same_mask stack goes jobs =
-    resumes at bottom highest img places p taking takings x below c d said top m n st waits free base unmasked same_base
+    resumes at bottom highest inputs img places p taking takings x below c d said top m n st waits free base unmasked
+    same_base
     same_mask stack goes jobs

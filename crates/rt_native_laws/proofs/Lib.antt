@@ -28,6 +28,7 @@ pub mod Shapes
 pub mod Stepping
 pub mod Settled
 pub mod Kept
+pub mod Reading
 pub mod Showing
 pub mod Unopened
 pub mod Waiting
@@ -35,8 +36,8 @@ pub mod Beginning
 pub mod Silent
 pub mod Going
 pub mod Tail
+pub mod Meanwhile
 pub mod Storing
-pub mod Inputs
 pub mod Loading
 pub mod Copying
 pub mod Resetting
@@ -44,6 +45,7 @@ pub mod Rising
 pub mod Leaving
 pub mod Calling
 pub mod Faultless
+pub mod Inputs
 pub mod Deep
 pub mod Above
 pub mod EachKind
@@ -62,5 +64,9 @@ pub mod Interrupting
 pub mod Growing
 pub mod Ticks
 pub mod InTick
-pub mod Following
 pub mod Alike
+pub mod Owing
+pub mod Following
+pub mod ResetPlaces
+pub mod FromReset
+pub mod Early

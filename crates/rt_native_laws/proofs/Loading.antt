@@ -10,6 +10,7 @@ use Rattle.rt_code.specs.declared.image.IrqRow.{IrqRow}
 use Rattle.rt_code.specs.declared.instr.Instr.{Instr}
 use Rattle.rt_code.specs.declared.instr.Note.{Note}
 use Rattle.rt_native.specs.Layout.{outside, places, places_from, sizes_from, stub_places, code_at, fault_at}
+use Rattle.rt_native.specs.Layout.{reset_at}
 use Rattle.rt_native.specs.Pieces.{bytes_of}
 use Rattle.rt_native.specs.Program.{instructions}
 use Rattle.rt_native.specs.Sequences.{sequence}
@@ -34,7 +35,7 @@ use Rattle.rt_native_laws.specs.Loading.{IsExecuted, LoadedCodeIsThere, LoadedEn
 use Rattle.rt_native_laws.specs.Own.{Spans}
 
 -- code that lies up to where it ends
-spans_of : (p : Program) (xs : List Instruction) (from to : ℕ) → from + bytes_of xs ≡ to → LieFrom p from xs
+pub spans_of : (p : Program) (xs : List Instruction) (from to : ℕ) → from + bytes_of xs ≡ to → LieFrom p from xs
     → Spans p from xs to
 spans_of p [] from to e lies = sym e ∙ omega arith
 spans_of p (x ∷ xs) from to e lies =
@@ -90,6 +91,17 @@ module _ (img : Image) (target : Target) (p : Program) (m : Machine) (loaded : I
   even_start : fault_at img target % 2 ≡ 0
   even_start = omega (arith, loaded.region.0)
 
+  pub even_reset : reset_at img target % 2 ≡ 0
+  even_reset =
+      omega (
+        arith,
+        even_start,
+        bytes_even fault,
+        bytes_even (tick (outside img target) (timer_irq img.code)),
+        reset_at_is img target,
+        rows_even (outside img target) target img.irqs,
+      )
+
   module _ (is : IsExecuted target p) where
     low : (k : ℕ) → slice_index (places img target) k < 0xE0000000
     low k =
@@ -108,11 +120,7 @@ module _ (img : Image) (target : Target) (p : Program) (m : Machine) (loaded : I
     even_code =
         omega (
           arith,
-          even_start,
-          bytes_even fault,
-          bytes_even (tick (outside img target) (timer_irq img.code)),
-          reset_at_is img target,
-          rows_even (outside img target) target img.irqs,
+          even_reset,
           bytes_even (reset (outside img target) target.tick img 0),
         )
 

@@ -25,7 +25,7 @@ use Rattle.rt_native_laws.specs.Doing.{RaisesOnly, seen_of}
 use Rattle.rt_native_laws.specs.Going.{StepsBy}
 use Rattle.rt_native_laws.specs.Moments.{AllCanHappen, Comes, Happening, Moment, Went, after_instruction, after_step}
 use Rattle.rt_native_laws.specs.Moments.{instruction_at, last_after, moment_after, moment_after_all, shown}
-use Rattle.rt_native_laws.specs.Phases.{AlreadyDone, Calling, Entering, IsDone, Phase, ToCome}
+use Rattle.rt_native_laws.specs.Phases.{AlreadyDone, Calling, Entering, IsDone, Phase, Reads, ToCome}
 use Rattle.rt_native_laws.specs.Relating.{IsPastMarks, IsInPlace, IsWhere, lowest}
 use Rattle.rt_native_laws.specs.Simulating.{arrivals_of, seen_of_label}
 use Rattle.rt_native_laws.proofs.Going.{mark_is_no_event, same_core}
@@ -96,7 +96,6 @@ module _ (img : Image) (target : Target) (p : Program) (there : IsInPlace img ta
     pub arrivals : flat_map arrivals_of happened ≡ []
     pub seen : flat_map seen_of_label (shown img s happened) ≡ []
     pub time : (moment_after_all img s happened).core.time ≡ s.core.time
-    pub alarm : s.core.alarm ≡ None → (moment_after_all img s happened).core.alarm ≡ None
     pub here : IsWhere img target p (moment_after_all img s happened) m
     pub marks : fits happened ≡ true
         → IsPastMarks img target p (moment_after_all img s happened).core here.top m here.phase
@@ -110,6 +109,7 @@ module _ (img : Image) (target : Target) (p : Program) (there : IsInPlace img ta
   past_if c top m (ToCome x) h = tt
   past_if c top m (Entering x) h = tt
   past_if c top m (Calling x) h = tt
+  past_if c top m (Reads x) h = tt
 
   -- no mark is next
   none_next : (fits : List Happening → Bool) (s : Moment) (m : Machine) (w : IsWhere img target p s m)
@@ -120,7 +120,6 @@ module _ (img : Image) (target : Target) (p : Program) (there : IsInPlace img ta
     arrivals = refl;
     seen = refl;
     time = refl;
-    alarm = λ e. e;
     here = w;
     marks = past;
   }
@@ -154,9 +153,9 @@ module _ (img : Image) (target : Target) (p : Program) (there : IsInPlace img ta
     after_mark =
         subst (λ (y : Moment). IsWhere img target p y m) (sym next_is)
         (is_where_on img target p there s m m w d Went (AlreadyDone done.0)
-        (settled_within Went (length d.processor.slots))
+        (settled_within Went (length d.processor.slots), tt)
         (record { registers = λ k h f. refl; memory = λ k h f. refl; exception = refl; active = refl })
-        (λ k h. refl) w.words w.placed shape.below shape.cells shape.requests shape.stopped)
+        (λ k h. refl) w.words w.placed shape.below shape.cells shape.requests shape.stopped shape.alarm)
 
     address_is : (moment_after img s (Comes Step)).core.processor.address ≡ suc s.core.processor.address
     address_is =
@@ -178,7 +177,6 @@ module _ (img : Image) (target : Target) (p : Program) (there : IsInPlace img ta
       seen = step_seen img s more.happened ∙ (ap (λ (xs : List Seen). xs ++ flat_map seen_of_label
           (shown img (moment_after img s (Comes Step)) more.happened)) silent ∙ more.seen);
       time = more.time ∙ (ap (λ (y : Moment). y.core.time) next_is ∙ shape.time);
-      alarm = λ e. more.alarm (ap (λ (y : Moment). y.core.alarm) next_is ∙ shape.alarm e);
       here = more.here;
       marks = more.marks;
     }
@@ -203,6 +201,7 @@ module _ (img : Image) (target : Target) (p : Program) (there : IsInPlace img ta
     by_phase good none _ line (ToCome x) e = none_next fits s m w (λ f. subst Past (sym e) tt)
     by_phase good none _ line (Entering x) e = none_next fits s m w (λ f. subst Past (sym e) tt)
     by_phase good none _ line (Calling x) e = none_next fits s m w (λ f. subst Past (sym e) tt)
+    by_phase good none _ line (Reads x) e = none_next fits s m w (λ f. subst Past (sym e) tt)
 
     by_test : IsGood img ceiling s → pick img s.core ≡ None → (i : Instr) (note : Option Note)
         → slice_get img.code s.core.processor.address ≡ Some (i, note) → (b : Bool) → is_mark i ≡ b → HasMarked fits s m

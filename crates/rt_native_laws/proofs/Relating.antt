@@ -1,11 +1,13 @@
 -- What runs goes on, and the processor is where the image is again.
-use Rattle.std.proofs.Common.{◌≡◌, ◌∙◌, ℕ, ◌+◌, ◌*◌, ◌/◌, ◌%◌, ◌^◌, ◌<◌, ◌≤◌, ◌⊎◌, inl, inr, List, Option, sym, ap}
+use Rattle.std.proofs.Common.{◌≡◌, ◌∙◌, ℕ, ◌+◌, ◌*◌, ◌/◌, ◌%◌, ◌^◌, ◌<◌, ◌≤◌, ◌⊎◌, inl, inr, List, None, Option, sym}
+use Rattle.std.proofs.Common.{ap}
 use Rattle.std.proofs.Common.{subst, arith, length, ⊎_elim}
 use Rattle.rt_code.specs.Image.{Image}
 use Rattle.rt_core.specs.Core.{Context, Core}
 use Rattle.rt_native.specs.Layout.{TICK_BYTES, outside, places, stack_top}
 use Rattle.rt_native.specs.Target.{Target}
 use Rattle.rt_native.specs.declared.outside.Outside.{Outside}
+use Rattle.rt_native.specs.declared.target.Input.{Input}
 use Rattle.rt_priorities.specs.Vectors.{IsLoaded}
 use Rattle.rt_priorities.proofs.Keeping.{others_keep_agreeing}
 use Rattle.rt_thumb.specs.Exceptions.{priority_of, systick}
@@ -15,7 +17,7 @@ use Rattle.rt_native_laws.specs.Going.{LeavesOthers}
 use Rattle.rt_native_laws.specs.Moments.{Last, Moment}
 use Rattle.rt_native_laws.specs.Own.{ChangesItsOwn}
 use Rattle.rt_native_laws.specs.Phases.{Phase}
-use Rattle.rt_native_laws.specs.Relating.{AreEvenBelow, IsPastMarks, IsInPlace, IsWhere, Related, lowest}
+use Rattle.rt_native_laws.specs.Relating.{AreEvenBelow, IsAlarmOf, IsPastMarks, IsInPlace, IsWhere, Related, lowest}
 use Rattle.rt_native_laws.specs.Standing.{HoldsWords, IsLaidOut}
 use Rattle.rt_native_laws.specs.Waiting.{IsFresh, KeepsAbove, Shows, Waiting}
 use Rattle.rt_native_laws.proofs.Showing.{phases_show}
@@ -53,6 +55,9 @@ module _ (img : Image) (target : Target) (p : Program) (there : IsInPlace img ta
   abbrev highest : ℕ
   highest = stack_top img target
 
+  abbrev inputs : List Input
+  inputs = target.inputs
+
   module _ (m n : Machine) (keeps : KeepsOutside at bottom m n) where
     system_word : (a : ℕ) → 0xE0000000 ≤ a → word_at n a ≡ word_at m a
     system_word a h = keeps (a / 4) (inr (omega (arith, h, there.laid.in_memory)))
@@ -78,12 +83,13 @@ module _ (img : Image) (target : Target) (p : Program) (there : IsInPlace img ta
   -- A machine instruction of what runs leads to a core and to a phase of it.
   module _ (s : Moment) (m n : Machine) (r : IsWhere img target p s m) (d : Core) (last : Last)
       (phase : Phase at bottom img pl p d r.top n)
-      (fresh : IsFresh at bottom highest img pl p last d r.top n phase)
+      (fresh : IsFresh at bottom highest inputs img pl p last d r.top n phase)
       (above : KeepsAbove at r.top m n) (keeps : KeepsOutside at bottom m n) (words : HoldsWords n)
       (placed : (n.address % 2 ≡ 0) × (n.address < 2 ^ 32))
       (below : d.below ≡ s.core.below)
       (as_many : length d.processor.cells ≡ length s.core.processor.cells)
-      (requests : length d.pending ≡ length s.core.pending) (stopped : d.stopped ≡ s.core.stopped) where
+      (requests : length d.pending ≡ length s.core.pending) (stopped : d.stopped ≡ s.core.stopped)
+      (alarm : (d.alarm ≡ s.core.alarm) ⊎ (d.alarm ≡ None)) where
     laid_before : IsLaidOut at bottom (length s.core.processor.cells)
     laid_before = subst (IsLaidOut at bottom) (sym r.cells) there.laid
 
@@ -98,8 +104,9 @@ module _ (img : Image) (target : Target) (p : Program) (there : IsInPlace img ta
       top = r.top;
       phase = phase;
       fresh = fresh;
-      waiting = subst (λ (b : List Context). Waiting at bottom highest img pl p s.takings b d r.top n) (sym below)
-          (waiting_is_kept at bottom highest img pl p s.takings s.core.below s.core d r.top m n laid_before
+      waiting = subst (λ (b : List Context). Waiting at bottom highest inputs img pl p s.takings b d r.top n)
+          (sym below)
+          (waiting_is_kept at bottom highest inputs img pl p s.takings s.core.below s.core d r.top m n laid_before
           there.has.port as_many stopped above shown words r.waiting);
       agrees = others_keep_agreeing img s.core d m n r.agrees (record {
         registers = λ a h f. system_word m n keeps a (omega (arith, h));
@@ -114,6 +121,8 @@ module _ (img : Image) (target : Target) (p : Program) (there : IsInPlace img ta
       loaded = loaded_still m n keeps r.loaded;
       tick = tick_still m n keeps r.tick;
       requests = requests ∙ r.requests;
+      alarm = ⊎_elim (λ (e : d.alarm ≡ s.core.alarm). subst (IsAlarmOf img) (sym e) r.alarm)
+          (λ (e : d.alarm ≡ None). subst (IsAlarmOf img) (sym e) tt) alarm;
       cells = as_many ∙ r.cells;
       frames = subst AreEvenBelow (sym below) r.frames;
     }

@@ -1,6 +1,6 @@
 -- A request comes to both, and an instruction that is executed late leads on.
-use Rattle.std.proofs.Common.{◌≡◌, ◌≢◌, ◌∙◌, ℕ, ◌<◌, ◌≤◌, Bool, true, false, List, [], ◌∷◌, Option, Some, None}
-use Rattle.std.proofs.Common.{refl, sym, ap, subst, arith, length, ⊎_elim}
+use Rattle.std.proofs.Common.{◌≡◌, ◌≢◌, ◌∙◌, ℕ, ◌<◌, ◌≤◌, Bool, true, false, List, [], ◌∷◌, Option, Some, None, IfSome}
+use Rattle.std.proofs.Common.{inl, refl, sym, ap, subst, arith, length, ⊎_elim}
 use Rattle.std.proofs.lemmas.Bool.{cases_eq, cases_lt, false≢true}
 use Rattle.std.proofs.lemmas.List.{get_or_past, get_or-set_other, get_or-set_same, length-set}
 use Rattle.std.specs.Prelude.{if◌then◌else◌, nat_lt, slice_index_or, slice_set}
@@ -16,13 +16,15 @@ use Rattle.rt_core.specs.Transfer.{core_after_pend}
 use Rattle.rt_native.specs.Layout.{outside, places}
 use Rattle.rt_native.specs.Target.{Target}
 use Rattle.rt_native.specs.declared.outside.Outside.{Outside}
+use Rattle.rt_native.specs.declared.target.Input.{Input}
 use Rattle.rt_thumb.specs.Exceptions.{external, systick}
 use Rattle.rt_thumb.specs.Machine.{Machine}
 use Rattle.rt_thumb.specs.Step.{Program, pended}
 use Rattle.rt_thumb.specs.declared.instruction.Instruction.{Instruction}
 use Rattle.rt_native_laws.specs.Arriving.{IsAsFresh, is_done}
-use Rattle.rt_native_laws.specs.Moments.{Moment, instruction_at, settled_words}
-use Rattle.rt_native_laws.specs.Phases.{AlreadyDone, Calling, Entering, IsDone, IsToCome, Phase, ToCome, kept_words}
+use Rattle.rt_native_laws.specs.Moments.{Began, Moment, instruction_at, settled_words}
+use Rattle.rt_native_laws.specs.Phases.{AlreadyDone, Calling, Entering, IsDone, IsToCome, Phase, Reads, ToCome}
+use Rattle.rt_native_laws.specs.Phases.{kept_words}
 use Rattle.rt_native_laws.specs.Own.{RunsPrivately}
 use Rattle.rt_native_laws.specs.Relating.{IsPastMarks, IsInPlace, IsWhere, LateInstructionsLeadOn}
 use Rattle.rt_native_laws.specs.Relating.{PendingTicksLeadOn, Related, RequestsLeadOn, lowest}
@@ -108,6 +110,7 @@ module _ (img : Image) (target : Target) (p : Program) (there : IsInPlace img ta
   past_of c n (ToCome x) h = tt
   past_of c n (Entering x) h = tt
   past_of c n (Calling x) h = tt
+  past_of c n (Reads x) h = tt
 
   of_past : (phase : Phase at bottom img pl p s.core top m) → IsPastMarks img target p s.core top m phase
       → is_done at bottom img pl p s.core top m phase ≡ true → pick img s.core ≡ None
@@ -116,23 +119,31 @@ module _ (img : Image) (target : Target) (p : Program) (there : IsInPlace img ta
   of_past (ToCome x) past e = absurd (false≢true e)
   of_past (Entering x) past e = absurd (false≢true e)
   of_past (Calling x) past e = absurd (false≢true e)
+  of_past (Reads x) past e = absurd (false≢true e)
 
   module _ (d : Core) (e : ℕ) (fresh : IsAsFresh at bottom img pl p s.core d top m (pended e m) w.phase)
       (below : d.below ≡ s.core.below) (processor : d.processor ≡ s.core.processor)
       (requests : length d.pending ≡ length s.core.pending) (stopped : d.stopped ≡ s.core.stopped)
+      (alarm : d.alarm ≡ s.core.alarm)
       (before : pick img d ≡ None → pick img s.core ≡ None) where
     same_frame : length d.processor.slots ≡ length s.core.processor.slots
     same_frame = ap (λ x. length x.slots) processor
 
+    kept : settled_words s.last (length s.core.processor.slots) ≤ kept_words at bottom img pl p s.core top m w.phase
+    kept = w.fresh.0
+
     asked : Related img target p (record { core = d; last = s.last; takings = s.takings }) (pended e m)
     asked =
-        related_on img target p there s m (pended e m) w d s.last fresh.0
-        (subst (λ (k : ℕ). settled_words s.last k ≤ kept_words at bottom img pl p d top (pended e m) fresh.0)
-        (sym same_frame) (omega (arith, w.fresh, fresh.1)))
+        related_on img target p there s m (pended e m) w d s.last fresh.0 (
+          subst (λ (k : ℕ). settled_words s.last k ≤ kept_words at bottom img pl p d top (pended e m) fresh.0)
+              (sym same_frame) (omega (arith, kept, fresh.1)),
+          subst (λ (o : Option (List Input)). IfSome o (λ declared. (s.last ≡ Began) × (declared ≡ target.inputs)))
+              (sym fresh.3) w.fresh.1,
+        )
         (record { registers = λ k h f. refl; memory = λ k h f. refl; exception = refl; active = refl })
         (λ k h. refl)
         (record { registers = w.words.registers; memory = w.words.memory; base_priority = w.words.base_priority })
-        w.placed below (ap (λ x. length x.cells) processor) requests stopped
+        w.placed below (ap (λ x. length x.cells) processor) requests stopped (inl alarm)
         (past_of d (pended e m) fresh.0 (λ f none at_mark.
         of_past w.phase r.marks (sym fresh.2 ∙ f) (before none)
         (sym (ap (λ x. instruction_at img (record s.core { processor = x })) processor) ∙ at_mark)))
@@ -142,13 +153,13 @@ unfolding happen
 requests_lead_on img target p s m irq there r l =
     asked img target p there s m r (core_after_pend s.core irq) (external irq)
     (arrivals_keep_phases (outside img target) (lowest img target p) img (places img target) p s.core r.here.top irq m
-    r.here.phase) refl refl (length-set s.core.pending irq true) refl (none_before img s.core irq)
+    r.here.phase) refl refl (length-set s.core.pending irq true) refl refl (none_before img s.core irq)
 
 pub pending_ticks_lead_on : PendingTicksLeadOn
 pending_ticks_lead_on img target p s m there r =
     asked img target p there s m r s.core systick
     (pending_ticks_keep_phases (outside img target) (lowest img target p) img (places img target) p s.core r.here.top m
-    r.here.phase) refl refl refl refl (λ e. e)
+    r.here.phase) refl refl refl refl refl (λ e. e)
 
 -- what is executed late
 module _ (at : Outside) (bottom : ℕ) (img : Image) (places : List ℕ) (p : Program) (c : Core) (top : ℕ) (m : Machine)
@@ -196,5 +207,6 @@ late_instructions_lead_on img target p ceiling fits s m there stays fitting r la
         late x.left x.completes
     next_by img target p there s m late top (Entering x) =
         entering_has_next (outside img target) (lowest img target p) img (places img target) p there.has s.core top m x
+    next_by img target p there s m late top (Reads x) = absurd (true_and_false m.is_unsettled late x.settled)
     next_by img target p there s m late top (Calling x) =
         calling_has_next (outside img target) (lowest img target p) img (places img target) p there.has s.core top m x

@@ -179,7 +179,7 @@ behind_cells (c ∷ cells) k =
     let same : length (c ∷ cells) + k ≡ suc (length cells + k) = omega arith in
     ap (slice_index (map (λ cell. cell.first) (c ∷ cells) ++ 0 ∷ (2 ^ 32 - 1) ∷ [])) same ∙ behind_cells cells k
 
-longer : (cells : List CellRow)
+pub longer : (cells : List CellRow)
     → length (map (λ cell. cell.first) cells ++ 0 ∷ (2 ^ 32 - 1) ∷ []) ≡ length cells + 2
 longer [] = refl
 longer (c ∷ cells) = let rest = longer cells in omega (arith, rest)
@@ -322,10 +322,17 @@ module _ (at : Outside) (bottom : ℕ) (reload : Option ℕ) (img : Image) (load
     }
     pub stack : last.register 13 ≡ low
     pub values : (k : ℕ) → k < count → word_at last (at.cells + 4 * k) ≡ slice_index (first_values img) k
+    pub memory : (k : ℕ) → (4 * k + 4 ≤ at.cells) ⊎ (at.time + 8 ≤ 4 * k) → 4 * k < 0xE0000000
+        → last.memory k ≡ m.memory k
     pub system : (a : ℕ) → 0xE0000000 ≤ a → (a < 0xE000E010) ⊎ (0xE000E01C ≤ a) → word_at last a ≡ word_at m a
     pub words : HoldsWords last
 
-  behind_it : IsBehind
+  beside_values : (k : ℕ) → (4 * k + 4 ≤ at.cells) ⊎ (at.time + 8 ≤ 4 * k)
+      → (4 * k + 4 ≤ at.cells) ⊎ (at.cells + 4 * count ≤ 4 * k)
+  beside_values k h =
+      ⊎_elim (λ (y : 4 * k + 4 ≤ at.cells). inl y) (λ (y : at.time + 8 ≤ 4 * k). inr (omega (arith, y, x.laid.time))) h
+
+  pub behind_it : IsBehind
   behind_it =
       let d = instruction.SynchronizeData in
       let j = instruction.SynchronizeInstructions in
@@ -378,6 +385,8 @@ module _ (at : Outside) (bottom : ℕ) (reload : Option ℕ) (img : Image) (load
         stack = g.sp;
         values = λ k l.
             k2.memory ((at.cells + 4 * k) / 4) (inl (in_cells k l)) ∙ (k1.copied k l ∙ x.values k (is_value k l));
+        memory = λ k beside below.
+            k2.memory k (inl (omega (arith, below))) ∙ k1.memory k (beside_values k beside);
         system = λ a h far. k2.memory (a / 4) (besides a far) ∙ k1.memory (a / 4) (inr (far_above a h));
         words = w5;
       }
@@ -426,7 +435,7 @@ module _ (at : Outside) (bottom : ℕ) (reload : Option ℕ) (img : Image) (load
           ∙ sym (get_or-replicate IRQ_NUMBERS irq false false small));
     }
 
-    result : LeadsToReset at bottom reload img load places p m
+    pub result : LeadsToReset at bottom reload img load places p m
     result = record {
       executed = b.led.executed;
       last = b.last;
@@ -444,12 +453,19 @@ module _ (at : Outside) (bottom : ℕ) (reload : Option ℕ) (img : Image) (load
         settled = ap (λ (y : Machine). y.is_unsettled) b.rest;
         words = b.words;
       };
+      address = ap (λ (y : Machine). y.address) b.rest;
+      words = b.words;
+      memory = b.memory;
       system = b.system;
       exception = ap (λ (y : Machine). y.exception) b.rest;
       active = ap (λ (y : Machine). y.active) b.rest;
       is_pending = ap (λ (y : Machine). y.is_pending) b.rest;
       seen = ap (λ (y : Machine). y.seen) b.rest;
     }
+
+    pub result_last : result.last ≡ b.last
+    unfolding result
+    result_last = refl
 
 pub reset_leads : ResetLeads
 reset_leads at bottom reload img load places p m x =

@@ -17,6 +17,7 @@ use Rattle.rt_core.specs.Transfer.{exception_return, outcome_of_return}
 use Rattle.rt_native.specs.Layout.{outside, places, stack_top}
 use Rattle.rt_native.specs.Target.{Target}
 use Rattle.rt_native.specs.declared.outside.Outside.{Outside}
+use Rattle.rt_native.specs.declared.target.Input.{Input}
 use Rattle.rt_priorities.proofs.Keeping.{returns_keep_agreeing}
 use Rattle.rt_thumb.specs.Exceptions.{external, popped, returned, systick}
 use Rattle.rt_thumb.specs.Machine.{Machine, Returned, Seen}
@@ -31,7 +32,7 @@ use Rattle.rt_native_laws.specs.Leaving.{Resumes}
 use Rattle.rt_native_laws.specs.Moments.{Comes, Happening, Moment, Taking, after_instruction, after_return, after_step}
 use Rattle.rt_native_laws.specs.Moments.{instruction_at, moment_after}
 use Rattle.rt_native_laws.specs.Own.{Executes}
-use Rattle.rt_native_laws.specs.Relating.{AreEvenBelow, IsInPlace, IsWhere, LeadsOn, lowest}
+use Rattle.rt_native_laws.specs.Relating.{AreEvenBelow, IsAlarmOf, IsInPlace, IsWhere, LeadsOn, lowest}
 use Rattle.rt_native_laws.specs.Standing.{HoldsWords, IsLaidOut}
 use Rattle.rt_native_laws.specs.Simulating.{seen_of_label}
 use Rattle.rt_native_laws.specs.Waiting.{Shows, Waiting}
@@ -108,6 +109,9 @@ module _ (img : Image) (target : Target) (p : Program) (there : IsInPlace img ta
   abbrev highest : ℕ
   highest = stack_top img target
 
+  abbrev inputs : List Input
+  inputs = target.inputs
+
   abbrev c : Core
   c = s.core
 
@@ -138,10 +142,12 @@ module _ (img : Image) (target : Target) (p : Program) (there : IsInPlace img ta
   -- the job that waited last
   module _ (taking : Taking) (takings : List Taking) (taken : s.takings ≡ taking ∷ takings)
       (same_base : c.processor.basepri ≡ taking.base_priority)
-      (jobs : Waiting at bottom highest img pl p (taking ∷ takings) (found.context ∷ found.others) c w.top m) where
-    resumes : Resumes at bottom highest img pl p taking.last takings found.others d n
+      (jobs : Waiting at bottom highest inputs img pl p (taking ∷ takings)
+      (found.context ∷ found.others) c w.top m) where
+    resumes : Resumes at bottom highest inputs img pl p taking.last takings found.others d n
     resumes =
-        return_resumes at bottom highest img pl p taking takings found.context found.others c d (step img c).1 w.top m n
+        return_resumes at bottom highest inputs img pl p taking takings found.context found.others c d
+        (step img c).1 w.top m n
         st found.below found.free same_base well.primask (shown.base_priority ∙ same_base)
         (shown.is_masked ∙ well.primask) stack goes jobs
 
@@ -162,7 +168,7 @@ module _ (img : Image) (target : Target) (p : Program) (there : IsInPlace img ta
       top = resumes.top;
       phase = resumes.phase;
       fresh = resumes.fresh;
-      waiting = subst (λ (b : List Context). Waiting at bottom highest img pl p takings b d resumes.top n)
+      waiting = subst (λ (b : List Context). Waiting at bottom highest inputs img pl p takings b d resumes.top n)
           (sym below_is) resumes.others;
       agrees = returns_keep_agreeing img c d (Some (what.Ret found.context.irq)) m n (m.register 14) w.agrees
           (runs ∙ sym (ap exception_number found.below))
@@ -177,6 +183,7 @@ module _ (img : Image) (target : Target) (p : Program) (there : IsInPlace img ta
           w.loaded;
       tick = tick_still img target p there m n (λ k h. sym (ap (λ (y : Machine). y.memory k) popped_is)) w.tick;
       requests = ap (λ (y : Core). length y.pending) returning.core ∙ w.requests;
+      alarm = subst (IsAlarmOf img) (sym (ap (λ (y : Core). y.alarm) returning.core)) w.alarm;
       cells = same_cells ∙ w.cells;
       frames = subst AreEvenBelow (sym below_is) (subst AreEvenBelow found.below w.frames).1;
     }
@@ -204,14 +211,12 @@ module _ (img : Image) (target : Target) (p : Program) (there : IsInPlace img ta
           ticks = sym (ap (λ (x : Machine). x.is_pending systick) popped_is);
           time = marked.time ∙ (ap (λ (z : Moment). z.core.time) (next_is ∙ ap (after_return d) taken)
               ∙ ap (λ (y : Core). y.time) returning.core);
-          alarm = λ e. marked.alarm (ap (λ (z : Moment). z.core.alarm) (next_is ∙ ap (after_return d) taken)
-              ∙ (ap (λ (y : Core). y.alarm) returning.core ∙ e));
           here = marked.here;
           marks = marked.marks;
         }
 
   by_takings : (takings : List Taking) → s.takings ≡ takings → IsAsTaken c.processor.basepri takings
-      → Waiting at bottom highest img pl p takings (found.context ∷ found.others) c w.top m
+      → Waiting at bottom highest inputs img pl p takings (found.context ∷ found.others) c w.top m
       → LeadsOn img target p fits s m n
   by_takings [] e same jobs = absurd same
   by_takings (taking ∷ takings) e same jobs = leads taking takings e same jobs
@@ -219,4 +224,5 @@ module _ (img : Image) (target : Target) (p : Program) (there : IsInPlace img ta
   pub return_leads_on : LeadsOn img target p fits s m n
   return_leads_on =
       by_takings s.takings refl well.base_priority
-      (subst (λ (b : List Context). Waiting at bottom highest img pl p s.takings b c w.top m) found.below w.waiting)
+      (subst (λ (b : List Context). Waiting at bottom highest inputs img pl p s.takings b c w.top m) found.below
+      w.waiting)

@@ -1,5 +1,5 @@
 -- What an instruction leaves of the core: the contexts, how many cells and requests there are, and that no trap came.
-use Rattle.std.proofs.Common.{◌≡◌, ℕ, Bool, true, false, not, List, Option, Some, None, refl, length}
+use Rattle.std.proofs.Common.{◌≡◌, ◌⊎◌, inl, inr, ℕ, Bool, true, false, not, List, Option, Some, None, refl, length}
 use Rattle.std.proofs.lemmas.List.{length-set}
 use Rattle.std.specs.Prelude.{if◌then◌else◌, ◌==◌, nat_le, slice_get, ⊤}
 use Rattle.rt_code.specs.Access.{cells_of}
@@ -30,7 +30,7 @@ pub record KeepsShape (c d : Core) : Type 0 where
   pub requests : length d.pending ≡ length c.pending
   pub stopped : d.stopped ≡ c.stopped
   pub time : d.time ≡ c.time
-  pub alarm : c.alarm ≡ None → d.alarm ≡ None
+  pub alarm : (d.alarm ≡ c.alarm) ⊎ (d.alarm ≡ None)
 
 -- all but `ret`, and `alarm`
 abbrev pub StaysInContext : Instr → Type 0
@@ -46,7 +46,7 @@ module _ (img : Image) (c : Core) where
   Outcomes x = UnlessTrapped (go_on img c None x) Shaped
 
   same : (q : Processor) → length q.cells ≡ length c.processor.cells → KeepsShape c (record c { processor = q })
-  same q long = record { below = refl; cells = long; requests = refl; stopped = refl; time = refl; alarm = λ e. e }
+  same q long = record { below = refl; cells = long; requests = refl; stopped = refl; time = refl; alarm = inl refl }
 
   tested : (a b : Bool) (x : Effect) → Outcomes x
       → Outcomes (if a then Traps trap.Address else if b then Traps trap.Stack else x)
@@ -67,12 +67,12 @@ module _ (img : Image) (c : Core) where
   comes_back : (o : Option (List ℕ)) → UnlessTrapped (back_to c o) Shaped
   comes_back None = tt
   comes_back (Some slots) =
-      (record { below = refl; cells = refl; requests = refl; stopped = refl; time = refl; alarm = λ e. e }, refl)
+      (record { below = refl; cells = refl; requests = refl; stopped = refl; time = refl; alarm = inl refl }, refl)
 
   by_fits : (b : Bool) (row : BodyRow) (from : ℕ)
       → UnlessTrapped (if b then Done (core_after_call c row from) None else Trapped c trap.Stack) Shaped
   by_fits true row from =
-      (record { below = refl; cells = refl; requests = refl; stopped = refl; time = refl; alarm = λ e. e }, refl)
+      (record { below = refl; cells = refl; requests = refl; stopped = refl; time = refl; alarm = inl refl }, refl)
   by_fits false row from = tt
 
   by_row : (o : Option BodyRow) (from : ℕ) → UnlessTrapped (call_row img c o from) Shaped
@@ -95,13 +95,13 @@ module _ (img : Image) (c : Core) where
       requests = length-set c.pending irq true;
       stopped = refl;
       time = refl;
-      alarm = λ e. e;
+      alarm = inl refl;
     },
     refl,
   )
   by_kind (instr.Alarm s irq) h = absurd h
   by_kind instr.NoAlarm h =
-      (record { below = refl; cells = refl; requests = refl; stopped = refl; time = refl; alarm = λ e. refl }, refl)
+      (record { below = refl; cells = refl; requests = refl; stopped = refl; time = refl; alarm = inr refl }, refl)
   by_kind (instr.Unmask s) h = unmasked (nat_le (model.slot c.processor s) 1) _ (same _ refl, refl)
   by_kind (instr.Call row from) h = by_may (may_call c) (slice_get img.bodies row) from
   by_kind instr.Back h = comes_back c.caller

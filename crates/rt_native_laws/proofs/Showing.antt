@@ -1,21 +1,24 @@
 -- What runs shows the core's masks, cells, time, alarm and requests.
 use Rattle.std.proofs.Common.{◌≡◌, ◌∙◌, ℕ, ◌+◌, ◌*◌, ◌/◌, ◌%◌, ◌≤◌, inr}
-use Rattle.std.proofs.Common.{List, sym, ap, subst, arith, length}
+use Rattle.std.proofs.Common.{List, Option, Some, IfSome, refl, sym, ap, subst, arith, length}
 use Rattle.rt_code.specs.Image.{Image}
 use Rattle.rt_core.specs.Core.{Core}
 use Rattle.rt_native.specs.declared.outside.Outside.{Outside}
+use Rattle.rt_native.specs.declared.target.Input.{Input}
 use Rattle.rt_thumb.specs.Exceptions.{external}
 use Rattle.rt_thumb.specs.Machine.{Machine, word_at}
 use Rattle.rt_thumb.specs.Step.{Program}
-use Rattle.rt_native_laws.specs.Moments.{Last, settled_words}
+use Rattle.rt_native_laws.specs.Moments.{Began, Last, settled_words}
 use Rattle.rt_native_laws.specs.Own.{ChangesItsOwn}
 use Rattle.rt_native_laws.specs.Phases.{IsToCome, IsDone, IsEntering, IsCalling, OthersRan, Phase, ToCome, AlreadyDone}
-use Rattle.rt_native_laws.specs.Phases.{Entering, Calling, kept_words}
+use Rattle.rt_native_laws.specs.Phases.{Entering, Calling, Reads, kept_words, reads_from}
+use Rattle.rt_native_laws.specs.Reading.{IsReading}
 use Rattle.rt_native_laws.specs.Standing.{IsLaidOut, StandsFor}
 use Rattle.rt_native_laws.specs.Waiting.{Shows, PhasesShow, IsFresh}
 use Rattle.rt_native_laws.proofs.Kept.{entering_is_kept, calling_is_kept_so}
 use Rattle.rt_native_laws.proofs.Phases.{apart_of, to_come_is_kept, done_is_kept}
 use Rattle.rt_native_laws.proofs.Private.{private_is_unseen}
+use Rattle.rt_native_laws.proofs.Reading.{reading_is_kept}
 
 -- Others leave a job in its phase, whichever it is, and as many words of its frame the core's.
 module _ (at : Outside) (bottom : ℕ) (img : Image) (places : List ℕ) (p : Program) (c d : Core) (top : ℕ)
@@ -27,23 +30,31 @@ module _ (at : Outside) (bottom : ℕ) (img : Image) (places : List ℕ) (p : Pr
   pub phase_is_kept : (phase : Phase at bottom img places p c top m)
       → (again : Phase at bottom img places p d top n) × (kept_words at bottom img places p c top m phase
       ≤ kept_words at bottom img places p d top n again)
+      × (reads_from at bottom img places p d top n again ≡ reads_from at bottom img places p c top m phase)
   phase_is_kept (ToCome x) =
-      (ToCome (to_come_is_kept at bottom img places p c d top m n x o), omega (arith, same_frame))
+      (ToCome (to_come_is_kept at bottom img places p c d top m n x o), omega (arith, same_frame), refl)
   phase_is_kept (AlreadyDone x) =
-      (AlreadyDone (done_is_kept at bottom img places p c d top m n laid port x o), omega (arith, same_frame))
+      (AlreadyDone (done_is_kept at bottom img places p c d top m n laid port x o), omega (arith, same_frame), refl)
   phase_is_kept (Entering x) =
-      (Entering (entering_is_kept at bottom img places p c d top m n port x o), omega arith)
+      (Entering (entering_is_kept at bottom img places p c d top m n port x o), omega arith, refl)
   phase_is_kept (Calling x) =
       let again = calling_is_kept_so at bottom img places p c d top m n x o in
-      (Calling again.0, omega (arith, again.1))
+      (Calling again.0, omega (arith, again.1), refl)
+  phase_is_kept (Reads x) =
+      let again = reading_is_kept at bottom img places p c d top m n x o in
+      (Reads again.0, omega arith, ap (λ (ds : List Input). Some ds) again.1)
 
-  pub fresh_is_kept : (highest : ℕ) (last : Last) (phase : Phase at bottom img places p c top m)
-      → IsFresh at bottom highest img places p last c top m phase
-      → IsFresh at bottom highest img places p last d top n (phase_is_kept phase).0
-  fresh_is_kept highest last phase fresh =
+  pub fresh_is_kept : (highest : ℕ) (inputs : List Input) (last : Last) (phase : Phase at bottom img places p c top m)
+      → IsFresh at bottom highest inputs img places p last c top m phase
+      → IsFresh at bottom highest inputs img places p last d top n (phase_is_kept phase).0
+  fresh_is_kept highest inputs last phase fresh =
       let more = (phase_is_kept phase).1 in
-      subst (λ (w : ℕ). settled_words last w ≤ kept_words at bottom img places p d top n (phase_is_kept phase).0)
-      (sym same_frame) (omega (arith, fresh, more))
+      let kept = fresh.0 in (
+        subst (λ (w : ℕ). settled_words last w ≤ kept_words at bottom img places p d top n (phase_is_kept phase).0)
+            (sym same_frame) (omega (arith, kept, more)),
+        subst (λ (o : Option (List Input)). IfSome o (λ declared. (last ≡ Began) × (declared ≡ inputs)))
+            (sym (phase_is_kept phase).2) fresh.1,
+      )
 
 module _ (at : Outside) (bottom : ℕ) (places : List ℕ) (c : Core) where
   stands_shows : (m : Machine) → StandsFor at bottom places c m → Shows at c m
@@ -157,11 +168,24 @@ module _ (at : Outside) (bottom : ℕ) (img : Image) (places : List ℕ) (p : Pr
         pending = s.pending;
       })
 
+  reading_shows : IsReading at bottom img places p c top m → Shows at c m
+  reading_shows x =
+      let st = x.stands in
+      record {
+        base_priority = st.base_priority;
+        is_masked = st.is_masked;
+        cells = st.cells;
+        time = st.time;
+        alarm = st.alarm;
+        pending = st.pending;
+      }
+
   shows : IsLaidOut at bottom (length c.processor.cells) → Phase at bottom img places p c top m → Shows at c m
   shows laid (ToCome x) = to_come_shows x
   shows laid (AlreadyDone x) = done_shows laid x
   shows laid (Entering x) = entering_shows x
   shows laid (Calling x) = calling_shows x
+  shows laid (Reads x) = reading_shows x
 
 pub phases_show : PhasesShow
 phases_show at bottom img places p c top m laid port phase = shows at bottom img places p c top m port laid phase

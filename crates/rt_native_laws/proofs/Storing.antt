@@ -131,6 +131,7 @@ module _ (at : Outside) (bottom : ℕ) (img : Image) (places : List ℕ) (p : Pr
         owes = owes;
         debt = debt;
         has_come = λ e h. absurd (omega (arith, h, not_at_most instant c.time (told ∙ e)));
+        set = inl refl;
         knows = (r.slot, r.address, λ e. at_most instant c.time (told ∙ e));
         laid = here.laid;
         stands = subst (λ (y : ℕ). StandsFor at bottom places unpaid (record stored { address = y })) to b.stands;

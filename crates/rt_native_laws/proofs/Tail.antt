@@ -25,15 +25,13 @@ use Rattle.rt_trace.specs.declared.item.What.TheVariants as what
 use Rattle.rt_native_laws.specs.Going.{HasCode}
 use Rattle.rt_native_laws.specs.Laws.{IsNoReturn}
 use Rattle.rt_native_laws.specs.Own.{Executes, Spans}
-use Rattle.rt_native_laws.specs.Phases.{OthersRan}
 use Rattle.rt_native_laws.specs.Standing.{IsLaidOut, StandsFor, LieFrom, HoldsWords, IsBeside, frames_end, caller_words}
 use Rattle.rt_native_laws.specs.Tail.{IsInTail, Knows, Stage, AtTime, AtCompare, AtBranch, AtNone, AtStore, AtNumber}
-use Rattle.rt_native_laws.specs.Tail.{AtLow, AtTop, AtRequest, Meanwhile, TailGoes, TailGoesOn, TailIsKept, alarm_tail}
-use Rattle.rt_native_laws.specs.Tail.{passed, rung}
+use Rattle.rt_native_laws.specs.Tail.{AtLow, AtTop, AtRequest, TailGoes, TailGoesOn, alarm_tail}
+use Rattle.rt_native_laws.specs.Tail.{TailsAreNoFault, passed, rung}
 use Rattle.rt_native_laws.proofs.Accesses.{caller_length}
 use Rattle.rt_native_laws.proofs.Alarm.{later}
 use Rattle.rt_native_laws.proofs.Keeping.{written, words_kept, word_kept}
-use Rattle.rt_native_laws.proofs.Phases.{stands_again}
 use Rattle.rt_native_laws.proofs.Pieces.{moved, IsMemory, loading_is, storing_is, steps, same, other}
 use Rattle.rt_native_laws.proofs.Prefixes.{same_next}
 use Rattle.rt_native_laws.proofs.Requests.{posting_is, pended_words}
@@ -45,7 +43,7 @@ not_false : (b : Bool) → not b ≡ false → b ≡ true
 not_false true e = refl
 not_false false e = absurd (cc)
 
-holds_at_most : (a b : ℕ) → a ≤ b → nat_le a b ≡ true
+pub holds_at_most : (a b : ℕ) → a ≤ b → nat_le a b ≡ true
 holds_at_most a b h = grind (arith, nat_tests)
 
 -- an alarm that has come already
@@ -119,6 +117,100 @@ not_alarm at bottom count laid sp after top j low beside e =
     ⊎_elim (λ (y : (top ≤ 4 * j) × (4 * j + 4 ≤ at.cells)). omega (arith, y.1, exact, laid.time))
     (λ (y : at.time + 8 ≤ 4 * j). omega (arith, y, exact)) z) beside
 
+module _ (at : Outside) (bottom : ℕ) (img : Image) (places : List ℕ) (p : Program) (c : Core) (top : ℕ) (m : Machine)
+    (code : HasCode at img places p) (x : IsInTail at bottom img places p c top m) where
+  alarm_in_memory : IsMemory p.port (at.time + 4)
+  alarm_in_memory = record {
+    aligned = omega (arith, x.laid.aligned, x.laid.time);
+    no_port = λ e.
+        ⊎_elim (λ (y : at.port < bottom).
+        omega (arith, y, e, code.port, x.stands.stack, x.stands.frames, x.laid.time))
+        (λ (y : at.time + 8 ≤ at.port). omega (arith, y, e, code.port)) x.laid.port_apart;
+    below = omega (arith, x.laid.in_memory);
+  }
+
+  abbrev Next : Type 0
+  Next = (executed : Instruction) × (n : Machine) × Executes p executed m n
+
+  next_branch : (b : Bool) → holds condition.Higher m.flags ≡ b
+      → p.code m.address ≡ Some (instruction.BranchIf condition.Higher (bytes_of (due x.irq))) → Next
+  next_branch true e found = (
+    _,
+    record m { address = word (m.address + 4 + bytes_of (due x.irq)) },
+    record {
+      found = found;
+      does = ap (λ (t : Bool). if t then branched (bytes_of (due x.irq)) m
+          else behind (instruction.BranchIf condition.Higher (bytes_of (due x.irq))) m) e;
+    },
+  )
+  next_branch false e found = (
+    _,
+    record m { address = m.address + 4 },
+    record {
+      found = found;
+      does = ap (λ (t : Bool). if t then branched (bytes_of (due x.irq)) m
+          else behind (instruction.BranchIf condition.Higher (bytes_of (due x.irq))) m) e;
+    },
+  )
+
+  next_by : (stage : Stage)
+      → Spans p m.address (drop (passed stage) (alarm_tail x.irq)) (slice_index places c.processor.address)
+      → Knows at x.irq x.instant x.owes x.unpaid m stage → Next
+  unfolding due pend address
+  next_by AtTime span (r0, r1, owed) = (
+    instruction.Load 2 1 0,
+    _,
+    record {
+      found = span.0;
+      does = loading_is (instruction.Load 2 1 0) 2 (word (m.register 1 + 0)) at.time m
+          (omega (arith, r1, x.laid.in_memory)) (omega (arith, x.laid.aligned, x.laid.time));
+    },
+  )
+  next_by AtCompare span knows = (_, _, record { found = span.0; does = refl })
+  next_by AtBranch span knows = next_branch (holds condition.Higher m.flags) refl span.0
+  next_by AtNone span knows = (_, _, record { found = span.0; does = refl })
+  next_by AtStore span (r1, r2, come) = (
+    instruction.Store 2 1 4,
+    _,
+    record {
+      found = span.0;
+      does = storing_is p.port (instruction.Store 2 1 4) 2 (word (m.register 1 + 4)) (at.time + 4) m
+          (omega (arith, r1, alarm_in_memory.below)) alarm_in_memory;
+    },
+  )
+  next_by AtNumber span knows = (_, _, record { found = span.0; does = refl })
+  next_by AtLow span knows = (_, _, record { found = span.0; does = refl })
+  next_by AtTop span knows = (_, _, record { found = span.0; does = refl })
+  next_by AtRequest span (r0, r1, come, none) = (
+    instruction.Store 0 1 0,
+    _,
+    record {
+      found = span.0;
+      does = posting_is p.port (instruction.Store 0 1 0) 0 (word (m.register 1 + 0)) m
+          (ap (λ (v : ℕ). word (v + 0)) r1) (λ e. x.laid.port_is_no_request (sym (e ∙ code.port)));
+    },
+  )
+
+  -- what is owed is due
+  due_by : (stage : Stage) → Knows at x.irq x.instant x.owes x.unpaid m stage → x.owes ≡ true
+      → x.instant ≤ x.unpaid.time
+  due_by AtTime (r0, r1, owed) e = owed e
+  due_by AtCompare (r0, r1, r2, owed) e = omega (arith, r2, owed e)
+  due_by AtBranch (r1, come, owed) e = come (owed e)
+  due_by AtNone (r1, come) e = come
+  due_by AtStore (r1, r2, come) e = come
+  due_by AtNumber (come, none) e = come
+  due_by AtLow (r0, come, none) e = come
+  due_by AtTop (r0, r1, come, none) e = come
+  due_by AtRequest (r0, r1, come, none) e = come
+
+  pub owed_is_due : x.owes ≡ true → x.instant ≤ x.unpaid.time
+  owed_is_due e = due_by x.stage x.knows e
+
+pub tails_are_no_fault : TailsAreNoFault
+tails_are_no_fault at bottom img places p c top m code x =
+    next_by at bottom img places p c top m code x x.stage x.code x.knows
+
 module _ (at : Outside) (bottom : ℕ) (img : Image) (places : List ℕ) (p : Program) (c : Core) (top : ℕ) (m n : Machine)
     (executed : Instruction) (code : HasCode at img places p) (x : IsInTail at bottom img places p c top m)
     (exec : Executes p executed m n) where
@@ -129,7 +221,7 @@ module _ (at : Outside) (bottom : ℕ) (img : Image) (places : List ℕ) (p : Pr
   end = slice_index places c.processor.address
 
   abbrev Result : Type 0
-  Result = TailGoes at bottom img places p c top irq m n
+  Result = TailGoes at bottom img places p c top irq x.instant x.owes m n
 
   abbrev time : ℕ
   time = x.unpaid.time
@@ -138,14 +230,7 @@ module _ (at : Outside) (bottom : ℕ) (img : Image) (places : List ℕ) (p : Pr
   low_end = code.addresses c.processor.address
 
   in_memory : IsMemory p.port (at.time + 4)
-  in_memory = record {
-    aligned = omega (arith, x.laid.aligned, x.laid.time);
-    no_port = λ e.
-        ⊎_elim (λ (y : at.port < bottom).
-        omega (arith, y, e, code.port, x.stands.stack, x.stands.frames, x.laid.time))
-        (λ (y : at.time + 8 ≤ at.port). omega (arith, y, e, code.port)) x.laid.port_apart;
-    below = omega (arith, x.laid.in_memory);
-  }
+  in_memory = alarm_in_memory at bottom img places p c top m code x
 
   -- what is executed, and where it leads
   leads : (i : Instruction) (y : Machine) → p.code m.address ≡ Some i → effect p.port i m ≡ Some y → y ≡ n
@@ -174,6 +259,7 @@ module _ (at : Outside) (bottom : ℕ) (img : Image) (places : List ℕ) (p : Pr
         owes = x.owes;
         debt = x.debt;
         has_come = x.has_come;
+        set = x.set;
         knows = knows;
         laid = x.laid;
         stands = stands_with at bottom places x.unpaid m end register flags to sp x.stands;
@@ -181,8 +267,9 @@ module _ (at : Outside) (bottom : ℕ) (img : Image) (places : List ℕ) (p : Pr
         settled = x.settled;
         words = words_then i y found does plain;
       } in
-      subst (λ (z : Machine). TailGoes at bottom img places p c top irq m z) (leads i y found does) (record {
-        phase = inl again;
+      subst (λ (z : Machine). TailGoes at bottom img places p c top irq x.instant x.owes m z) (leads i y found does)
+      (record {
+        phase = inl (again, refl, refl, refl);
         said = None;
         request = inl refl;
         others = record {
@@ -207,7 +294,8 @@ module _ (at : Outside) (bottom : ℕ) (img : Image) (places : List ℕ) (p : Pr
       ∙ ap (λ (z : ℕ). Some (record m { address = z })) arrives in
       let paid : c ≡ x.unpaid =
       x.debt ∙ ap (λ (t : Bool). if t then rung irq x.unpaid else x.unpaid) (e ∙ free) in
-      subst (λ (z : Machine). TailGoes at bottom img places p c top irq m z) (leads i y found does) (record {
+      subst (λ (z : Machine). TailGoes at bottom img places p c top irq x.instant x.owes m z) (leads i y found does)
+      (record {
         phase = inr (record {
           left = [];
           steady = tt;
@@ -268,6 +356,7 @@ module _ (at : Outside) (bottom : ℕ) (img : Image) (places : List ℕ) (p : Pr
         owes = x.owes;
         debt = without_alarm x.owes refl come;
         has_come = λ e h. (refl, (x.has_come e h).1);
+        set = inr (refl, λ e. (x.has_come e come).1);
         knows = (come, refl);
         laid = x.laid;
         stands = stands_stored at bottom places x.unpaid m end (m.address + 2) x.laid x.stands;
@@ -275,8 +364,9 @@ module _ (at : Outside) (bottom : ℕ) (img : Image) (places : List ℕ) (p : Pr
         settled = x.settled;
         words = words_then i y found does tt;
       } in
-      subst (λ (z : Machine). TailGoes at bottom img places p c top irq m z) (leads i y found does) (record {
-        phase = inl again;
+      subst (λ (z : Machine). TailGoes at bottom img places p c top irq x.instant x.owes m z) (leads i y found does)
+      (record {
+        phase = inl (again, refl, refl, refl);
         said = None;
         request = inl refl;
         others = record {
@@ -342,7 +432,8 @@ module _ (at : Outside) (bottom : ℕ) (img : Image) (places : List ℕ) (p : Pr
         alarm = st.alarm ∙ ap alarm_word none;
         pending = λ k l. pended_words m.is_pending x.unpaid.pending irq k st.pending l;
       } in
-      subst (λ (z : Machine). TailGoes at bottom img places p c top irq m z) (leads i y found does) (record {
+      subst (λ (z : Machine). TailGoes at bottom img places p c top irq x.instant x.owes m z) (leads i y found does)
+      (record {
         phase = inr (record {
           left = d ∷ j ∷ [];
           steady = (refl, (refl, tt));
@@ -437,76 +528,3 @@ module _ (at : Outside) (bottom : ℕ) (img : Image) (places : List ℕ) (p : Pr
 pub tail_goes_on : TailGoesOn
 tail_goes_on at bottom img places p c top m n executed code x exec =
     by_stage at bottom img places p c top m n executed code x exec x.stage x.code x.knows
-
--- What others do leaves a job in the tail.
-address_of : (line : ℕ) (b : Bool) (c u : Core) → c ≡ (if b then rung line u else u)
-    → c.processor.address ≡ u.processor.address
-address_of line true c u e = ap (λ (y : Core). y.processor.address) e
-address_of line false c u e = ap (λ (y : Core). y.processor.address) e
-
-module _ (at : Outside) (bottom : ℕ) (img : Image) (places : List ℕ) (p : Program) (c d v : Core) (owes : Bool)
-    (top : ℕ) (m n : Machine) (x : IsInTail at bottom img places p c top m)
-    (o : OthersRan at (m.register 13) top x.unpaid v m n) (w : Meanwhile x.irq x.instant x.owes owes x.unpaid v)
-    (debt : d ≡ (if owes then rung x.irq v else v)) where
-  abbrev now : Machine
-  now = record m {
-    memory = n.memory;
-    is_pending = n.is_pending;
-    is_unsettled = n.is_unsettled;
-    seen = n.seen;
-  }
-
-  same_address : c.processor.address ≡ d.processor.address
-  same_address =
-      address_of x.irq x.owes c x.unpaid x.debt ∙ (sym (ap (λ (y : Core). y.processor.address) o.core)
-      ∙ sym (address_of x.irq owes d v debt))
-
-  abbrev old_end : ℕ
-  old_end = slice_index places c.processor.address
-
-  same_end : old_end ≡ slice_index places d.processor.address
-  same_end = ap (slice_index places) same_address
-
-  known : (stage : Stage) → Knows at x.irq x.instant x.owes x.unpaid m stage
-      → Knows at x.irq x.instant owes v now stage
-  known AtTime (r0, r1, owed) = (r0, r1, λ e. omega (arith, owed (w.debt e), w.later))
-  known AtCompare (r0, r1, r2, owed) = (r0, r1, omega (arith, r2, w.later), λ e. owed (w.debt e))
-  known AtBranch (r1, come, owed) = (r1, (λ e. omega (arith, come e, w.later)), λ e. owed (w.debt e))
-  known AtNone (r1, come) = (r1, omega (arith, come, w.later))
-  known AtStore (r1, r2, come) = (r1, r2, omega (arith, come, w.later))
-  known AtNumber (come, none) = (omega (arith, come, w.later), w.none none)
-  known AtLow (r0, come, none) = (r0, omega (arith, come, w.later), w.none none)
-  known AtTop (r0, r1, come, none) = (r0, r1, omega (arith, come, w.later), w.none none)
-  known AtRequest (r0, r1, come, none) = (r0, r1, omega (arith, come, w.later), w.none none)
-
-  stands_now : StandsFor at bottom places v (record now { address = slice_index places d.processor.address })
-  stands_now =
-      subst (λ (y : ℕ). StandsFor at bottom places v (record now { address = y })) same_end
-      (subst (λ (y : Core). StandsFor at bottom places y (record now { address = old_end })) (sym o.core)
-      (stands_again at bottom places x.unpaid (record m { address = old_end }) x.stands v.time v.alarm v.pending
-      v.processor.cells n.memory n.is_pending n.is_unsettled n.seen
-      (λ k f t. o.processor.memory k f (omega (arith, t, x.ends))) o.cells o.time o.alarm o.pending))
-
-  tail_again : IsInTail at bottom img places p d top now
-  tail_again = record {
-    irq = x.irq;
-    small = x.small;
-    instant = x.instant;
-    stage = x.stage;
-    code = subst (λ (y : ℕ). Spans p m.address (drop (passed x.stage) (alarm_tail x.irq)) y) same_end x.code;
-    unpaid = v;
-    owes = owes;
-    debt = debt;
-    has_come = w.has_come;
-    knows = known x.stage x.knows;
-    laid = subst (IsLaidOut at bottom) (sym o.as_many) x.laid;
-    stands = stands_now;
-    ends = ap (λ (y : Core). frames_end y m) o.core ∙ x.ends;
-    settled = o.settled;
-    words = subst HoldsWords o.processor.rest o.words;
-  }
-
-pub tail_is_kept : TailIsKept
-tail_is_kept at bottom img places p c d v owes top m n x o w debt =
-    subst (λ (y : Machine). IsInTail at bottom img places p d top y) (sym o.processor.rest)
-    (tail_again at bottom img places p c d v owes top m n x o w debt)

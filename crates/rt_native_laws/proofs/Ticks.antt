@@ -1,32 +1,37 @@
 -- A tick begins: what it leads to is where the image is after its own tick.
 use Rattle.std.proofs.Common.{◌≡◌, ◌≢◌, ◌∙◌, ℕ, suc, ◌+◌, ◌-◌, ◌*◌, ◌/◌, ◌%◌, ◌^◌, ◌<◌, ◌≤◌, ◌⊎◌, inl, inr, Bool}
-use Rattle.std.proofs.Common.{List, [], ◌∷◌, ◌++◌, Option, Some, None, IfSome, refl, sym, ap, subst, arith, length}
+use Rattle.std.proofs.Common.{true, false}
+use Rattle.std.proofs.Common.{List, [], ◌∷◌, ◌++◌, Option, Some, None, refl, sym, ap, subst, arith, length}
 use Rattle.std.proofs.Common.{flat_map, ⊎_elim}
 use Rattle.std.proofs.lemmas.Bool.{cases_eq, cases_lt}
+use Rattle.std.proofs.lemmas.List.{length-set}
 use Rattle.std.specs.List.{AllByRecursion}
+use Rattle.std.specs.Prelude.{if◌then◌else◌, ◌==◌, nat_le, not}
 use mathlib.Core.Path.{fun_ext}
 use Rattle.rt_ids.specs.Event.{Tick}
-use Rattle.rt_ids.specs.declared.limits.TheConstants.{IRQ_NUMBERS}
+use Rattle.rt_ids.specs.Lists.{is_some_and}
 use Rattle.rt_code.specs.Image.{Image}
 use Rattle.rt_core.specs.Core.{Core}
 use Rattle.rt_core.specs.Trace.{happen, ring, tick}
+use Rattle.rt_core.specs.Transfer.{core_after_pend}
 use Rattle.rt_core.specs.declared.alarm.Alarm.{Alarm}
 use Rattle.rt_native.specs.Layout.{TICK_BYTES, outside, places, stack_top}
 use Rattle.rt_native.specs.Service.{timer_irq}
 use Rattle.rt_native.specs.Target.{Target}
 use Rattle.rt_native.specs.declared.outside.Outside.{Outside}
+use Rattle.rt_native.specs.declared.target.Input.{Input}
 use Rattle.rt_priorities.specs.Ticking.{HasTicked, TicksAtOnce, alarm_word, requested}
 use Rattle.rt_priorities.proofs.Ticking.{number_is_small, ticks_are_one_event}
 use Rattle.rt_priorities.proofs.Vectors.{ticks_lead_to_theirs}
 use Rattle.rt_thumb.specs.Exceptions.{entered, status_word, systick, taken}
-use Rattle.rt_thumb.specs.Machine.{Entered, Flags, Machine, Returned}
+use Rattle.rt_thumb.specs.Machine.{Entered, Flags, Machine, Posted, Returned, Seen}
 use Rattle.rt_thumb.specs.Step.{Program}
-use Rattle.rt_trace.specs.Label.{Label, Ticked}
+use Rattle.rt_trace.specs.Label.{Label, Rang}
 use Rattle.rt_native_laws.specs.Behaving.{HasEvenFrames, IsGood}
 use Rattle.rt_native_laws.specs.Deep.{IsWithinFrames}
-use Rattle.rt_native_laws.specs.Moments.{Comes, Happening, Moment, moment_after, settled_words, shown}
-use Rattle.rt_native_laws.specs.Phases.{OthersRan, Phase, kept_words}
-use Rattle.rt_native_laws.specs.Relating.{IsInPlace, IsWhere, lowest}
+use Rattle.rt_native_laws.specs.Moments.{Comes, Happening, Moment, moment_after, shown}
+use Rattle.rt_native_laws.specs.Phases.{OthersRan}
+use Rattle.rt_native_laws.specs.Relating.{IsAlarmOf, IsInPlace, IsWhere, lowest}
 use Rattle.rt_native_laws.specs.Saving.{CanBeInterrupted}
 use Rattle.rt_native_laws.specs.Simulating.{HasNoAlarms, compared, seen_of_label}
 use Rattle.rt_native_laws.specs.Standing.{HoldsWords, IsLaidOut, LieFrom}
@@ -37,12 +42,56 @@ use Rattle.rt_native_laws.proofs.Eights.{phase_is_eight}
 use Rattle.rt_native_laws.proofs.Interrupting.{exception_is, top_is_eight}
 use Rattle.rt_native_laws.proofs.Relating.{KeepsOutside, is_where_on}
 use Rattle.rt_native_laws.proofs.Saving.{entry_pushes_below, stack_is as pushed_stack}
-use Rattle.rt_native_laws.proofs.Showing.{phase_is_kept, phases_show}
+use Rattle.rt_native_laws.proofs.Showing.{fresh_is_kept, phase_is_kept, phases_show}
+use Rattle.rt_native_laws.proofs.Tests.{same_number}
 use Rattle.rt_native_laws.proofs.Waiting.{pushed_words, status_small}
 
--- a tick of a core without an alarm
-tick_is : (c : Core) → c.alarm ≡ None → tick c ≡ (record c { time = suc c.time }, [])
-tick_is c e = ap (ring (record c { time = suc c.time })) e
+-- what a tick leaves of the core; and nobody else sees what is shown of it
+record TickShape (c d : Core) (said : List Label) : Type 0 where
+  core : d ≡ record c { time = suc c.time; alarm = d.alarm; pending = d.pending }
+  requests : length d.pending ≡ length c.pending
+  alarm : (d.alarm ≡ c.alarm) ⊎ (d.alarm ≡ None)
+  unseen : (more : List Label) → flat_map seen_of_label (said ++ more) ≡ flat_map seen_of_label more
+
+tick_shape : (c : Core) → TickShape c (tick c).0 (tick c).1
+tick_shape c = by_alarm c.alarm refl
+  where
+    by_due : (a : Alarm) → c.alarm ≡ Some a → (b : Bool) → (x : Core × List Label)
+        → x ≡ (if b then (record (core_after_pend (record c { time = suc c.time }) a.irq) { alarm = None }, Rang ∷ [])
+        else (record c { time = suc c.time }, [])) → TickShape c x.0 x.1
+    by_due a there true x e =
+        subst (λ (y : Core × List Label). TickShape c y.0 y.1) (sym e)
+        (record { core = refl; requests = length-set c.pending a.irq true; alarm = inr refl; unseen = λ more. refl })
+    by_due a there false x e =
+        subst (λ (y : Core × List Label). TickShape c y.0 y.1) (sym e)
+        (record { core = refl; requests = refl; alarm = inl refl; unseen = λ more. refl })
+
+    by_alarm : (o : Option Alarm) → c.alarm ≡ o
+        → TickShape c (ring (record c { time = suc c.time }) o).0 (ring (record c { time = suc c.time }) o).1
+    by_alarm None e = record { core = refl; requests = refl; alarm = inl refl; unseen = λ more. refl }
+    by_alarm (Some a) e =
+        by_due a e (nat_le a.instant (suc c.time)) (ring (record c { time = suc c.time }) (Some a)) refl
+
+-- the word of an alarm is a word
+alarm_small : (img : Image) (o : Option Alarm) → IsAlarmOf img o → alarm_word o < 2 ^ 32
+alarm_small img None h = omega arith
+alarm_small img (Some a) h = h.0
+
+-- what a tick pends is not compared
+pending_unseen : (img : Image) (time : ℕ) (o : Option Alarm) → IsAlarmOf img o → (seen : List Seen)
+    → compared (timer_irq img.code) (Returned systick ∷ (requested time o ++ Entered systick ∷ seen))
+    ≡ compared (timer_irq img.code) seen
+pending_unseen img time None h seen = refl
+pending_unseen img time (Some a) h seen = by_due (nat_le a.instant time)
+  where
+    by_due : (b : Bool)
+        → compared (timer_irq img.code) ((if b then Posted a.irq ∷ [] else []) ++ Entered systick ∷ seen)
+        ≡ compared (timer_irq img.code) seen
+    by_due false = refl
+    by_due true =
+        let rest = compared (timer_irq img.code) seen in
+        ap (λ (timer : Option ℕ). if not (is_some_and (λ t. t == a.irq) timer) then Posted a.irq ∷ rest else rest) h.1
+        ∙ ap (λ (b : Bool). if not b then Posted a.irq ∷ rest else rest) (same_number a.irq a.irq refl)
 
 -- what an entry pushes are words
 entry_words_small : (e : ℕ) (m : Machine) → HoldsWords m → m.address < 2 ^ 32 → m.exception < 2 ^ 9 → (k : ℕ)
@@ -61,7 +110,7 @@ entry_words_small e m words low small k =
 
 module _ (img : Image) (target : Target) (p : Program) (ceiling : ℕ) (fits : List Happening → Bool) (s : Moment)
     (m : Machine) (there : IsInPlace img target p) (no_alarms : HasNoAlarms img) (even_frames : HasEvenFrames img)
-    (good : IsGood img ceiling s) (w : IsWhere img target p s m) (no_alarm : s.core.alarm ≡ None)
+    (good : IsGood img ceiling s) (w : IsWhere img target p s m)
     (fits_in : s.core.time + 2 < 2 ^ 32) (ticks : taken m ≡ Some systick) where
   abbrev at : Outside
   at = outside img target
@@ -74,6 +123,9 @@ module _ (img : Image) (target : Target) (p : Program) (ceiling : ℕ) (fits : L
 
   abbrev highest : ℕ
   highest = stack_top img target
+
+  abbrev inputs : List Input
+  inputs = target.inputs
 
   abbrev c : Core
   c = s.core
@@ -96,7 +148,8 @@ module _ (img : Image) (target : Target) (p : Program) (ceiling : ℕ) (fits : L
   eights : m.register 13 % 8 ≡ 0
   eights =
       phase_is_eight at bottom img pl p there.has even_frames no_alarms c w.top m
-      (top_is_eight at bottom highest img pl p c w.top m s.takings c.below w.waiting highest_eight) good.frames w.phase
+      (top_is_eight at bottom highest inputs img pl p c w.top m s.takings c.below w.waiting highest_eight) good.frames
+      w.phase
 
   room : 40 ≤ m.register 13
   room = omega (arith, within.low, there.reach, there.image.above_zero)
@@ -104,15 +157,26 @@ module _ (img : Image) (target : Target) (p : Program) (ceiling : ℕ) (fits : L
   cells_below : at.cells ≤ at.time
   cells_below = omega (arith, there.laid.time)
 
-  pub core_is : d ≡ record c { time = suc c.time }
-  core_is = ap (λ (x : Core × List Label). x.0) (tick_is c no_alarm)
+  shape : TickShape c d (tick c).1
+  shape = tick_shape c
+
+  core_is : d ≡ record c { time = suc c.time; alarm = d.alarm; pending = d.pending }
+  core_is = shape.core
+
+  pub time_is : d.time ≡ suc c.time
+  time_is = ap (λ (y : Core). y.time) core_is
+
+  alarm_then : IsAlarmOf img d.alarm
+  alarm_then =
+      ⊎_elim (λ (e : d.alarm ≡ c.alarm). subst (IsAlarmOf img) (sym e) w.alarm)
+      (λ (e : d.alarm ≡ None). subst (IsAlarmOf img) (sym e) tt) shape.alarm
 
   pub once : TicksAtOnce p img at c m
   once =
       ticks_are_one_event p img at (timer_irq img.code) c m w.agrees w.requests (record {
         taken = ticks;
         highest = w.tick;
-        exception = exception_is at bottom highest img pl p c w.top m s.takings c.below w.waiting;
+        exception = exception_is at bottom highest inputs img pl p c w.top m s.takings c.below w.waiting;
         address = w.placed.0;
         aligned = omega (arith, eights);
         room = omega (arith, room);
@@ -134,8 +198,7 @@ module _ (img : Image) (target : Target) (p : Program) (ceiling : ℕ) (fits : L
         port_is_no_request = λ e. there.laid.port_is_no_request (sym there.has.port ∙ e);
       }) (record { time = shows.time; alarm = shows.alarm }) (record {
         time = fits_in;
-        alarm = subst (λ (o : Option Alarm). IfSome o (λ a. (a.instant < 2 ^ 32) × (timer_irq img.code ≡ Some a.irq)
-            × (a.irq < IRQ_NUMBERS))) (sym no_alarm) tt;
+        alarm = w.alarm;
       })
 
   abbrev pub tick_last : Machine
@@ -153,7 +216,7 @@ module _ (img : Image) (target : Target) (p : Program) (ceiling : ℕ) (fits : L
     room = omega (arith, room);
     address = w.placed.0;
     exception = subst (λ (x : ℕ). x < 2 ^ 9)
-        (sym (exception_is at bottom highest img pl p c w.top m s.takings c.below w.waiting))
+        (sym (exception_is at bottom highest inputs img pl p c w.top m s.takings c.below w.waiting))
         (number_is_small m c.below w.agrees.values);
   }
 
@@ -184,15 +247,13 @@ module _ (img : Image) (target : Target) (p : Program) (ceiling : ℕ) (fits : L
   word_small k =
       ⊎_elim
       (λ (e : k ≡ at.time / 4).
-      subst (λ (x : ℕ). x < 2 ^ 32) (sym (ap last.memory e ∙ (t.tells.time ∙ ap (λ (y : Core). y.time) core_is)))
+      subst (λ (x : ℕ). x < 2 ^ 32) (sym (ap last.memory e ∙ (t.tells.time ∙ time_is)))
       (omega (arith, fits_in)))
       (λ (e : k ≢ at.time / 4).
       ⊎_elim
       (λ (f : k ≡ (at.time + 4) / 4).
       subst (λ (x : ℕ). x < 2 ^ 32)
-      (sym (ap last.memory f ∙ (t.tells.alarm ∙ (ap (λ (y : Core). alarm_word y.alarm) core_is ∙ ap alarm_word
-      no_alarm))))
-      (omega arith))
+      (sym (ap last.memory f ∙ t.tells.alarm)) (alarm_small img d.alarm alarm_then))
       (λ (f : k ≢ (at.time + 4) / 4).
       subst (λ (x : ℕ). x < 2 ^ 32) (sym (t.others k (aside k e f)))
       (entry_words_small systick m w.words w.placed.1 can.exception k))
@@ -278,31 +339,25 @@ module _ (img : Image) (target : Target) (p : Program) (ceiling : ℕ) (fits : L
     time = t.tells.time;
     alarm = t.tells.alarm;
     pending = λ irq l. t.agrees.pending irq
-        (omega (arith, l, ap (λ (y : Core). length y.pending) core_is, w.requests));
+        (omega (arith, l, shape.requests, w.requests));
     words = words_last;
   }
 
-  phase_now : (again : Phase at bottom img pl p d w.top last) × (kept_words at bottom img pl p c w.top m w.phase
-      ≤ kept_words at bottom img pl p d w.top last again)
-  phase_now = phase_is_kept at bottom img pl p c d w.top m last laid there.has.port ran w.phase
-
   pub where_last : IsWhere img target p (record { core = d; last = s.last; takings = s.takings }) last
   where_last =
-      is_where_on img target p there s m last w d s.last phase_now.0
-      (subst (λ (k : ℕ). settled_words s.last k ≤ kept_words at bottom img pl p d w.top last phase_now.0)
-      (sym (ap (λ (y : Core). length y.processor.slots) core_is)) (omega (arith, w.fresh, phase_now.1)))
+      is_where_on img target p there s m last w d s.last
+      (phase_is_kept at bottom img pl p c d w.top m last laid there.has.port ran w.phase).0
+      (fresh_is_kept at bottom img pl p c d w.top m last laid there.has.port ran highest inputs s.last w.phase w.fresh)
       (ticks_keep_above at img w.top c m last cells_below within.high w.agrees t) keeps words_last
       (subst (λ (a : ℕ). (a % 2 ≡ 0) × (a < 2 ^ 32)) (sym t.address) w.placed) (tick_leaves c) ran.as_many
-      (ap (λ (y : Core). length y.pending) core_is) (ap (λ (y : Core). y.stopped) core_is)
+      shape.requests (ap (λ (y : Core). y.stopped) core_is) shape.alarm
 
   pub frame_deep : last.register 13 ≤ (entered systick m).register 13 + 32
   frame_deep = omega (arith, t.registers 13, pushed_stack systick m can, can.room)
 
   pub seen_is : compared (timer_irq img.code) last.seen ≡ compared (timer_irq img.code) m.seen
   seen_is =
-      ap (compared (timer_irq img.code)) t.seen
-      ∙ ap (λ (o : Option Alarm). compared (timer_irq img.code)
-      (Returned systick ∷ (requested (suc c.time) o ++ Entered systick ∷ m.seen))) no_alarm
+      ap (compared (timer_irq img.code)) t.seen ∙ pending_unseen img (suc c.time) c.alarm w.alarm m.seen
 
 -- the moment after a tick, and what is shown of it
 pub tick_moment : (img : Image) (s : Moment)
@@ -310,11 +365,10 @@ pub tick_moment : (img : Image) (s : Moment)
 unfolding happen
 tick_moment img s = refl
 
-pub tick_shown : (img : Image) (s : Moment) (more : List Happening) → s.core.alarm ≡ None
+pub tick_shown : (img : Image) (s : Moment) (more : List Happening)
     → flat_map seen_of_label (shown img s (Comes Tick ∷ more))
     ≡ flat_map seen_of_label (shown img (moment_after img s (Comes Tick)) more)
 unfolding happen
-tick_shown img s more e =
-    ap (λ (x : Core × List Label). flat_map seen_of_label
-    ((Ticked ∷ x.1) ++ shown img (record { core = (tick s.core).0; last = s.last; takings = s.takings }) more))
-    (tick_is s.core e)
+tick_shown img s more =
+    (tick_shape s.core).unseen
+    (shown img (record { core = (tick s.core).0; last = s.last; takings = s.takings }) more)

@@ -14,6 +14,7 @@ use Rattle.rt_core.specs.Transfer.{core_after_entry}
 use Rattle.rt_ids.specs.Operation.{number_of}
 use Rattle.rt_native.specs.Service.{stub}
 use Rattle.rt_native.specs.declared.outside.Outside.{Outside}
+use Rattle.rt_native.specs.declared.target.Input.{Input}
 use Rattle.rt_thumb.specs.Exceptions.{external, entered, popped, flags_of, even, with_words, status_word}
 use Rattle.rt_thumb.specs.Exceptions.{return_to_thread, return_to_handler}
 use Rattle.rt_thumb.specs.Machine.{Machine, Flags, word_at, with_word, with_register}
@@ -148,10 +149,11 @@ module _ (at : Outside) (priority top : ℕ) (m n : Machine) (keeps : KeepsAbove
   }
 
 -- Jobs that wait are kept.
-module _ (at : Outside) (bottom highest : ℕ) (img : Image) (places : List ℕ) (p : Program) (port : p.port ≡ at.port)
+module _ (at : Outside) (bottom highest : ℕ) (inputs : List Input) (img : Image) (places : List ℕ) (p : Program)
+    (port : p.port ≡ at.port)
   where
     abbrev Jobs : List Taking → List Context → Core → ℕ → Machine → Type 0
-    Jobs takings below c top m = Waiting at bottom highest img places p takings below c top m
+    Jobs takings below c top m = Waiting at bottom highest inputs img places p takings below c top m
 
     -- the next one
     module _ (priority : ℕ) (x : Context) (below : List Context) (c d : Core) (top : ℕ) (m n : Machine)
@@ -235,7 +237,8 @@ module _ (at : Outside) (bottom highest : ℕ) (img : Image) (places : List ℕ)
           subst (λ (y : ℕ). y ≤ next) (sym stack) fits,
           (
             (phase_is_kept at bottom img places p there there_now next back back_now laid port ran phase.0).0,
-            fresh_is_kept at bottom img places p there there_now next back back_now laid port ran highest taking.last
+            fresh_is_kept at bottom img places p there there_now next back back_now laid port ran highest inputs
+                taking.last
                 phase.0 phase.1,
           ),
           kept takings below there there_now next back back_now laid as_many stopped above
@@ -245,9 +248,11 @@ module _ (at : Outside) (bottom highest : ℕ) (img : Image) (places : List ℕ)
         )
 
 pub waiting_is_kept : WaitingIsKept
-waiting_is_kept at bottom highest img places p takings below c d top m n laid port as_many stopped keeps shown words
+waiting_is_kept at bottom highest inputs img places p takings below c d top m n laid port as_many stopped keeps shown
+    words
     jobs =
-    kept at bottom highest img places p port takings below c d top m n laid as_many stopped keeps shown words jobs
+    kept at bottom highest inputs img places p port takings below c d top m n laid as_many stopped keeps shown words
+    jobs
 
 -- An entry. No other exception that is active has its number.
 all_stay : (e : ℕ) (es : List ℕ) → AllByRecursion (λ x. x ≢ e) es → filter (λ x. not (nat_eq x e)) es ≡ es
@@ -448,12 +453,12 @@ module _ (at : Outside) (bottom : ℕ) (img : Image) (places : List ℕ) (p : Pr
     active = active_is;
   }
 
-  pub added : (highest : ℕ) (takings : List Taking) (last : Last)
-      → IsFresh at bottom highest img places p last c top m phase
-      → Waiting at bottom highest img places p takings c.below c top m
-      → Waiting at bottom highest img places p (record { base_priority = priority; last = last } ∷ takings)
+  pub added : (highest : ℕ) (inputs : List Input) (takings : List Taking) (last : Last)
+      → IsFresh at bottom highest inputs img places p last c top m phase
+      → Waiting at bottom highest inputs img places p takings c.below c top m
+      → Waiting at bottom highest inputs img places p (record { base_priority = priority; last = last } ∷ takings)
       (context_of c irq h ∷ c.below) core_inside frame inside
-  added highest takings last fresh jobs = (
+  added highest inputs takings last fresh jobs = (
     omega (arith, stack_is, can.stack),
     subst (λ (x : ℕ). x < 2 ^ 8) shown.base_priority words.base_priority,
     refl,
@@ -465,9 +470,11 @@ module _ (at : Outside) (bottom : ℕ) (img : Image) (places : List ℕ) (p : Pr
     omega (arith, fits, registers_are 13),
     (
       (phase_is_kept at bottom img places p c core_then top m after_it laid port others_ran phase).0,
-      fresh_is_kept at bottom img places p c core_then top m after_it laid port others_ran highest last phase fresh,
+      fresh_is_kept at bottom img places p c core_then top m after_it laid port others_ran highest inputs last phase
+          fresh,
     ),
-    waiting_is_kept at bottom highest img places p takings c.below c core_then top m after_it laid port refl refl above
+    waiting_is_kept at bottom highest inputs img places p takings c.below c core_then top m after_it laid port refl
+        refl above
         shown_then words_after jobs,
   )
 
@@ -554,7 +561,8 @@ entry_begins at bottom img places p to irq h c top m code laid can low inactive 
     to below room lies
 
 pub entry_adds_a_job : EntryAddsAJob
-entry_adds_a_job at bottom highest img places p takings last irq h c top m laid port can low inactive unmasked words
+entry_adds_a_job at bottom highest inputs img places p takings last irq h c top m laid port can low inactive unmasked
+    words
     fits within phase fresh jobs =
     added at bottom img places p irq h c top m laid port can low inactive unmasked words fits within phase highest
-    takings last fresh jobs
+    inputs takings last fresh jobs

@@ -15,9 +15,11 @@ use Rattle.rt_thumb.specs.Step.{Program}
 use Rattle.rt_thumb.specs.declared.instruction.Instruction.{Instruction}
 use Rattle.rt_trace.specs.declared.item.What.{What}
 
+-- What changes a job's own alone changes nothing above it.
 abbrev pub PrivateKeepsAbove : Type 0
 PrivateKeepsAbove = (at : Outside) (floor top : ℕ) (m n : Machine) → ChangesItsOwn floor top m n → KeepsAbove at top m n
 
+-- What leaves to others what is theirs changes nothing above the job, whatever others see of it.
 abbrev pub StepsKeepAbove : Type 0
 StepsKeepAbove =
     (at : Outside) (top : ℕ) (said : Option What) (m n : Machine) → LeavesOthers at top said m n → KeepsAbove at top m n

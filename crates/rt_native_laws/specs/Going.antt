@@ -15,7 +15,7 @@ use Rattle.rt_native.specs.declared.outside.Outside.{Outside}
 use Rattle.rt_native_laws.specs.Doing.{RaisesOnly, seen_of}
 use Rattle.rt_native_laws.specs.Moments.{instruction_at, last_after, settled_words}
 use Rattle.rt_native_laws.specs.Own.{ChangesItsOwn, Executes, Spans}
-use Rattle.rt_native_laws.specs.Phases.{Phase, IsDone, IsButForWords, kept_words}
+use Rattle.rt_native_laws.specs.Phases.{Phase, IsDone, IsButForWords, IsNew, IsNoReading, kept_words}
 use Rattle.rt_native_laws.specs.Standing.{IsLaidOut, IsBeside}
 use Rattle.rt_thumb.specs.Exceptions.{systick}
 use Rattle.rt_thumb.specs.Instruction.{IsEncodable}
@@ -80,7 +80,7 @@ module _ (at : Outside) (bottom : ℕ) (img : Image) (places : List ℕ) (p : Pr
     pub core : Core
     pub words : IsButForWords kept c core
     pub phase : Phase at bottom img places p core top n
-    pub fresh : kept ≤ kept_words at bottom img places p core top n phase
+    pub fresh : IsNew at bottom img places p core top n kept phase
     pub floor : ℕ
     pub deep : bottom ≤ floor
     pub unseen : ChangesItsOwn floor top m n
@@ -89,21 +89,23 @@ module _ (at : Outside) (bottom : ℕ) (img : Image) (places : List ℕ) (p : Pr
   -- settled.
   pub record IsOneStep (d : Core) (said : Option What) : Type 0 where
     pub phase : Phase at bottom img places p d top n
-    pub fresh : settled_words (last_after img (instruction_at img c)) (length d.processor.slots)
-        ≤ kept_words at bottom img places p d top n phase
+    pub fresh : IsNew at bottom img places p d top n
+        (settled_words (last_after img (instruction_at img c)) (length d.processor.slots)) phase
     pub others : LeavesOthers at top said m n
 
   pub data IsOneStepOrNone (kept : ℕ) (d : Core) (said : Option What) : Type 0 where
     Nothing : IsNothing kept → IsOneStepOrNone kept d said
     OneStep : IsOneStep d said → IsOneStepOrNone kept d said
 
--- A machine instruction of a job, in whatever phase the job is, is nothing to the core or the step that it takes.
+-- A machine instruction of a job, in whatever phase the job is, is nothing to the core or the step that it takes; but
+-- where a handler reads inputs a word comes into a cell, of which Inputs.antt tells.
 abbrev pub OneEventIsOneStepOrNone : Type 0
 OneEventIsOneStepOrNone =
     (at : Outside) (bottom : ℕ) (img : Image) (places : List ℕ) (p : Program) (i : Instr) (c d : Core)
     (said : Option What) (top : ℕ) (m n : Machine) (executed : Instruction)
     → HasCode at img places p → IsLaidOut at bottom (length c.processor.cells) → IsPlain i
-    → StepsBy img i c d said → (phase : Phase at bottom img places p c top m) → Executes p executed m n
+    → StepsBy img i c d said → (phase : Phase at bottom img places p c top m)
+    → IsNoReading at bottom img places p c top m phase → Executes p executed m n
     → IsOneStepOrNone at bottom img places p c top m n (kept_words at bottom img places p c top m phase) d said
 
 -- `mark` has no code: where the core steps over one, the job is at its phase as before.

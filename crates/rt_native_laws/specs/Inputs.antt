@@ -1,98 +1,34 @@
 -- What runs first as an interrupt is taken whose handler has inputs: for each of them a word is read from a device's
 -- register, and goes into its cell. The core has done the entry; each store is a word that comes into a cell of it from
 -- outside. Behind the last the frame comes into being.
-use Rattle.std.specs.Prelude.{◌≡◌, ◌≢◌, ◌==◌, ℕ, ◌+◌, ◌*◌, ◌%◌, ◌^◌, ◌<◌, ◌≤◌, ◌⊎◌, false, List, [], ◌∷◌, ◌++◌}
-use Rattle.std.specs.Prelude.{drop, flat_map}
-use Rattle.std.specs.Prelude.{length, slice_index, Some, None, ⊤}
+use Rattle.std.specs.Prelude.{◌≡◌, ◌≢◌, ◌==◌, ℕ, ◌+◌, ◌*◌, ◌^◌, ◌<◌, ◌≤◌, ◌⊎◌, false, List}
+use Rattle.std.specs.Prelude.{length, Some, None}
 use Rattle.std.specs.List.{AllByRecursion, filter}
 use Rattle.rt_code.specs.Image.{Image}
 use Rattle.rt_code.specs.declared.image.Handler.{Handler}
 use Rattle.rt_core.specs.Core.{Core}
 use Rattle.rt_core.specs.Transfer.{core_after_entry, core_after_word}
-use Rattle.rt_native.specs.Sequences.{cell}
-use Rattle.rt_native.specs.Service.{read_input, stub}
+use Rattle.rt_native.specs.Service.{stub}
 use Rattle.rt_native.specs.declared.outside.Outside.{Outside}
 use Rattle.rt_native.specs.declared.target.Input.{Input}
-use Rattle.rt_native_laws.specs.Doing.{with_slots}
 use Rattle.rt_native_laws.specs.Going.{HasCode, LeavesOthers}
 use Rattle.rt_native_laws.specs.Own.{Executes, Spans}
 use Rattle.rt_native_laws.specs.Phases.{IsEntering, OthersRan, Phase}
+use Rattle.rt_native_laws.specs.Reading.{AtLoad, IsInput, IsReading, Reading}
 use Rattle.rt_native_laws.specs.Saving.{CanBeInterrupted}
-use Rattle.rt_native_laws.specs.Standing.{IsLaidOut, StandsFor, HoldsWords}
+use Rattle.rt_native_laws.specs.Standing.{IsLaidOut, HoldsWords}
 use Rattle.rt_thumb.specs.Exceptions.{external, entered}
 use Rattle.rt_thumb.specs.Machine.{Machine, word_at}
 use Rattle.rt_thumb.specs.Step.{Program}
 use Rattle.rt_thumb.specs.declared.instruction.Instruction.{Instruction}
 
--- an input's cell is there, and its register is at the address of a word
-pub record IsInput (cells : ℕ) (input : Input) : Type 0 where
-  pub cell : input.cell < cells
-  pub aligned : input.address % 4 ≡ 0
-  pub address : input.address < 2 ^ 32
-
--- which instruction is next in the reading of an input: the two halves of its register's address, the load, the two
--- halves of its cell's address, and the store
-pub data Reading : Type 0 where
-  AtLow : Reading
-  AtTop : Reading
-  AtLoad : Reading
-  AtCellLow : Reading
-  AtCellTop : Reading
-  AtStore : Reading
-
--- how many are behind
-abbrev pub passed : Reading → ℕ
-passed AtLow = 0
-passed AtTop = 1
-passed AtLoad = 2
-passed AtCellLow = 3
-passed AtCellTop = 4
-passed AtStore = 5
-
--- what r0 and r1 hold, of an input and the word that was read
-module _ (at : Outside) (input : Input) (value : ℕ) (m : Machine) where
-  abbrev pub Holds : Reading → Type 0
-  Holds AtLow = ⊤
-  Holds AtTop = m.register 1 ≡ input.address % 2 ^ 16
-  Holds AtLoad = m.register 1 ≡ input.address
-  Holds AtCellLow = m.register 0 ≡ value
-  Holds AtCellTop = (m.register 0 ≡ value) × (m.register 1 ≡ cell at input.cell % 2 ^ 16)
-  Holds AtStore = (m.register 0 ≡ value) × (m.register 1 ≡ cell at input.cell)
-
--- what lies outside, the lowest address of the stack, an image, the places of its code, and a program; a core at a job,
--- where the job's frames end, and the processor as the job sees it
-module _ (at : Outside) (bottom : ℕ) (img : Image) (places : List ℕ) (p : Program) (c : Core) (top : ℕ)
-    (m : Machine) where
-  -- The job is a handler that was just entered, as the core has seen, and it reads an input, with more behind it. But
-  -- for its frame, which has still to come into being, and its address the processor stands for the core.
-  pub record IsReading : Type 0 where
-    pub to : ℕ
-    pub irq : ℕ
-    pub handler : Handler
-    pub input : Input
-    pub more : List Input
-    pub inputs : AllByRecursion (IsInput (length c.processor.cells)) (input ∷ more)
-    pub stage : Reading
-    pub value : ℕ
-    pub holds : Holds at input value m stage
-    pub code : Spans p m.address
-        (drop (passed stage) (read_input at input)
-        ++ (flat_map (read_input at) more ++ stub at [] places to irq (Some handler))) to
-    pub low : to < 0xE0000000
-    pub laid : IsLaidOut at bottom (length c.processor.cells)
-    pub entry : c.processor.address ≡ handler.entry
-    pub frame : length c.processor.slots ≡ handler.frame
-    pub free : c.caller ≡ None
-    pub room : bottom + 4 * handler.frame ≤ m.register 13
-    pub stands : StandsFor at bottom places (with_slots at bottom img places p [] c)
-        (record m { address = slice_index places handler.entry })
-    pub ends : m.register 13 ≡ top
-    pub settled : m.is_unsettled ≡ false
-    pub words : HoldsWords m
-
+-- what lies outside, the lowest address of the stack, an image, the places of its code, and a program; all inputs that
+-- are declared; a core at a job, where the job's frames end, and the processor as the job sees it
+module _ (at : Outside) (bottom : ℕ) (img : Image) (places : List ℕ) (p : Program) (declared : List Input) (c : Core)
+    (top : ℕ) (m : Machine) where
   -- it reads inputs, or has read all and makes its frame
   pub data IsAtInputs : Type 0 where
-    Reads : IsReading → IsAtInputs
+    Reads : (x : IsReading at bottom img places p c top m) → x.declared ≡ declared → IsAtInputs
     Enters : IsEntering at bottom img places p c top m → IsAtInputs
 
 -- the word that has been read behind a stage: the load reads the device's register
@@ -103,24 +39,24 @@ read_behind stage input value m = value
 -- A machine instruction of a job that reads an input is nothing to the core, or the store by which the word that was
 -- read comes into its cell.
 pub record ReadingGoes (at : Outside) (bottom : ℕ) (img : Image) (places : List ℕ) (p : Program) (c : Core) (top : ℕ)
-    (stage : Reading) (input : Input) (value : ℕ) (m n : Machine) : Type 0 where
+    (stage : Reading) (input : Input) (value : ℕ) (declared : List Input) (m n : Machine) : Type 0 where
   pub phase : ((again : IsReading at bottom img places p c top n) × (again.input ≡ input)
-      × (again.value ≡ read_behind stage input value m))
-      ⊎ IsAtInputs at bottom img places p (core_after_word c input.cell value) top n
+      × (again.value ≡ read_behind stage input value m) × (again.declared ≡ declared))
+      ⊎ (IsAtInputs at bottom img places p declared (core_after_word c input.cell value) top n × (value < 2 ^ 32))
   pub others : LeavesOthers at top None m n
 
 abbrev pub ReadingGoesOn : Type 0
 ReadingGoesOn =
     (at : Outside) (bottom : ℕ) (img : Image) (places : List ℕ) (p : Program) (c : Core) (top : ℕ) (m n : Machine)
     (executed : Instruction) → HasCode at img places p → (x : IsReading at bottom img places p c top m)
-    → Executes p executed m n → ReadingGoes at bottom img places p c top x.stage x.input x.value m n
+    → Executes p executed m n → ReadingGoes at bottom img places p c top x.stage x.input x.value x.declared m n
 
 -- What others do leaves a job at its input.
 abbrev pub ReadingIsKept : Type 0
 ReadingIsKept =
     (at : Outside) (bottom : ℕ) (img : Image) (places : List ℕ) (p : Program) (c d : Core) (top : ℕ) (m n : Machine)
-    → IsReading at bottom img places p c top m → OthersRan at (m.register 13) top c d m n
-    → IsReading at bottom img places p d top n
+    → (x : IsReading at bottom img places p c top m) → OthersRan at (m.register 13) top c d m n
+    → (again : IsReading at bottom img places p d top n) × (again.declared ≡ x.declared)
 
 -- An interrupt is taken, and its entry leads to where its inputs are read: there the job begins.
 abbrev pub EntryReadsInputs : Type 0
@@ -133,5 +69,5 @@ EntryReadsInputs =
     → AllByRecursion (IsInput (length c.processor.cells)) (filter (λ i. i.irq == irq) inputs)
     → Spans p (entered (external irq) m).address (stub at inputs places to irq (Some h)) to
     → bottom + 4 * h.frame + 32 ≤ m.register 13
-    → IsAtInputs at bottom img places p (core_after_entry c irq h) ((entered (external irq) m).register 13)
+    → IsAtInputs at bottom img places p inputs (core_after_entry c irq h) ((entered (external irq) m).register 13)
     (entered (external irq) m)

@@ -7,6 +7,7 @@ use Rattle.rt_code.specs.declared.instr.Instr.TheVariants as instr
 use Rattle.rt_core.specs.Core.{Core, Context}
 use Rattle.rt_native.specs.Frames.{handler_words}
 use Rattle.rt_native.specs.declared.outside.Outside.{Outside}
+use Rattle.rt_native.specs.declared.target.Input.{Input}
 use Rattle.rt_native_laws.specs.Doing.{CanCall, IsBody, with_slots}
 use Rattle.rt_native_laws.specs.Going.{HasCode, IsNothing, IsOneStep, IsOneStepOrNone, StepsBy}
 use Rattle.rt_native_laws.specs.Moments.{Last, Taking}
@@ -56,21 +57,23 @@ CallBegins =
 
 -- An exception return, where the masks are as they were when its handler was entered: what waited last runs on, in the
 -- phase in which it was, and the others wait as before; the core after its own return is at the same.
-pub record Resumes (at : Outside) (bottom highest : ℕ) (img : Image) (places : List ℕ) (p : Program)
+pub record Resumes (at : Outside) (bottom highest : ℕ) (inputs : List Input) (img : Image) (places : List ℕ)
+    (p : Program)
     (last : Last) (takings : List Taking) (below : List Context) (d : Core) (n : Machine) : Type 0 where
   pub top : ℕ
   pub phase : Phase at bottom img places p d top n
-  pub fresh : IsFresh at bottom highest img places p last d top n phase
-  pub others : Waiting at bottom highest img places p takings below d top n
+  pub fresh : IsFresh at bottom highest inputs img places p last d top n phase
+  pub others : Waiting at bottom highest inputs img places p takings below d top n
 
 abbrev pub ReturnResumes : Type 0
 ReturnResumes =
-    (at : Outside) (bottom highest : ℕ) (img : Image) (places : List ℕ) (p : Program) (taking : Taking)
+    (at : Outside) (bottom highest : ℕ) (inputs : List Input) (img : Image) (places : List ℕ) (p : Program)
+    (taking : Taking)
     (takings : List Taking) (x : Context) (below : List Context) (c d : Core) (said : Option What) (top : ℕ)
     (m n : Machine)
     → StepsBy img instr.Ret c d said → c.below ≡ x ∷ below → c.caller ≡ None
     → c.processor.basepri ≡ taking.base_priority → c.processor.primask ≡ false
     → m.base_priority ≡ taking.base_priority → m.is_masked ≡ false → m.register 13 ≡ top
     → returned (m.register 14) m ≡ Some n
-    → Waiting at bottom highest img places p (taking ∷ takings) (x ∷ below) c top m
-    → Resumes at bottom highest img places p taking.last takings below d n
+    → Waiting at bottom highest inputs img places p (taking ∷ takings) (x ∷ below) c top m
+    → Resumes at bottom highest inputs img places p taking.last takings below d n

@@ -6,6 +6,7 @@ pub mod Opening
 pub mod Saving
 pub mod Ticking
 pub mod Laws
+pub mod Reading
 pub mod Phases
 pub mod Going
 pub mod Waiting
@@ -23,3 +24,5 @@ pub mod EachKind
 pub mod Arriving
 pub mod Relating
 pub mod Alike
+pub mod Owing
+pub mod FromReset

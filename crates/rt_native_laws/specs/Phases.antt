@@ -5,7 +5,7 @@
 -- sections B1.5.6 and B1.5.8), which Saving.antt says are what they were. Below its stack pointer a job has nothing:
 -- there others push. So while a frame comes or goes it is said from the code's first place.
 use Rattle.std.specs.Prelude.{◌≡◌, ℕ, ◌+◌, ◌*◌, ◌%◌, ◌<◌, ◌≤◌, ◌⊎◌, false, List, ◌∷◌, ◌++◌, length}
-use Rattle.std.specs.Prelude.{slice_get, slice_index, slice_index_or, true, [], Option, Some, ⊤}
+use Rattle.std.specs.Prelude.{slice_get, slice_index, slice_index_or, true, [], Option, Some, None, ⊤}
 use Rattle.rt_code.specs.Image.{Image}
 use Rattle.rt_code.specs.declared.image.BodyRow.{BodyRow}
 use Rattle.rt_code.specs.declared.image.Handler.{Handler}
@@ -16,10 +16,12 @@ use Rattle.rt_core.specs.Core.{Core}
 use Rattle.rt_core.specs.Transfer.{core_after_call, may_call, call_fits}
 use Rattle.rt_native.specs.Service.{stub}
 use Rattle.rt_native.specs.declared.outside.Outside.{Outside}
+use Rattle.rt_native.specs.declared.target.Input.{Input}
 use Rattle.rt_native_laws.specs.Doing.{IsAt, CanCall, machine_code}
 use Rattle.rt_native_laws.specs.Opening.{IsAtOpening}
 use Rattle.rt_native_laws.specs.Own.{IsDisturbed, RunsPrivately, AreSteady}
 use Rattle.rt_priorities.specs.Ticking.{alarm_word}
+use Rattle.rt_native_laws.specs.Reading.{IsReading}
 use Rattle.rt_native_laws.specs.Standing.{IsLaidOut, StandsFor, LieFrom, HoldsWords, frames_end}
 use Rattle.rt_thumb.specs.Exceptions.{external}
 use Rattle.rt_thumb.specs.Machine.{Machine, word_at}
@@ -150,12 +152,28 @@ module _ (at : Outside) (bottom : ℕ) (img : Image) (places : List ℕ) (p : Pr
     AlreadyDone : IsDone → Phase
     Entering : IsEntering → Phase
     Calling : IsCalling → Phase
+    Reads : IsReading at bottom img places p c top m → Phase
 
   -- how many words of the frame are the core's, whatever the processor has there
   abbrev pub kept_words : Phase → ℕ
   kept_words (Entering x) = 0
   kept_words (Calling x) = x.body.args
+  kept_words (Reads x) = 0
   kept_words phase = length c.processor.slots
+
+  -- the declared inputs, where it reads some
+  abbrev pub reads_from : Phase → Option (List Input)
+  reads_from (Reads x) = Some x.declared
+  reads_from phase = None
+
+  abbrev pub IsNoReading : Phase → Type 0
+  IsNoReading (Reads x) = ⊥
+  IsNoReading phase = ⊤
+
+  -- so many words are the core's, and no input is read
+  abbrev pub IsNew : ℕ → Phase → Type 0
+  IsNew kept (Reads x) = ⊥
+  IsNew kept phase = kept ≤ kept_words phase
 
 -- An instruction that was still to come is so after others have run.
 abbrev pub ToComeIsKept : Type 0

@@ -2,7 +2,7 @@
 -- theirs, and both have the same interrupts and priorities. It is the invariant of the simulation: at each event of the
 -- processor something happens to the image, or nothing, after which it is so again.
 use Rattle.std.specs.Prelude.{◌≡◌, ℕ, ◌+◌, ◌*◌, ◌%◌, ◌^◌, ◌<◌, ◌≤◌, ◌⊎◌, Bool, true, List, [], ◌++◌, length, reverse}
-use Rattle.std.specs.Prelude.{flat_map, slice_index, Option, Some, None, ⊤}
+use Rattle.std.specs.Prelude.{flat_map, slice_index, Option, Some, None, IfSome, ⊤}
 use Rattle.std.specs.List.{AllByRecursion}
 use Rattle.rt_ids.specs.Event.{Arrive}
 use Rattle.rt_ids.specs.declared.limits.TheConstants.{IRQ_NUMBERS}
@@ -13,8 +13,10 @@ use Rattle.rt_code.specs.declared.image.IrqRow.{IrqRow}
 use Rattle.rt_code.specs.declared.instr.Instr.TheVariants as instr
 use Rattle.rt_core.specs.Core.{Context, Core}
 use Rattle.rt_core.specs.Priority.{pick}
+use Rattle.rt_core.specs.declared.alarm.Alarm.{Alarm}
 use Rattle.rt_native.specs.Layout.{TICK_BYTES, outside, places, stack_top, stub_places}
 use Rattle.rt_native.specs.Program.{vectors}
+use Rattle.rt_native.specs.Service.{timer_irq}
 use Rattle.rt_native.specs.Target.{Target}
 use Rattle.rt_native_laws.specs.Behaving.{HasEvenFrames, StaysGood}
 use Rattle.rt_native_laws.specs.Going.{HasCode}
@@ -33,6 +35,11 @@ use Rattle.rt_thumb.specs.Step.{Program, executed, pended}
 -- a frame, with that of a handler that called, has an even number of words
 abbrev pub IsEvenFrame : Option (List ℕ) → List ℕ → Type 0
 IsEvenFrame caller slots = (length slots + length (words_of caller)) % 2 ≡ 0
+
+-- an alarm's instant is a word, and it is of the interrupt that ticks pend
+abbrev pub IsAlarmOf : Image → Option Alarm → Type 0
+IsAlarmOf img alarm =
+    IfSome alarm (λ a. (a.instant < 2 ^ 32) × (timer_irq img.code ≡ Some a.irq) × (a.irq < IRQ_NUMBERS))
 
 abbrev pub AreEvenBelow : List Context → Type 0
 AreEvenBelow below = AllByRecursion (λ x. IsEvenFrame x.caller x.slots) below
@@ -56,9 +63,11 @@ module _ (img : Image) (target : Target) (p : Program) where
   pub record IsWhere (s : Moment) (m : Machine) : Type 0 where
     pub top : ℕ
     pub phase : Phase (outside img target) lowest img (places img target) p s.core top m
-    pub fresh : IsFresh (outside img target) lowest (stack_top img target) img (places img target) p s.last s.core top m
+    pub fresh : IsFresh (outside img target) lowest (stack_top img target) target.inputs img
+        (places img target) p s.last s.core top m
         phase
-    pub waiting : Waiting (outside img target) lowest (stack_top img target) img (places img target) p s.takings
+    pub waiting : Waiting (outside img target) lowest (stack_top img target) target.inputs img
+        (places img target) p s.takings
         s.core.below s.core top m
     pub agrees : AgreesWith img s.core m
     pub words : HoldsWords m
@@ -66,6 +75,7 @@ module _ (img : Image) (target : Target) (p : Program) where
     pub loaded : IsLoaded img target p m
     pub tick : priority_of m systick ≡ 0
     pub requests : length s.core.pending ≡ IRQ_NUMBERS
+    pub alarm : IsAlarmOf img s.core.alarm
     pub cells : length s.core.processor.cells ≡ length img.cells
     pub frames : AreEvenBelow s.core.below
 
@@ -89,7 +99,6 @@ module _ (img : Image) (target : Target) (p : Program) where
     pub seen : n.seen ≡ reverse (flat_map seen_of_label (shown img s happened)) ++ m.seen
     pub ticks : n.is_pending systick ≡ m.is_pending systick
     pub time : (moment_after_all img s happened).core.time ≡ s.core.time
-    pub alarm : s.core.alarm ≡ None → (moment_after_all img s happened).core.alarm ≡ None
     pub here : IsWhere (moment_after_all img s happened) n
     pub marks : fits happened ≡ true → IsPastMarks (moment_after_all img s happened).core here.top n here.phase
 
@@ -102,12 +111,12 @@ InstructionsLeadOn =
     → fits [] ≡ true → Related img target p s m → pick img s.core ≡ None
     → (n : Machine) × (executed p m ≡ Some n) × LeadsOn img target p fits s m n
 
--- An interrupt is taken, of an image without alarms on a target without inputs: it leads on.
+-- An interrupt is taken, of an image without alarms: it leads on.
 abbrev pub EntriesLeadOn : Type 0
 EntriesLeadOn =
     (img : Image) (target : Target) (p : Program) (ceiling : ℕ) (fits : List Happening → Bool) (s : Moment)
     (m : Machine) (row : IrqRow) (h : Handler) → IsInPlace img target p → HasNoAlarms img → HasEvenFrames img
-    → target.inputs ≡ [] → StaysGood img target.inputs ceiling fits s → fits [] ≡ true
+    → StaysGood img target.inputs ceiling fits s → fits [] ≡ true
     → Related img target p s m → pick img s.core ≡ Some row → row.handler ≡ Some h
     → LeadsOn img target p fits s m (entered (external row.number) m)
 

@@ -57,8 +57,8 @@ module _ (at : Outside) (bottom : ℕ) (reload : Option ℕ) (img : Image) (load
       pub words : HoldsWords m
 
     -- Whatever comes meanwhile, the processor is led to a state in which this is pending. There the thread is between
-    -- two instructions, as the core after reset is, with any words in its frame. The system's registers are as they
-    -- were, but for SysTick's three.
+    -- two instructions, as the core after reset is, with any words in its frame. Memory beside the cells, the time and
+    -- the alarm is as it was, and so are the system's registers, but for SysTick's three.
     pub record LeadsToReset (m : Machine) : Type 0 where
       pub executed : List Instruction
       pub last : Machine
@@ -68,6 +68,10 @@ module _ (at : Outside) (bottom : ℕ) (reload : Option ℕ) (img : Image) (load
       pub long : length slots ≡ img.thread_words
       pub thread : IsDone at bottom img places p (with_slots at bottom img places p slots (model_reset img)) at.cells
           last
+      pub address : last.address ≡ slice_index places 0
+      pub words : HoldsWords last
+      pub memory : (k : ℕ) → (4 * k + 4 ≤ at.cells) ⊎ (at.time + 8 ≤ 4 * k) → 4 * k < 0xE0000000
+          → last.memory k ≡ m.memory k
       pub system : (a : ℕ) → 0xE0000000 ≤ a → (a < 0xE000E010) ⊎ (0xE000E01C ≤ a) → word_at last a ≡ word_at m a
       pub exception : last.exception ≡ m.exception
       pub active : last.active ≡ m.active

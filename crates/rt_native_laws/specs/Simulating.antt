@@ -26,7 +26,7 @@ use Rattle.rt_trace.specs.Label.{Label, Stepped}
 use Rattle.rt_trace.specs.declared.item.What.TheVariants as what
 use Rattle.rt_native_laws.specs.Behaving.{BehavesWell}
 use Rattle.rt_native_laws.specs.Doing.{seen_of}
-use Rattle.rt_native_laws.specs.Inputs.{IsInput}
+use Rattle.rt_native_laws.specs.Reading.{IsInput}
 use Rattle.rt_native_laws.specs.Loading.{IsExecuted}
 use Rattle.rt_native_laws.specs.Moments.{Happening, Comes, Moment, at_reset, moment_after_all, shown}
 use Rattle.rt_native_laws.specs.Moments.{AllCanHappen, with_frame}
@@ -147,10 +147,10 @@ HasNoAlarms img = (n slot irq : ℕ) (note : Option Note) → slice_get img.code
 -- Behind reset native code does what its image does, whatever comes, where the image behaves well: at each event what
 -- others see of the processor is what the image shows, no fault comes, and the stack is no deeper than the image's, but
 -- for a tick's frame. The time does not come to the word that stands for no alarm; one tick may be pending at first. It
--- is said of images without alarms, on targets without inputs.
+-- is said of images without alarms.
 abbrev pub NativeSimulatesWithoutAlarms : Type 0
 NativeSimulatesWithoutAlarms =
     (img : Image) (target : Target) (p : Program) (fits : List Happening → Bool) (words : List ℕ) (m : Machine)
     (events : List processor.Event) → IsImageFor img target p → BehavesWell img target.inputs fits
-    → IsBehindReset img target p words m → HasNoAlarms img → target.inputs ≡ [] → ticks events + 3 < 2 ^ 32
+    → IsBehindReset img target p words m → HasNoAlarms img → ticks events + 3 < 2 ^ 32
     → Simulates img target p fits m events

@@ -98,6 +98,9 @@ module _ (at : Outside) (bottom : ℕ) (img : Image) (places : List ℕ) (p : Pr
     pub debt : c ≡ (if owes then rung irq unpaid else unpaid)
     pub has_come : owes ≡ false → instant ≤ unpaid.time
         → (unpaid.alarm ≡ None) × (slice_index_or unpaid.pending irq false ≡ true)
+    -- the alarm is set still; or its word is none, and it has come or is owed
+    pub set : (unpaid.alarm ≡ Some (record { instant = instant; irq = irq }))
+        ⊎ ((unpaid.alarm ≡ None) × (owes ≡ false → slice_index_or unpaid.pending irq false ≡ true))
     pub knows : Knows at irq instant owes unpaid m stage
     pub laid : IsLaidOut at bottom (length unpaid.processor.cells)
     pub stands : StandsFor at bottom places unpaid (record m { address = slice_index places c.processor.address })
@@ -107,9 +110,10 @@ module _ (at : Outside) (bottom : ℕ) (img : Image) (places : List ℕ) (p : Pr
 
 -- What a machine instruction of a tail is: the job is in the tail still, or its `alarm` is done but for what is
 -- private, and nothing is owed. To the core it is nothing; others see at most a request of the alarm's interrupt.
-pub record TailGoes (at : Outside) (bottom : ℕ) (img : Image) (places : List ℕ) (p : Program) (c : Core) (top irq : ℕ)
-    (m n : Machine) : Type 0 where
-  pub phase : IsInTail at bottom img places p c top n ⊎ IsDone at bottom img places p c top n
+pub record TailGoes (at : Outside) (bottom : ℕ) (img : Image) (places : List ℕ) (p : Program) (c : Core)
+    (top irq instant : ℕ) (owes : Bool) (m n : Machine) : Type 0 where
+  pub phase : ((again : IsInTail at bottom img places p c top n) × (again.irq ≡ irq) × (again.instant ≡ instant)
+      × (again.owes ≡ owes)) ⊎ IsDone at bottom img places p c top n
   pub said : Option What
   pub request : (said ≡ None) ⊎ (said ≡ Some (what.Post irq))
   pub others : LeavesOthers at top said m n
@@ -118,7 +122,14 @@ abbrev pub TailGoesOn : Type 0
 TailGoesOn =
     (at : Outside) (bottom : ℕ) (img : Image) (places : List ℕ) (p : Program) (c : Core) (top : ℕ) (m n : Machine)
     (executed : Instruction) → HasCode at img places p → (x : IsInTail at bottom img places p c top m)
-    → Executes p executed m n → TailGoes at bottom img places p c top x.irq m n
+    → Executes p executed m n → TailGoes at bottom img places p c top x.irq x.instant x.owes m n
+
+-- At each stage there is a machine instruction, and it is no fault.
+abbrev pub TailsAreNoFault : Type 0
+TailsAreNoFault =
+    (at : Outside) (bottom : ℕ) (img : Image) (places : List ℕ) (p : Program) (c : Core) (top : ℕ) (m : Machine)
+    → HasCode at img places p → IsInTail at bottom img places p c top m
+    → (executed : Instruction) × (n : Machine) × Executes p executed m n
 
 -- A machine instruction of an `alarm` that is to come is nothing to the core, or the store of its instant, by which the
 -- core has done it.
@@ -139,6 +150,8 @@ pub record Meanwhile (irq instant : ℕ) (owed owes : Bool) (before after : Core
   pub has_come : owes ≡ false → instant ≤ after.time
       → (after.alarm ≡ None) × (slice_index_or after.pending irq false ≡ true)
   pub none : before.alarm ≡ None → after.alarm ≡ None
+  pub set : (after.alarm ≡ Some (record { instant = instant; irq = irq }))
+      ⊎ ((after.alarm ≡ None) × (owes ≡ false → slice_index_or after.pending irq false ≡ true))
 
 -- This leaves the job in the tail.
 abbrev pub TailIsKept : Type 0
@@ -146,4 +159,6 @@ TailIsKept =
     (at : Outside) (bottom : ℕ) (img : Image) (places : List ℕ) (p : Program) (c d unpaid : Core) (owes : Bool)
     (top : ℕ) (m n : Machine) → (x : IsInTail at bottom img places p c top m)
     → OthersRan at (m.register 13) top x.unpaid unpaid m n → Meanwhile x.irq x.instant x.owes owes x.unpaid unpaid
-    → d ≡ (if owes then rung x.irq unpaid else unpaid) → IsInTail at bottom img places p d top n
+    → d ≡ (if owes then rung x.irq unpaid else unpaid)
+    → (again : IsInTail at bottom img places p d top n) × (again.irq ≡ x.irq) × (again.instant ≡ x.instant)
+    × (again.owes ≡ owes)

@@ -2,7 +2,7 @@
 -- on, which exception entry saved and exception return gives back (ARMv7-M Architecture Reference Manual, sections
 -- B1.5.6 and B1.5.8). What the job above them does leaves them so, and so does an entry.
 use Rattle.std.specs.Prelude.{◌≡◌, ◌≢◌, ℕ, ◌+◌, ◌*◌, ◌%◌, ◌^◌, ◌<◌, ◌≤◌, ◌==◌, false, if◌then◌else◌, List, [], ◌∷◌}
-use Rattle.std.specs.Prelude.{length, slice_index_or, Some}
+use Rattle.std.specs.Prelude.{length, slice_index_or, Some, IfSome}
 use Rattle.std.specs.List.{AllByRecursion}
 use Rattle.rt_code.specs.Image.{Image}
 use Rattle.rt_code.specs.declared.image.Handler.{Handler}
@@ -11,10 +11,11 @@ use Rattle.rt_core.specs.Leading.{in_context}
 use Rattle.rt_core.specs.Transfer.{core_after_entry}
 use Rattle.rt_native.specs.Service.{stub}
 use Rattle.rt_native.specs.declared.outside.Outside.{Outside}
+use Rattle.rt_native.specs.declared.target.Input.{Input}
 use Rattle.rt_native_laws.specs.Going.{HasCode}
 use Rattle.rt_native_laws.specs.Own.{Spans}
-use Rattle.rt_native_laws.specs.Moments.{Last, Taking, settled_words}
-use Rattle.rt_native_laws.specs.Phases.{Phase, kept_words}
+use Rattle.rt_native_laws.specs.Moments.{Began, Last, Taking, settled_words}
+use Rattle.rt_native_laws.specs.Phases.{Phase, kept_words, reads_from}
 use Rattle.rt_native_laws.specs.Saving.{CanBeInterrupted}
 use Rattle.rt_native_laws.specs.Standing.{IsLaidOut, LieFrom, HoldsWords}
 use Rattle.rt_priorities.specs.Ticking.{alarm_word}
@@ -62,11 +63,13 @@ pub record KeepsAbove (at : Outside) (top : ℕ) (m n : Machine) : Type 0 where
 
 -- what lies outside, the lowest address of the stack and the one behind it, an image, the places of its code, and a
 -- program
-module _ (at : Outside) (bottom highest : ℕ) (img : Image) (places : List ℕ) (p : Program) where
-  -- The frame of a job is as new as what the job did last: no word is settled that is not the core's.
+module _ (at : Outside) (bottom highest : ℕ) (inputs : List Input) (img : Image) (places : List ℕ) (p : Program) where
+  -- The frame of a job is as new as what the job did last: no word is settled that is not the core's. And a job that
+  -- reads inputs has done nothing yet, and reads those that there are.
   abbrev pub IsFresh : Last → (c : Core) (top : ℕ) (m : Machine) → Phase at bottom img places p c top m → Type 0
   IsFresh last c top m phase =
-      settled_words last (length c.processor.slots) ≤ kept_words at bottom img places p c top m phase
+      (settled_words last (length c.processor.slots) ≤ kept_words at bottom img places p c top m phase)
+      × IfSome (reads_from at bottom img places p c top m phase) (λ declared. (last ≡ Began) × (declared ≡ inputs))
 
   -- The jobs that were interrupted, the last one first, each with the taking that interrupted it. At the end of the
   -- frames of what runs lie the eight words that exception entry pushed, and LR has EXC_RETURN. The thread's frames end
@@ -93,27 +96,29 @@ PhasesShow =
 -- What runs above interrupted jobs leaves each of them in its phase, whatever the core does meanwhile.
 abbrev pub WaitingIsKept : Type 0
 WaitingIsKept =
-    (at : Outside) (bottom highest : ℕ) (img : Image) (places : List ℕ) (p : Program) (takings : List Taking)
+    (at : Outside) (bottom highest : ℕ) (inputs : List Input) (img : Image) (places : List ℕ) (p : Program)
+    (takings : List Taking)
     (below : List Context) (c d : Core) (top : ℕ) (m n : Machine)
     → IsLaidOut at bottom (length c.processor.cells) → p.port ≡ at.port
     → length d.processor.cells ≡ length c.processor.cells → d.stopped ≡ c.stopped
     → KeepsAbove at top m n → Shows at d n → HoldsWords n
-    → Waiting at bottom highest img places p takings below c top m
-    → Waiting at bottom highest img places p takings below d top n
+    → Waiting at bottom highest inputs img places p takings below c top m
+    → Waiting at bottom highest inputs img places p takings below d top n
 
 -- An interrupt is taken: what it interrupts is a job more that waits, in the phase in which it was, as the core has it
 -- after its own entry.
 abbrev pub EntryAddsAJob : Type 0
 EntryAddsAJob =
-    (at : Outside) (bottom highest : ℕ) (img : Image) (places : List ℕ) (p : Program) (takings : List Taking)
+    (at : Outside) (bottom highest : ℕ) (inputs : List Input) (img : Image) (places : List ℕ) (p : Program)
+    (takings : List Taking)
     (last : Last) (irq : ℕ) (h : Handler) (c : Core) (top : ℕ) (m : Machine)
     → IsLaidOut at bottom (length c.processor.cells) → p.port ≡ at.port → CanBeInterrupted m → m.address < 2 ^ 32
     → AllByRecursion (λ e. e ≢ external irq) m.active → c.processor.primask ≡ false → HoldsWords m
     → m.register 13 ≤ top → top ≤ at.cells
     → (phase : Phase at bottom img places p c top m)
-    → IsFresh at bottom highest img places p last c top m phase
-    → Waiting at bottom highest img places p takings c.below c top m
-    → Waiting at bottom highest img places p
+    → IsFresh at bottom highest inputs img places p last c top m phase
+    → Waiting at bottom highest inputs img places p takings c.below c top m
+    → Waiting at bottom highest inputs img places p
     (record { base_priority = c.processor.basepri; last = last } ∷ takings) (context_of c irq h ∷ c.below)
     (core_after_entry c irq h) ((entered (external irq) m).register 13) (entered (external irq) m)
 

@@ -5,6 +5,7 @@ ghost use Rattle.rt_native_laws.specs.Above.{WordsStay, WordsStayInPrivate, Word
 ghost use Rattle.rt_native_laws.specs.Alike.{StepsAreAlike};
 ghost use Rattle.rt_native_laws.specs.Arriving.{ArrivalsKeepPhases, PendingTicksKeepPhases};
 ghost use Rattle.rt_native_laws.specs.Deep.{PhasesAreWithinFrames, StackIsNoDeeper};
+ghost use Rattle.rt_native_laws.specs.FromReset.{NativeSimulatesFromReset, ResetLeadsBehind};
 ghost use Rattle.rt_native_laws.specs.Inputs.{EntryReadsInputs, ReadingGoesOn, ReadingIsKept};
 ghost use Rattle.rt_native_laws.specs.EachKind.{EachKindGoesOn};
 ghost use Rattle.rt_native_laws.specs.Laws.{SetIsDone, CopyIsDone, CalculationIsDone, JumpIsDone, JumpIfZeroIsDone};
@@ -17,13 +18,15 @@ ghost use Rattle.rt_native_laws.specs.Going.{OneEventIsOneStepOrNone, MarkIsNoEv
 ghost use Rattle.rt_native_laws.specs.Leaving.{BackGoesOn, CallBegins, RetGoesOn, ReturnResumes};
 ghost use Rattle.rt_native_laws.specs.Loading.{LoadedCodeIsThere, LoadedEntriesLead};
 ghost use Rattle.rt_native_laws.specs.Opening.{OpeningIsDone};
+ghost use Rattle.rt_native_laws.specs.Owing.{CeilingsHoldOff, HappeningsAreAlike, NoneAboveSetsAlarms};
+ghost use Rattle.rt_native_laws.specs.Owing.{TicksInTails, TicksLeaveOwed, TicksPay};
 ghost use Rattle.rt_native_laws.specs.Phases.{ToComeIsKept, DoneIsKept, EnteringIsKept, CallingIsKept};
 ghost use Rattle.rt_native_laws.specs.Relating.{EntriesLeadOn, InstructionsLeadOn, LateInstructionsLeadOn};
 ghost use Rattle.rt_native_laws.specs.Relating.{PendingTicksLeadOn, RequestsLeadOn};
 ghost use Rattle.rt_native_laws.specs.Resetting.{ResetHasTwoParts, ResetLeads};
 ghost use Rattle.rt_native_laws.specs.Saving.{EntryPushesBelow, EntryIsUndone};
 ghost use Rattle.rt_native_laws.specs.Simulating.{NativeSimulatesWithoutAlarms};
-ghost use Rattle.rt_native_laws.specs.Tail.{AlarmIsStored, TailGoesOn, TailIsKept};
+ghost use Rattle.rt_native_laws.specs.Tail.{AlarmIsStored, TailGoesOn, TailIsKept, TailsAreNoFault};
 ghost use Rattle.rt_native_laws.specs.Ticking.{TickIsServed};
 ghost use Rattle.rt_native_laws.specs.Waiting.{PhasesShow, WaitingIsKept, EntryAddsAJob, EntryBegins};
 
@@ -121,7 +124,7 @@ pub fn phases_are_kept()
 {}
 
 /// A machine instruction of the job that runs, where no exception is taken before it, is one step of the core or
-/// nothing to it; where one might have been taken already it is nothing.
+/// nothing to it, but for the reading of inputs; where one might have been taken already it is nothing.
 pub fn events_are_steps()
     ensures one { OneEventIsOneStepOrNone }
     ensures mark { MarkIsNoEvent }
@@ -142,6 +145,7 @@ pub fn alarms_are_steps()
     ensures stored { AlarmIsStored }
     ensures tail { TailGoesOn }
     ensures kept { TailIsKept }
+    ensures no_fault { TailsAreNoFault }
 {}
 
 /// As an interrupt is taken whose handler has inputs, each word that a device's register has comes into its cell.
@@ -189,7 +193,7 @@ pub fn others_are_left()
 {}
 
 /// A machine instruction of the job that runs is no fault, and nothing to the core, its step, or the return of its
-/// `ret`: of every kind of instruction but `alarm` and `mark`, and from every phase.
+/// `ret`: of every kind of instruction but `alarm` and `mark`, and from every phase but the reading of inputs.
 pub fn each_kind_goes_on()
     ensures { EachKindGoesOn }
 {}
@@ -213,12 +217,12 @@ pub fn requests_lead_on()
     ensures ticks { PendingTicksLeadOn }
 {}
 
-/// An interrupt is taken, of an image without alarms and inputs, and the processor is where the image is then.
+/// An interrupt is taken, of an image without alarms, and the processor is where the image is then.
 pub fn entries_lead_on()
     ensures { EntriesLeadOn }
 {}
 
-/// Behind reset native code does what its image does, event after event, where there are no alarms and inputs.
+/// Behind reset native code does what its image does, event after event, where there are no alarms.
 pub fn native_simulates()
     ensures { NativeSimulatesWithoutAlarms }
 {}
@@ -226,4 +230,22 @@ pub fn native_simulates()
 /// An alarm that has come changes no step of others, who set none and do not take its interrupt.
 pub fn alarms_change_no_other_step()
     ensures { StepsAreAlike }
+{}
+
+/// While an alarm is owed others are held off by its ceiling, and what happens leads both moments on alike; a tick at
+/// which it is due pays.
+pub fn alarms_are_owed()
+    ensures held_off { CeilingsHoldOff }
+    ensures above { NoneAboveSetsAlarms }
+    ensures alike { HappeningsAreAlike }
+    ensures pay { TicksPay }
+    ensures owed { TicksLeaveOwed }
+    ensures ticks { TicksInTails }
+{}
+
+/// From reset on, whatever interrupts arrive, the code of reset leads to where native code does what its image does; and
+/// from there on it does, where there are no alarms.
+pub fn native_simulates_from_reset()
+    ensures leads { ResetLeadsBehind }
+    ensures simulates { NativeSimulatesFromReset }
 {}

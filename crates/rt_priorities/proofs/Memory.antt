@@ -1,5 +1,5 @@
 -- Memory in which a row was set: the byte and the bit of its interrupt, and nothing else.
-use Rattle.std.proofs.Common.{◌≡◌, ◌≢◌, ℕ, zero, suc, ◌+◌, ◌-◌, ◌*◌, ◌/◌, ◌%◌, ◌^◌, ◌<◌, ◌==◌, max}
+use Rattle.std.proofs.Common.{◌≡◌, ◌≢◌, ℕ, zero, suc, ◌+◌, ◌-◌, ◌*◌, ◌/◌, ◌%◌, ◌^◌, ◌<◌, ◌≤◌, ◌⊎◌, inl, inr, ◌==◌, max}
 use Rattle.std.proofs.Common.{List, [], ◌∷◌, Option, Some, None, is_some, IfSome, if◌then◌else◌}
 use Rattle.std.proofs.Common.{refl, sym, ap, ◌∙◌, arith, ⊎_elim}
 use Rattle.std.specs.Prelude.{bit_or}
@@ -66,6 +66,10 @@ abbrev pub set_at : (ℕ → ℕ) → ℕ → ℕ → ℕ → ℕ
 set_at memory irq value =
     with_bits_at (with_byte_at memory (0xE000E400 + irq) value) (0xE000E100 + 4 * (irq / 32)) (2 ^ (irq % 32))
 
+-- a word lies below the registers of interrupts, or from the system control block on
+abbrev pub IsOutside : ℕ → Type 0
+IsOutside k = (k < 0xE000E100 / 4) ⊎ (0xE000ED00 / 4 ≤ k)
+
 module _ (memory : ℕ → ℕ) (irq value : ℕ) (low : irq < IRQ_NUMBERS) (small : value < 2 ^ 8) where
   -- a word that is that of no bit, or of no byte
   bits_beside : (k : ℕ) (m : ℕ → ℕ) → (k ≡ (0xE000E100 + 4 * (irq / 32)) / 4 → ⊥)
@@ -93,8 +97,11 @@ module _ (memory : ℕ → ℕ) (irq value : ℕ) (low : irq < IRQ_NUMBERS) (sma
       (eq-eqb k ((0xE000E400 + irq) / 4) same)
       ∙ ap (λ j. put (memory j) ((0xE000E400 + irq) % 4) value) (sym same)
 
-  pub set_outside : (k : ℕ) → k < 0xE000E100 / 4 → set_at memory irq value k ≡ memory k
-  set_outside k below =
+  pub set_outside : (k : ℕ) → IsOutside k → set_at memory irq value k ≡ memory k
+  set_outside k (inl below) =
+      bits_beside k (with_byte_at memory (0xE000E400 + irq) value) (λ same. omega arith)
+      ∙ byte_beside k (λ same. omega arith)
+  set_outside k (inr above) =
       bits_beside k (with_byte_at memory (0xE000E400 + irq) value) (λ same. omega arith)
       ∙ byte_beside k (λ same. omega arith)
 
@@ -199,7 +206,7 @@ one_enabled irq other (Some h) memory low small within differs =
     enabled_beside memory irq h.value low small other within differs
 
 one_outside : (irq : ℕ) (o : Option Handler) (memory : ℕ → ℕ) → irq < IRQ_NUMBERS → IfSome o (λ h. h.value < 2 ^ 8)
-    → (k : ℕ) → k < 0xE000E100 / 4 → row_set irq o memory k ≡ memory k
+    → (k : ℕ) → IsOutside k → row_set irq o memory k ≡ memory k
 one_outside irq None memory low small k below = refl
 one_outside irq (Some h) memory low small k below = set_outside memory irq h.value low small k below
 
@@ -220,7 +227,7 @@ enabled_of_none (row ∷ rows) memory irq room none within =
     ∙ one_enabled row.number irq row.handler memory room.0.0 room.0.1 within (λ same. none.0 (sym same))
 
 pub outside_of_rows : (rows : List IrqRow) (memory : ℕ → ℕ) → AllByRecursion HasRoom rows → (k : ℕ)
-    → k < 0xE000E100 / 4 → rows_set rows memory k ≡ memory k
+    → IsOutside k → rows_set rows memory k ≡ memory k
 outside_of_rows [] memory room k below = refl
 outside_of_rows (row ∷ rows) memory room k below =
     outside_of_rows rows (row_set row.number row.handler memory) room.1 k below

@@ -32,6 +32,7 @@ pub record IsElseAlike (before after : Machine) : Type 0 where
   pub is_pending : after.is_pending ≡ before.is_pending
   pub active : after.active ≡ before.active
   pub seen : after.seen ≡ before.seen
+  pub exception : after.exception ≡ before.exception
 
 alike : (m : Machine) → IsElseAlike m m
 alike m = record {
@@ -41,6 +42,7 @@ alike m = record {
   is_pending = refl;
   active = refl;
   seen = refl;
+  exception = refl;
 }
 
 alike_both : (a b c : Machine) → IsElseAlike a b → IsElseAlike b c → IsElseAlike a c
@@ -51,6 +53,7 @@ alike_both a b c h k = record {
   is_pending = k.is_pending ∙ h.is_pending;
   active = k.active ∙ h.active;
   seen = k.seen ∙ h.seen;
+  exception = k.exception ∙ h.exception;
 }
 
 -- a register holds a value, and memory is as it was
@@ -119,6 +122,7 @@ module _ (port : ℕ) where
             is_pending = refl;
             active = refl;
             seen = refl;
+            exception = refl;
           },
         ),
       )
@@ -135,6 +139,7 @@ module _ (port : ℕ) where
             is_pending = refl;
             active = refl;
             seen = refl;
+            exception = refl;
           },
         ),
       )
@@ -151,6 +156,7 @@ module _ (port : ℕ) where
             is_pending = refl;
             active = refl;
             seen = refl;
+            exception = refl;
           },
         ),
       )
@@ -171,6 +177,7 @@ module _ (port : ℕ) where
         is_pending = refl;
         active = refl;
         seen = refl;
+        exception = refl;
       },
     ),
   )
@@ -193,6 +200,7 @@ module _ (port : ℕ) where
         is_pending = refl;
         active = refl;
         seen = refl;
+        exception = refl;
       },
     ),
   )
@@ -223,6 +231,7 @@ module _ (port : ℕ) where
         is_pending = refl;
         active = refl;
         seen = refl;
+        exception = refl;
       },
     ),
   )

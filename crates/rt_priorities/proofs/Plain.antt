@@ -25,7 +25,7 @@ use Rattle.rt_priorities.specs.Lying.{LieFrom}
 use Rattle.rt_priorities.proofs.Pieces.{in_turn, in_turn_none}
 
 -- instructions that only advance, and leave PRIMASK
-abbrev IsPlain : Instruction → Type 0
+abbrev pub IsPlain : Instruction → Type 0
 IsPlain (instruction.Move d n) = ⊤
 IsPlain (instruction.MoveWide d n) = ⊤
 IsPlain (instruction.MoveTop d n) = ⊤

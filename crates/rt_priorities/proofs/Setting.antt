@@ -1,5 +1,5 @@
 -- After the first part of reset the processor agrees with the core after reset.
-use Rattle.std.proofs.Common.{◌≡◌, ◌≢◌, ℕ, zero, suc, ◌+◌, ◌-◌, ◌*◌, ◌/◌, ◌%◌, ◌^◌, ◌<◌, ◌≤◌, ◌==◌, ◌||◌, Bool, true}
+use Rattle.std.proofs.Common.{◌≡◌, ◌≢◌, ℕ, zero, suc, ◌+◌, ◌-◌, ◌*◌, ◌/◌, ◌%◌, ◌^◌, ◌<◌, ◌≤◌, ◌==◌, ◌||◌, Bool, true, inl, inr}
 use Rattle.std.proofs.Common.{false, List, [], ◌∷◌, ◌++◌, Option, Some, None, is_some, IfSome, if◌then◌else◌, refl, sym}
 use Rattle.std.proofs.Common.{ap, ◌∙◌, arith, slice_get, ⊎_elim, append_assoc}
 use Rattle.std.specs.List.{AllByRecursion}
@@ -20,14 +20,17 @@ use Rattle.rt_thumb.specs.Effect.{with_special}
 use Rattle.rt_thumb.specs.Encoding.{encode, size}
 use Rattle.rt_thumb.specs.Exceptions.{systick, external, priority_of, is_enabled, taken}
 use Rattle.rt_thumb.specs.Machine.{Machine, byte_at, word_at}
-use Rattle.rt_thumb.specs.Step.{after, going, executing}
+use Rattle.rt_thumb.specs.Step.{Program, after, going, executing}
 use Rattle.rt_thumb.specs.declared.instruction.Instruction.{Instruction}
 use Rattle.rt_thumb.specs.declared.instruction.Instruction.TheVariants as instruction
 use Rattle.rt_thumb.specs.declared.instruction.Special.TheVariants as special
+use Rattle.rt_thumb_laws.specs.Registers.{IsElsewhere}
 use Rattle.rt_thumb_laws.specs.Taking.{MayBeTaken}
+use Rattle.rt_thumb_laws.specs.Undisturbed.{RunAtTop}
 use Rattle.rt_thumb_laws.proofs.Taking.{the_first_is_taken}
 use Rattle.rt_thumb_laws.proofs.Undisturbed.{nothing_disturbs}
 use Rattle.rt_priorities.specs.Agreeing.{IsSetAs, IsUndeclared, AgreesWith}
+use Rattle.rt_priorities.specs.Lying.{LieFrom}
 use Rattle.rt_priorities.specs.Setting.{CanBeSet, IsReset, IsSetUp, ResetSetsUp, ResetBeginsSo, settings, first_part}
 use Rattle.rt_priorities.proofs.Memory.{priority_byte, enable_bit, rows_set, HasRoom, AreApart, IsSetIn, all_set}
 use Rattle.rt_priorities.proofs.Memory.{enabled_of_none, outside_of_rows}
@@ -133,12 +136,13 @@ module _ (m after : Machine) (rows : List IrqRow) (is : IsReset m)
       ∙ (ap (λ b. b == 1) (enabled_of_none rows m.memory irq room (none_of rows irq never) low)
       ∙ (sym (enabled_is m irq) ∙ is.enabled irq low)))
 
--- after reset no exception is taken
-none_at_reset : (m : Machine) → IsReset m → taken m ≡ None
-none_at_reset m is = (the_first_is_taken m).none.1 (λ e may. ⊎_elim
+-- no exception is taken where no interrupt is enabled and no tick is pending
+pub none_enabled : (m : Machine) → ((irq : ℕ) → irq < IRQ_NUMBERS → is_enabled m (external irq) ≡ false)
+    → m.is_pending systick ≡ false → taken m ≡ None
+none_enabled m enabled quiet = (the_first_is_taken m).none.1 (λ e may. ⊎_elim
     (λ less. let first = may.first in
     let tick : e ≡ systick = omega arith in
-    false≢true (sym is.tick ∙ (sym (ap m.is_pending tick) ∙ may.pending)))
+    false≢true (sym quiet ∙ (sym (ap m.is_pending tick) ∙ may.pending)))
     (λ more. by e may (e - 16) (there e more)) (cases_lt e 16))
   where
     there : (e : ℕ) → 16 ≤ e → external (e - 16) ≡ e
@@ -148,10 +152,10 @@ none_at_reset m is = (the_first_is_taken m).none.1 (λ e may. ⊎_elim
     by e may irq same =
         let last = may.last in
         let low : irq < IRQ_NUMBERS = omega arith in
-        false≢true (sym (is.enabled irq low) ∙ (ap (is_enabled m) same ∙ may.enabled))
+        false≢true (sym (enabled irq low) ∙ (ap (is_enabled m) same ∙ may.enabled))
 
 -- the processor once interrupts are masked
-abbrev masked : Machine → Machine
+abbrev pub masked : Machine → Machine
 masked m =
     let now = with_special special.PriorityMask 1 m in record now { address = m.address + 2 }
 
@@ -182,25 +186,36 @@ module _ (img : Image) (m last : Machine) (can : CanBeSet img.irqs) (is : IsRese
         ∙ ap (λ n. m.address + n)
         (sym (sum_by-cons (λ j. size (encode j)) instruction.DisableInterrupts (settings img))));
     memory = λ address below. ap (λ x. x (address / 4)) has.0
-        ∙ outside_of_rows img.irqs m.memory room (address / 4) (omega arith);
+        ∙ outside_of_rows img.irqs m.memory room (address / 4) (inl (omega arith));
+    system = λ address above. ap (λ x. x (address / 4)) has.0
+        ∙ outside_of_rows img.irqs m.memory room (address / 4) (inr (omega arith));
     stack = has.1.stack;
     is_pending = has.1.is_pending;
+    exception = has.1.exception;
     seen = has.1.seen;
   }
     where
       sum : (a d : ℕ) → a + 2 + d ≡ a + (2 + d)
       sum a d = omega arith
 
-pub reset_sets_up : ResetSetsUp
-reset_sets_up p img m can there is code =
+-- the rest of the first part runs with interrupts masked
+pub sets_up_masked : (p : Program) (img : Image) (m : Machine) → CanBeSet img.irqs → IsElsewhere (Some p.port)
+    → IsReset m → LieFrom p m.address (first_part img)
+    → (last : Machine) × RunAtTop p (settings img) (masked m) last × IsSetUp img m last
+sets_up_masked p img m can there is code =
     let led = rows_lead p.port img.irqs (masked m) (have_room img.irqs can.numbers can.values) there in
     let runs = top_run p (settings img) (masked m) led.0 (rows_plain img.irqs) refl code.1 led.1 in
+    (led.0, runs.0, set_up img m led.0 can is led.2 runs.1)
+
+pub reset_sets_up : ResetSetsUp
+reset_sets_up p img m can there is code =
+    let run = sets_up_masked p img m can there is code in
     record {
-      last = led.0;
+      last = run.0;
       leads = λ events many. ap (after p events)
-          (ap (going p m) (none_at_reset m is) ∙ ap (executing p.port m) code.0)
-          ∙ nothing_disturbs p (settings img) events (masked m) led.0 runs.0 many;
-      is_set_up = set_up img m led.0 can is led.2 runs.1;
+          (ap (going p m) (none_enabled m is.enabled is.tick) ∙ ap (executing p.port m) code.0)
+          ∙ nothing_disturbs p (settings img) events (masked m) run.0 run.1 many;
+      is_set_up = run.2;
     }
 
 -- the last part of the code of reset

@@ -1,7 +1,7 @@
 -- What reset makes of the interrupt controller (ARMv7-M Architecture Reference Manual, sections B1.5.5 and B3.4). The
 -- code sets a byte of NVIC_IPR and a bit of NVIC_ISER for each row of the image; the core of the model has the rows
 -- themselves.
-use Rattle.std.specs.Prelude.{◌≡◌, ℕ, ◌+◌, ◌<◌, ◌^◌, false, List, [], ◌∷◌, ◌++◌, length, flat_map, Option, Some}
+use Rattle.std.specs.Prelude.{◌≡◌, ℕ, ◌+◌, ◌<◌, ◌≤◌, ◌^◌, false, List, [], ◌∷◌, ◌++◌, length, flat_map, Option, Some}
 use Rattle.std.specs.Prelude.{IfSome}
 use Rattle.std.specs.List.{AllByRecursion}
 use Rattle.rt_ids.specs.declared.limits.TheConstants.{IRQ_NUMBERS}
@@ -49,14 +49,17 @@ pub record IsReset (m : Machine) : Type 0 where
   pub active : m.active ≡ []
   pub base_priority : m.base_priority ≡ 0
 
--- what the first part has done: the processor is behind it, and agrees with the core after reset; memory below the
--- registers, the stack pointer, what is pending and what others saw are as they were
+-- What the first part has done: the processor is behind it, and agrees with the core after reset. Memory below the
+-- registers of interrupts, the system control block, from 0xE000ED00 on (section B3.2.2), the stack pointer, what is
+-- pending, the exception that runs and what others saw are as they were.
 pub record IsSetUp (img : Image) (before last : Machine) : Type 0 where
   pub agrees : AgreesWith img (model_reset img) last
   pub address : last.address ≡ before.address + bytes_of (first_part img)
   pub memory : (address : ℕ) → address < 0xE000E100 → word_at last address ≡ word_at before address
+  pub system : (address : ℕ) → 0xE000ED00 ≤ address → word_at last address ≡ word_at before address
   pub stack : last.register 13 ≡ before.register 13
   pub is_pending : last.is_pending ≡ before.is_pending
+  pub exception : last.exception ≡ before.exception
   pub seen : last.seen ≡ before.seen
 
 -- Whatever comes once interrupts are masked, the processor is led to that state, in which this is pending.

@@ -1,4 +1,5 @@
-use Rattle.rt_native_laws.proofs.Inputs.{entry_reads_inputs, reading_goes_on, reading_is_kept}
+use Rattle.rt_native_laws.proofs.Inputs.{entry_reads_inputs, reading_goes_on}
+use Rattle.rt_native_laws.proofs.Reading.{reading_is_kept}
 use Rattle.rt_native_laws.proofs.laws.inputs_are_read.Goals as goal
 
 pub returns : goal.returns

@@ -1,0 +1,274 @@
+-- From reset on.
+use Rattle.std.proofs.Common.{◌≡◌, ◌∙◌, ℕ, suc, ◌+◌, ◌-◌, ◌*◌, ◌/◌, ◌%◌, ◌^◌, ◌<◌, ◌≤◌, inl, inr, Bool, false}
+use Rattle.std.proofs.Common.{List, [], ◌∷◌, Some, refl, sym, ap, subst, arith, length}
+use Rattle.std.proofs.Common.{⊎_elim}
+use Rattle.std.specs.List.{AllByRecursion}
+use Rattle.std.specs.Prelude.{◌||◌, slice_index}
+use Rattle.rt_ids.specs.declared.limits.TheConstants.{IRQ_NUMBERS}
+use Rattle.rt_code.specs.Image.{Image}
+use Rattle.rt_core.specs.Core.{reset as model_reset}
+use Rattle.rt_native.specs.Layout.{flash_end, load_at, outside, places, reset_at, stack_top}
+use Rattle.rt_native.specs.Pieces.{bytes_of}
+use Rattle.rt_native.specs.Program.{vectors}
+use Rattle.rt_native.specs.Target.{Target}
+use Rattle.rt_native.specs.declared.outside.Outside.{Outside}
+use Rattle.rt_native.proofs.Ends.{ends}
+use Rattle.rt_priorities.specs.Agreeing.{AgreesWith}
+use Rattle.rt_priorities.specs.Lying.{LieFrom as CodeLies}
+use Rattle.rt_priorities.specs.Setting.{IsSetUp, first_part, settings}
+use Rattle.rt_priorities.specs.Vectors.{IsLoaded}
+use Rattle.rt_priorities.proofs.Keeping.{others_keep_agreeing}
+use Rattle.rt_priorities.proofs.Plain.{IsPlain, rows_plain}
+use Rattle.rt_priorities.proofs.Setting.{masked, none_enabled, sets_up_masked}
+use Rattle.rt_priorities.proofs.Vectors.{length_vectors}
+use Rattle.rt_thumb.specs.Exceptions.{even, external, is_enabled, priority_of, systick}
+use Rattle.rt_thumb.specs.Machine.{Machine, word_at}
+use Rattle.rt_thumb.specs.Step.{Program, Event, Arrives, Ticks, Goes, GoesLate, after, executing, going, pended}
+use Rattle.rt_thumb.specs.declared.instruction.Instruction.{Instruction}
+use Rattle.rt_thumb.specs.declared.instruction.Instruction.TheVariants as instruction
+use Rattle.rt_thumb_laws.specs.Registers.{IsElsewhere}
+use Rattle.rt_thumb_laws.specs.Undisturbed.{RunAtTop, goings, with_arrivals}
+use Rattle.rt_thumb_laws.proofs.Undisturbed.{nothing_disturbs, run_with}
+use Rattle.rt_native_laws.specs.FromReset.{ComesBehindReset, HasNoTickAtFirst, IsAtReset, IsMapped, ResetLeadsBehind}
+use Rattle.rt_native_laws.specs.FromReset.{table}
+use Rattle.rt_native_laws.specs.Going.{HasCode}
+use Rattle.rt_native_laws.specs.Laws.{IsNoReturn}
+use Rattle.rt_native_laws.specs.Own.{Spans}
+use Rattle.rt_native_laws.specs.Resetting.{IsAtSecondPart, LeadsToReset, second_part}
+use Rattle.rt_native_laws.specs.Simulating.{IsImageFor, stack_bottom}
+use Rattle.rt_native_laws.specs.Standing.{HoldsWords}
+use Rattle.rt_native_laws.proofs.Copying.{Led, led_on}
+use Rattle.rt_native_laws.proofs.Loading.{even_reset, loaded_code_is_there}
+use Rattle.rt_native_laws.proofs.ResetPlaces.{first_lies, second_spans}
+use Rattle.rt_native_laws.proofs.Resetting.{IsBehind, behind_it, longer, result, result_last}
+use Rattle.rt_native_laws.proofs.Steady.{words_after}
+use Rattle.rt_native_laws.proofs.Tests.{not_equal}
+
+-- what comes before the first instruction, and then the instructions, with interrupts masked
+module _ (p : Program) (is : List Instruction) where
+  from_first : (events : List Event) (m last : Machine)
+      → ((irq : ℕ) → irq < IRQ_NUMBERS → is_enabled m (external irq) ≡ false) → m.is_pending systick ≡ false
+      → p.code m.address ≡ Some instruction.DisableInterrupts → RunAtTop p is (masked m) last
+      → HasNoTickAtFirst events → goings events ≡ suc (length is)
+      → after p events (Some m) ≡ Some (with_arrivals events last)
+  from_first [] m last enabled quiet found run early many = absurd (omega (arith, many))
+  from_first (Arrives irq ∷ events) m last enabled quiet found run early many =
+      from_first events (pended (external irq) m) (pended (external irq) last) enabled
+      (ap (λ (b : Bool). b || m.is_pending systick) (not_equal systick (external irq) (λ e. omega (arith, e))) ∙ quiet)
+      found (run_with p (external irq) is (masked m) last run) early many
+  from_first (Ticks ∷ events) m last enabled quiet found run early many = absurd early
+  from_first (Goes ∷ events) m last enabled quiet found run early many =
+      ap (after p events) (ap (going p m) (none_enabled m enabled quiet) ∙ ap (executing p.port m) found)
+      ∙ nothing_disturbs p is events (masked m) last run (omega (arith, many))
+  from_first (GoesLate ∷ events) m last enabled quiet found run early many =
+      ap (after p events) (ap (executing p.port m) found)
+      ∙ nothing_disturbs p is events (masked m) last run (omega (arith, many))
+
+-- code that only advances is no return, so it leaves words
+plain_is_no_return : (i : Instruction) (m : Machine) → IsPlain i → IsNoReturn i m
+plain_is_no_return (instruction.BranchExchange r) m plain = absurd plain
+plain_is_no_return i m plain = tt
+
+module _ (at : Outside) (img : Image) (places : List ℕ) (p : Program) (code : HasCode at img places p) where
+  words_at_top : (is : List Instruction) (m last : Machine) → AllByRecursion IsPlain is → RunAtTop p is m last
+      → HoldsWords m → HoldsWords last
+  words_at_top [] m last plain run words = subst HoldsWords (sym run) words
+  words_at_top (i ∷ is) m last plain run words =
+      words_at_top is run.2.0 last plain.1 run.2.2
+      (words_after at img places p code i m run.2.0 (record { found = run.1; does = run.2.1 })
+      (plain_is_no_return i m plain.0) words)
+
+module _ (img : Image) (target : Target) (p : Program) (m : Machine) (image : IsImageFor img target p)
+    (mapped : IsMapped img target p) (start : IsAtReset img target p m) where
+  abbrev at : Outside
+  at = outside img target
+
+  abbrev pl : List ℕ
+  pl = places img target
+
+  abbrev bottom : ℕ
+  bottom = stack_bottom img target p
+
+  abbrev load : ℕ
+  load = load_at img target
+
+  has : HasCode at img pl p
+  has = loaded_code_is_there img target p m start.loaded start.executed
+
+  -- the first two words of the vector table
+  table_is : (k : ℕ) → k < 16 → word_at m (table m + 4 * k) ≡ slice_index (vectors img target) k
+  table_is k l =
+      ap (λ (a : ℕ). word_at m (a + 4 * k)) start.loaded.table
+      ∙ start.loaded.words k (omega (arith, l, length_vectors img target))
+
+  stack_is : m.register 13 ≡ stack_top img target
+  stack_is =
+      start.stack
+      ∙ (ap (λ (a : ℕ). a - a % 4) (ap (word_at m) (omega arith) ∙ table_is 0 (omega arith))
+      ∙ omega (arith, image.ram.0))
+
+  reset_low : reset_at img target + 1 < 2 ^ 32
+  reset_low =
+      let all = ends img target in
+      omega (arith, all.reset, all.start, all.code, all.load, start.loaded.fits, start.executed.flash)
+
+  address_is : m.address ≡ reset_at img target
+  address_is =
+      start.address
+      ∙ (ap even (table_is 1 (omega arith)) ∙ omega (arith, even_reset img target p m start.loaded, reset_low))
+
+  end_is : load + 4 * (length img.cells + 2) ≤ 0xE0000000
+  end_is = omega (arith, (ends img target).load, start.loaded.fits, start.executed.flash)
+
+  -- the first part
+  code_first : CodeLies p m.address (first_part img)
+  code_first =
+      subst (λ (a : ℕ). CodeLies p a (first_part img)) (sym address_is) (first_lies img target p m start.loaded)
+
+  elsewhere : IsElsewhere (Some p.port)
+  elsewhere = inl (omega (arith, mapped.port, start.executed.port))
+
+  led : (last : Machine) × RunAtTop p (settings img) (masked m) last × IsSetUp img m last
+  led = sets_up_masked p img m image.set elsewhere start.interrupts code_first
+
+  middle : Machine
+  middle = led.0
+
+  set : IsSetUp img m middle
+  unfolding middle
+  set = led.2
+
+  run : RunAtTop p (settings img) (masked m) middle
+  unfolding middle
+  run = led.1
+
+  first_words : HoldsWords middle
+  first_words =
+      words_at_top at img pl p has (settings img) (masked m) middle (rows_plain img.irqs) run (record {
+        registers = start.words.registers;
+        memory = start.words.memory;
+        base_priority = start.words.base_priority;
+      })
+
+  middle_address : middle.address ≡ reset_at img target + bytes_of (first_part img)
+  middle_address = set.address ∙ ap (λ (a : ℕ). a + bytes_of (first_part img)) address_is
+
+  at_second : IsAtSecondPart at bottom target.tick img load pl p middle
+  at_second = record {
+    laid = mapped.laid;
+    has = has;
+    port = mapped.port;
+    code = subst (λ (a : ℕ). Spans p a (second_part at target.tick img load) (slice_index pl 0)) (sym middle_address)
+        (second_spans img target p m start.loaded);
+    is_masked = set.agrees.is_masked;
+    base_priority = set.agrees.base_priority;
+    stack = set.stack ∙ stack_is;
+    room = omega (arith, image.runnable.sizes.thread_fits);
+    values = λ k l.
+        set.memory (load + 4 * k) (omega (arith, l, longer img.cells, end_is)) ∙ start.values k l;
+    aligned = omega arith;
+    in_space = omega (arith, end_is);
+    apart = ⊎_elim
+        (λ (y : flash_end img target ≤ target.ram.address). inl (omega (arith, y, (ends img target).load)))
+        (λ (y : at.time + 8 ≤ target.flash.address).
+        let all = ends img target in
+        inr (omega (arith, y, all.fault, all.tick, all.stubs, all.reset, all.start, all.code))) mapped.apart;
+    pending = λ irq l.
+        ap (λ (f : ℕ → Bool). f (external irq)) set.is_pending ∙ start.interrupts.pending irq l;
+    words = first_words;
+  }
+
+  -- the second part
+  second : IsBehind at bottom target.tick img load pl p middle at_second
+  second = behind_it at bottom target.tick img load pl p middle at_second
+
+  led_to : LeadsToReset at bottom target.tick img load pl p middle
+  led_to = result at bottom target.tick img load pl p middle at_second second
+
+  same_last : led_to.last ≡ second.last
+  unfolding led_to
+  same_last = result_last at bottom target.tick img load pl p middle at_second second
+
+  whole : Led p (masked m) led_to.last
+  whole =
+      led_on p (masked m) middle led_to.last (record { executed = settings img; run = run })
+      (subst (λ (y : Machine). Led p middle y) (sym same_last) second.led)
+
+  system_kept : (a : ℕ) → 0xE000ED00 ≤ a → word_at led_to.last a ≡ word_at m a
+  system_kept a h =
+      led_to.system a (omega (arith, h)) (inr (omega (arith, h))) ∙ set.system a h
+
+  flash_kept : (a : ℕ) → a % 4 ≡ 0 → target.flash.address ≤ a → a + 4 ≤ flash_end img target
+      → word_at led_to.last a ≡ word_at m a
+  flash_kept a whole_word low high =
+      let all = ends img target in
+      led_to.memory (a / 4)
+      (⊎_elim (λ (y : flash_end img target ≤ target.ram.address). inl (omega (arith, y, high, whole_word)))
+      (λ (y : at.time + 8 ≤ target.flash.address). inr (omega (arith, y, low, whole_word))) mapped.apart)
+      (omega (arith, high, all.load, end_is))
+      ∙ set.memory a (omega (arith, high, all.load, end_is))
+
+  loaded_then : IsLoaded img target p led_to.last
+  loaded_then = record {
+    region = start.loaded.region;
+    fits = start.loaded.fits;
+    table = system_kept 0xE000ED08 (omega arith) ∙ start.loaded.table;
+    words = λ k l.
+        let all = ends img target in
+        flash_kept (target.flash.address + 4 * k) (omega (arith, start.loaded.region.0)) (omega arith)
+        (omega (
+          arith,
+          l,
+          length_vectors img target,
+          all.fault,
+          all.tick,
+          all.stubs,
+          all.reset,
+          all.start,
+          all.code,
+          all.load,
+        )) ∙ start.loaded.words k l;
+    code = start.loaded.code;
+  }
+
+  tick_then : priority_of led_to.last systick ≡ 0
+  tick_then =
+      ap (λ (w : ℕ). w / 2 ^ (8 * (0xE000ED23 % 4)) % 2 ^ 8) (system_kept 0xE000ED23 (omega arith)) ∙ start.tick
+
+  agrees_then : AgreesWith img (model_reset img) second.last
+  agrees_then = others_keep_agreeing img (model_reset img) (model_reset img) middle second.last set.agrees (record {
+    registers = λ a h f. second.system a (omega (arith, h)) (inr (omega (arith, h)));
+    handlers = ap (λ (y : Machine). y.active) second.rest;
+    contexts = refl;
+    base_priority = ap (λ (y : Machine). y.base_priority) second.rest ∙ set.agrees.base_priority;
+    is_masked = ap (λ (y : Machine). y.is_masked) second.rest ∙ set.agrees.is_masked;
+    pending = λ irq l. ap (λ (y : Machine). y.is_pending (external irq)) second.rest ∙ set.agrees.pending irq l;
+  })
+
+  comes : ComesBehindReset img target p m
+  comes = record {
+    count = suc (length whole.executed);
+    last = led_to.last;
+    leads = λ events many early.
+        from_first p whole.executed events m led_to.last start.interrupts.enabled start.interrupts.tick code_first.0
+        whole.run early many;
+    words = led_to.slots;
+    behind = record {
+      loaded = loaded_then;
+      executed = start.executed;
+      apart = mapped.apart;
+      laid = mapped.laid;
+      address = led_to.address;
+      long = led_to.long;
+      thread = led_to.thread;
+      agrees = subst (AgreesWith img (model_reset img)) (sym same_last) agrees_then;
+      exception = led_to.exception ∙ (set.exception ∙ start.exception);
+      tick = tick_then;
+      holds_words = led_to.words;
+    };
+    no_tick = ap (λ (f : ℕ → Bool). f systick) (led_to.is_pending ∙ set.is_pending) ∙ start.interrupts.tick;
+    seen = led_to.seen ∙ set.seen;
+  }
+
+pub reset_leads_behind : ResetLeadsBehind
+reset_leads_behind img target p m image mapped start = comes img target p m image mapped start
