@@ -1,0 +1,26 @@
+-- The lemmas of this crate, a file each. The folders beside them have the proofs of functions, by file and name.
+pub mod Sorts
+pub mod Beside
+pub mod Bases
+pub mod Lines
+pub mod Words
+pub mod Coupled
+pub mod Facts
+pub mod Parts
+pub mod Steps
+pub mod Frames
+pub mod Inside
+pub mod InsideSpawns
+pub mod InsideBodies
+pub mod InsideHandlers
+pub mod Apart
+pub mod Found
+pub mod Closed
+pub mod Entered
+pub mod Lies
+pub mod Filled
+pub mod Going
+pub mod Cells
+pub mod NotBegun
+pub mod Writing
+pub mod Behaving
