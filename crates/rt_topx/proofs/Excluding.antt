@@ -283,7 +283,7 @@ bounded_so image ended bytes (bounded.breaks rule least) =
 timed_so : (image : Image) (limits : List Limit) (ended : Status) (bytes : List ℕ)
     → TellsTimedBounds image limits ended bytes
     → SaysWhether (IsChecked image × (requests_itself image ≡ false)) ended
-timed_so image limits ended bytes (bounded.has_times b rows checked none are hold times) =
+timed_so image limits ended bytes (bounded.has_times b rows checked none are hold times kept) =
     inl (refl, (checked, none))
 timed_so image limits ended bytes (bounded.is_of_no_form checked asks) =
     inr (

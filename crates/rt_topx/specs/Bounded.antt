@@ -6,18 +6,20 @@ use Rattle.rt_ids.specs.declared.status.Status.{Status}
 use Rattle.rt_ids.specs.declared.status.Status.TheVariants as status
 use Rattle.rt_code.specs.Image.{Image}
 use Rattle.rt_core.specs.Core.{reset}
-use Rattle.rt_core.specs.Trace.{core_after, depth_after}
+use Rattle.rt_core.specs.Trace.{core_after, depth_after, labels}
 use Rattle.rt_image_times.specs.Form.{requests_itself}
 use Rattle.rt_image_times.specs.Report.{times_text}
 use Rattle.rt_image_times.specs.Response.{AreTimes}
 use Rattle.rt_image_times.specs.Text.{IsImageLimitsText}
 use Rattle.rt_image_times.specs.declared.response.TimeBound.{TimeBound}
+use Rattle.rt_image_times_laws.specs.Served.{RespondsTo, RespondsToOnceInitEnds}
 use Rattle.rt_load.specs.Reading.{IsListingText}
 use Rattle.rt_points.specs.Checked.{IsChecked, IsLeastBroken}
 use Rattle.rt_bounds.specs.Bounds.{AreBounds}
 use Rattle.rt_bounds.specs.Text.{bounds_text}
 use Rattle.rt_bounds.specs.declared.bound.Bounds.{Bounds}
 use Rattle.rt_bounds.specs.declared.longest.Longest.{Longest}
+use Rattle.rt_rta.specs.Kept.{Kept, KeptOnceInitEnds}
 use Rattle.rt_rta.specs.declared.limits.Limit.{Limit}
 use Rattle.rt_timely.specs.InTime.{AreInTime, AreLeftInTime}
 use Rattle.rt_timely.specs.Told.{AreTold}
@@ -41,6 +43,15 @@ pub record HoldOnRuns (image : Image) (b : Bounds) : Type 0 where
   -- the stack is enough
   pub stack : (events : List Event) → depth_after image events ≤ b.stack
 
+-- response times hold on every run of an image whose requests keep limits, for every list of events
+pub record TimesHoldOnRuns (image : Image) (limits : List Limit) (rows : List TimeBound) : Type 0 where
+  -- each request is served within the response time of its interrupt, where nothing is requested before `init` ends
+  pub late : (events : List Event) → Kept limits (labels image (reset image) events)
+      → RespondsTo image rows (labels image (reset image) events)
+  -- and where interrupts may be requested during `init` too, from its end on
+  pub once_init_ends : (events : List Event) → KeptOnceInitEnds limits (labels image (reset image) events)
+      → RespondsToOnceInitEnds image rows (labels image (reset image) events)
+
 -- the status and the text for an image
 pub data TellsBounds (image : Image) : Status → List ℕ → Type 0 where
   -- it keeps each rule, and these are its bounds
@@ -58,7 +69,7 @@ IsBounded text ended bytes = (image : Image) × IsListingText text image × Tell
 pub data TellsTimedBounds (image : Image) (limits : List Limit) : Status → List ℕ → Type 0 where
   -- it keeps each rule, no instruction of it requests an interrupt, and these are its bounds and its response times
   has_times : (b : Bounds) → (rows : List TimeBound) → IsChecked image → requests_itself image ≡ false
-      → AreBounds image b → HoldOnRuns image b → AreTimes image b limits rows
+      → AreBounds image b → HoldOnRuns image b → AreTimes image b limits rows → TimesHoldOnRuns image limits rows
       → TellsTimedBounds image limits status.Done (bounds_text image b ++ times_text rows)
   -- an instruction of it does
   is_of_no_form : IsChecked image → requests_itself image ≡ true

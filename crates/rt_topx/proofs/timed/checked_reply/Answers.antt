@@ -6,9 +6,10 @@ use Rattle.rt_bounds.specs.declared.bound.Bounds.{Bounds}
 use Rattle.rt_image_times.specs.Report.{times_text}
 use Rattle.rt_image_times.specs.Response.{AreTimes}
 use Rattle.rt_image_times.specs.declared.response.TimeBound.{TimeBound}
+use Rattle.rt_load.proofs.Judged.{limits_of_points}
 use Rattle.rt_top.proofs.Giving.{made_tells}
 use Rattle.rt_topx.specs.Bounded.{TellsTimedBounds, has_times, is_of_no_form}
-use Rattle.rt_topx.proofs.Bounding.{hold_on_runs, tells_replies}
+use Rattle.rt_topx.proofs.Bounding.{hold_on_runs, tells_replies, times_hold_on_runs}
 use Rattle.rt_topx.proofs.timed.checked_reply.Goals as goal
 
 pub returns-then-requests_itself : goal.returns-then-requests_itself
@@ -31,7 +32,15 @@ returns-else-requests_itself c =
     × AreTimes img b limits rows × (bytes ≡ bounds_text img b ++ times_text rows) in
     tells_replies status.Done P (TellsTimedBounds img limits)
     (λ bytes is. subst (TellsTimedBounds img limits status.Done) (sym is.4)
-    (has_times is.0 is.1 c.requires.checked asks_not is.2 (hold_on_runs img is.0 c.requires.checked is.2) is.3))
+    (has_times is.0 is.1 c.requires.checked asks_not is.2 (hold_on_runs img is.0 c.requires.checked is.2) is.3
+    (times_hold_on_runs img is.0 limits is.1 (record {
+      within = limits_of_points img c.requires.loadable;
+      checked = c.requires.checked;
+      form = asks_not;
+      bounds = is.2;
+      limits_fit = c.requires.limits;
+      times = is.3;
+    }))))
     c.reply_of_text-else-requests_itself.result
     (made_tells status.Done P c.text_of_times.result c.text_of_times.ensures
     c.reply_of_text-else-requests_itself.result c.reply_of_text-else-requests_itself.ensures.text
