@@ -5,6 +5,8 @@ stack.
 
 The program is that of RTICX, or the proved one where ./build or the gate has made it; without one nothing is run, and
 without gcc no read, write or growth is disturbed, and this says so."""
+import contextlib
+import io
 import os
 import pathlib
 import shutil
@@ -23,6 +25,7 @@ from commands import Command, built
 from explaining.program import asked_program
 from rows import cases
 from starting import ROOT, Growths, Starter, Told, with_little_stack
+from viewing.command import main as view
 
 CASES = pathlib.Path(__file__).resolve().with_suffix("") / "cases"
 TEXTS = ("app", "second", "third")
@@ -51,17 +54,37 @@ def try_rows(starter, told):
 
 
 def shown_run(starter, told):
-    """The trace that docs/RTICX.md shows is that of the example, and so is the report that docs/TIMES.md shows."""
+    """The trace that docs/RTICX.md shows is that of the example, and so are the reports that docs/TIMES.md shows."""
     files = [str(ROOT / "examples" / f"echo.{ending}") for ending in ("rtic", "board", "script")]
     trace = starter.ended(["run", *files]).output.decode().partition("trace\n")
     page = (ROOT / "docs" / "RTICX.md").read_text(encoding="utf-8")
     if not trace[2] or textwrap.indent(trace[1] + trace[2], "    ") not in page:
         told.differs(f"docs/RTICX.md does not show {trace[2]!r}")
-    files = [str(ROOT / "examples" / f"order.{ending}") for ending in ("rtic", "limits")]
-    report = starter.ended(["respond", *files]).output.decode()
     page = (ROOT / "docs" / "TIMES.md").read_text(encoding="utf-8")
-    if not report or textwrap.indent(report, "    ") not in page:
-        told.differs(f"docs/TIMES.md does not show {report!r}")
+    for name in ("order", "serial"):
+        files = [str(ROOT / "examples" / f"{name}.{ending}") for ending in ("rtic", "limits")]
+        report = starter.ended(["respond", *files]).output.decode()
+        if not report or textwrap.indent(report, "    ") not in page:
+            told.differs(f"docs/TIMES.md does not show {report!r}")
+    shown_view(starter, told, page, report)
+
+
+def shown_view(starter, told, page, report):
+    """The table of `tools/view` that docs/TIMES.md shows, where the first program is built."""
+    program = asked_program("rtic")
+    if program is None:
+        told.says("view: skipped in part: the first program is not built")
+        return
+    first, app = Starter(program), str(ROOT / "examples" / "serial.rtic")
+    runs = [first.ended([word, app, *more]).output for word, more in
+            (("run", [str(ROOT / "examples" / "paced.script")]), ("check", []))]
+    paths = [starter.write(f"view{number}", text) for number, text in enumerate([*runs, report.encode()])]
+    shown = io.StringIO()
+    with contextlib.redirect_stdout(shown):
+        status = view(paths)
+    table = "steps of" + shown.getvalue().partition("steps of")[2].partition("\n\n")[0] + "\n"
+    if status or textwrap.indent(table, "    ") not in page:
+        told.differs(f"docs/TIMES.md does not show {table!r}")
 
 
 def strange_words(starter, told):

@@ -18,6 +18,10 @@ sys.path.insert(0, TOOLS)
 from viewing.command import main
 
 RUNS = ("two", "pump", "four", "serial", "burst", "station", "names")
+# What `rticx respond` says of the application of `burst`, by an independent implementation, under `every UART0 500`,
+# `every KEY 50` and `deadline digest 480`.
+RESPONSES = ("irq UART0 3 204\ntask digest 1 493\nirq KEY 2 234\nmerge KEY\nfrom UART0 digest 493\nload 986\n"
+             "late digest 480\n")
 faults = []
 
 
@@ -137,7 +141,7 @@ def compare_words():
     """The statuses of words, of files that are not there, of a report that is none, and of two applications."""
     two = os.path.join(DATA, "two.run")
     rows = (
-        ((), 2, "usage: view RUN"), (("--html",), 2, "usage"), ((two, two, two), 2, "usage"), (("-", "-"), 2, "usage"),
+        ((), 2, "usage: view RUN"), (("--html",), 2, "usage"), ((two,) * 4, 2, "usage"), (("-", "-"), 2, "usage"),
         ((two, "--picture"), 2, "usage"), ((two, "--text", "0"), 2, "usage"), ((two, "--text", "--text"), 2, "usage"),
         (("nowhere",), 5, "nowhere could not be read"), ((two, DATA), 5, "could not be read"),
         ((two, two), 3, "no line of an output of `check`"),
@@ -155,6 +159,34 @@ def compare_words():
     expect(f"no step: {status} {told}", status == 0 and text == "" and "nothing to draw" in told)
     status, text, told = view("-", text="0 end init\n2 emit 5\n")
     expect("no total is told", status == 0 and "the trace has no total" in text)
+
+
+def compare_responses():
+    """Beside a report of `respond` stands each bound; a response over its bound is named, and one of `init` counts from
+    its end. A report of another application, or that is none, is told."""
+    files = [os.path.join(DATA, "burst." + ending) for ending in ("run", "check")]
+    alone, beside = view(*files), view(*files, "-", text=RESPONSES)
+    expect(f"responses: {beside[0]} {beside[2]}", beside[0] == 0 and beside[2] == "")
+    heads, rows = next(table for table in tables(beside[1]) if table[0][0] == "steps of")
+    expect(f"responses: {heads}", heads[5:7] == ["longest response", "bound"])
+    got = {row[0]: (row[5], row[6]) for row in rows}
+    want = {name: row[3] for name, row in expected("burst")[1].items()}
+    # `init` takes one step, and the first byte is requested before it
+    want["byte"] = str(int(want["byte"]) - 1)
+    expect(f"responses: {got}, not {want}", all(got[name][0] == want[name] for name in ("byte", "key", "digest")))
+    expect(f"bounds: {got}", [got[name][1] for name in ("byte", "key", "digest")] == ["204", "234", "493"])
+    over = f"a response of digest took {want['digest']} steps, over its bound 493: its requests, or those of others, "
+    expect("responses: what is over", beside[1].count("over its bound") == 1 and over in beside[1])
+    expect("responses: without a report", "bound" not in alone[1])
+    for text, status, words in ((RESPONSES.replace("digest", "other"), 4, "the run has no `other`"),
+                                (RESPONSES + "irq UART0 3\n", 3, "8: no line of an output of `respond`"),
+                                ("limits:1 2 words\n", 3, "the limits were refused"), ("", 5, "is empty")):
+        got = view(*files, "-", text=text)
+        expect(f"responses {text!r}: {got}", got[0] == status and words in got[2] and got[1] == "")
+    for task in ("- cycle", "- over", "- form"):
+        got = view(*files, "-", text=RESPONSES.replace("1 493", f"1 {task}", 1))
+        expect(f"responses {task}: {got[0]} {got[2]}", got[0] == 0 and "over its bound" not in got[1])
+    expect("an output of `respond` as a run", view("-", text=RESPONSES)[0] == 3)
 
 
 def compare_account():
@@ -192,6 +224,7 @@ for each in RUNS:
 compare_told()
 compare_words()
 compare_account()
+compare_responses()
 compare_command()
 compare_program()
 for fault in faults:

@@ -25,6 +25,10 @@ class Task:
         self.capacity = None
         self.call = None
 
+    def is_software(self):
+        """Whether it takes messages."""
+        return self.kind == SOFTWARE
+
 
 class Application:
     """The tasks by the highest priority first, and the bounds of `check`.

@@ -9,19 +9,21 @@ from .application import application_of
 from .history import History
 from .reading import read_file, read_output
 from .report import read_report
+from .responses import read_responses
 from .summary import summary
 from .told import DONE, NOT_WRITTEN, USAGE, Told
 
-USAGE_LINE = ("usage: view RUN [CHECK] [--html FILE | --vcd FILE | --wires FILE | --trace-events FILE |\n"
-              "                         --text [STEPS]]\n"
+USAGE_LINE = ("usage: view RUN [CHECK [RESPOND]] [--html FILE | --vcd FILE | --wires FILE |\n"
+              "                                   --trace-events FILE | --text [STEPS]]\n"
               "RUN is an output of `run` or `live`, or a trace; CHECK one of `rtic check` on the same\n"
-              "application. Without a form the summary is written. `-` is standard input, or as FILE the output.\n")
+              "application, and RESPOND one of `rticx respond`. Without a form the summary is written.\n"
+              "`-` is standard input, or as FILE the output.\n")
 FILES = {"--html": lambda history: [page.page(history)], "--vcd": vcd.dump, "--wires": vcd.wires,
          "--trace-events": events.trace_events}
 
 
 class Wanted:
-    """What the words ask for: one or two files to read, the form, and a file to write or the steps of a column."""
+    """What the words ask for: one to three files to read, the form, and a file to write or the steps of a column."""
 
     def __init__(self, inputs, form, target, steps):
         self.inputs = inputs
@@ -46,7 +48,7 @@ def wanted(words):
             inputs.append(word)
         else:
             raise Told(USAGE, USAGE_LINE.rstrip("\n"))
-    if len(inputs) not in (1, 2) or inputs.count("-") > 1 or steps == 0:
+    if len(inputs) not in (1, 2, 3) or inputs.count("-") > 1 or steps == 0:
         raise Told(USAGE, USAGE_LINE.rstrip("\n"))
     return Wanted(inputs, form, target, steps)
 
@@ -60,9 +62,13 @@ def read(inputs):
     """The history of the run that was asked for."""
     texts = [read_file(path, sys.stdin) for path in inputs]
     names = [shown_name(path) for path in inputs]
-    report = read_report(names[1], texts[1]) if len(inputs) == 2 else None
+    report = read_report(names[1], texts[1]) if len(inputs) > 1 else None
+    responses = read_responses(names[2], texts[2]) if len(inputs) > 2 else None
     output = read_output(names[0], texts[0])
-    return History(output, application_of(output, report))
+    application = application_of(output, report)
+    if responses is not None:
+        responses.agree(application)
+    return History(output, application, responses)
 
 
 def write(pieces, target):

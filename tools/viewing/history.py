@@ -16,8 +16,9 @@ class History(Messages):
     `never_left` the spans of sections that are open at the end; `inputs` has what devices wrote, by names.
     """
 
-    def __init__(self, output, application):
+    def __init__(self, output, application, responses=None):
         super().__init__()
+        self.responses = responses
         self.output = output
         self.application = application
         priorities = {task.priority or 0 for task in application.tasks}
@@ -29,6 +30,7 @@ class History(Messages):
         self.never_left = set()
         self.done = self.item = self.end = 0
         self.is_init = True
+        self.init_end = 0
         self.trapped = None
         for task in application.tasks:
             self.add_row(task)
@@ -168,6 +170,10 @@ class History(Messages):
         if depth > self.deepest:
             self.deepest = depth
 
+    def early(self, asked):
+        """The steps of `init` behind a request."""
+        return max(0, self.init_end - asked)
+
     def lower(self, row):
         """The steps that tasks of lower priority have taken so far."""
         return sum(self.spent[:row.rank])
@@ -268,7 +274,7 @@ class History(Messages):
             row.ran(job.used)
             row.waited(job.waited)
             if job.asked is not None:
-                row.responded(step + 1 - job.asked)
+                row.responded(step + 1 - job.asked, self.early(job.asked))
         return number
 
     def leave_job(self, job, step):
@@ -363,6 +369,7 @@ class History(Messages):
     def end_init(self, job, step):
         """`init` has ended: the thread goes on in another row, and who waits begins to wait for lower tasks."""
         self.is_init = False
+        self.init_end = step
         self.draw(job, step)
         thread = self.threads[0]
         if job.row is not thread:
@@ -387,7 +394,7 @@ class History(Messages):
             self.hold_open(job, end)
             self.leave_job(job, end)
             if job.asked is not None:
-                (job.body or job.row).left_open(end - job.asked)
+                (job.body or job.row).left_open(end - job.asked, self.early(job.asked))
             if job.row.task.kind != DISPATCHER:
                 job.row.runs += 1
                 job.row.waited(job.waited)
@@ -402,7 +409,7 @@ class History(Messages):
             if row.ready and end > row.ready_since:
                 row.pending += (row.ready_since, end)
             if row.still_pending():
-                row.left_open(end - row.pending_since())
+                row.left_open(end - row.pending_since(), self.early(row.pending_since()))
 
     def hold_open(self, job, end):
         """Sections that are open at the end are drawn up to it."""

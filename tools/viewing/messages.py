@@ -106,7 +106,7 @@ class Messages:
         self.draw(job, step)
         job.parts = row.serving
         row.ran(job.used - job.begun)
-        row.responded(step - job.asked)
+        row.responded(step - job.asked, self.early(job.asked))
         job.asked = None
         if job.depth != job.base:
             job.depth = job.base

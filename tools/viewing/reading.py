@@ -19,6 +19,7 @@ STEPS = 1 << 31
 VALUES = 1 << 32
 
 REPORT = re.compile(r"(?:ceiling|frame|cost|wait|stack) ")
+RESPONSES = re.compile(r"(?:irq|task|never|load) ")
 
 # The first line of what `rtic` writes in place of a run, what it is, and the status that `rtic` ended with.
 IN_PLACE = (
@@ -34,8 +35,13 @@ IN_PLACE = (
     (re.compile(r"time \d+ "), "an output of `times` has no items", BAD_LINE),
     (re.compile(r"yes \d+$"), "an answer of `audit` has no items", BAD_LINE),
     (REPORT, "an output of `check` has no items", BAD_LINE),
+    (RESPONSES, "an output of `respond` has no items", BAD_LINE),
     (re.compile(r"app "), "an application has no items", BAD_LINE),
 )
+
+
+# How an output begins that is wanted itself.
+OWN = {"check": REPORT, "respond": RESPONSES}
 
 
 class Output:
@@ -74,7 +80,7 @@ def tell_in_place(name, text, wanted):
                              "a file could not be read (status 5) and where memory ended (status 7)")
     line = text.partition("\n")[0]
     for form, cause, status in IN_PLACE:
-        if form.match(line) and not (wanted == "check" and form is REPORT):
+        if form.match(line) and form is not OWN.get(wanted):
             shown = line if len(line) <= 100 else line[:97] + ".."
             raise Told(status, f"{name} is no output of `{wanted}`: {cause}\n  {shown}")
 

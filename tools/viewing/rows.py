@@ -26,6 +26,8 @@ class Row:
         self.runs = self.sent = self.started = self.refused = self.out = self.most_out = 0
         self.requests = self.merged = self.arrived = 0
         self.longest_run = self.longest_wait = self.longest_response = self.unanswered = None
+        # The same, where a request during `init` counts from its end.
+        self.longest_owed = self.unpaid = None
         # The step of the last request, and the fewest steps between two; those during `init` count as one at its end.
         self.last = self.least_distance = None
         # Since when the interrupt is pending, the lower steps until then, and who requested it.
@@ -73,15 +75,19 @@ class Row:
         if steps is not None and (self.longest_wait is None or steps > self.longest_wait):
             self.longest_wait = steps
 
-    def responded(self, steps):
-        """So many steps from the request, or from where the message was ready, to the end of the run."""
+    def responded(self, steps, early):
+        """So many steps, `early` of them of `init`, from the request, or from where the message was ready, to the end."""
         if self.longest_response is None or steps > self.longest_response:
             self.longest_response = steps
+        if self.longest_owed is None or steps - early > self.longest_owed:
+            self.longest_owed = steps - early
 
-    def left_open(self, steps):
+    def left_open(self, steps, early):
         """So many steps from a request to the end of the trace, at which the run that it asked for had not ended."""
         if self.unanswered is None or steps > self.unanswered:
             self.unanswered = steps
+        if self.unpaid is None or steps - early > self.unpaid:
+            self.unpaid = steps - early
 
 
 class Job:

@@ -46,22 +46,31 @@ def tasks(history):
     return heads, rows
 
 
-def response(row):
+def response(longest, open_for):
     """The longest response; where one was open at the end and had taken longer by then, it is over that."""
-    if row.unanswered is None or row.longest_response is not None and row.longest_response > row.unanswered:
-        return row.longest_response
-    return Figure(f"> {row.unanswered}")
+    if open_for is None or longest is not None and longest > open_for:
+        return longest
+    return Figure(f"> {open_for}")
+
+
+def answered(history, row):
+    """The longest response, and beside a report of `respond` the bound, where `init` counts for neither."""
+    if history.responses is None:
+        return (response(row.longest_response, row.unanswered),)
+    return response(row.longest_owed, row.unpaid), history.responses.bound(row.task)
 
 
 def steps(history):
     """A row for each task: what was measured in core steps, beside the bounds."""
-    heads = ("steps of", "longest run", "cost", "longest wait", "wait", "longest response", "least distance")
+    bound = ("bound",) if history.responses is not None else ()
+    heads = ("steps of", "longest run", "cost", "longest wait", "wait", "longest response", *bound, "least distance")
     rows = []
     for row in measured(history):
         task = row.task
         cost = task.cost if task.kind != SOFTWARE or task.call is not None else None
         wait = history.application.wait(task) if task.kind != THREAD else None
-        rows.append((task.name, row.longest_run, cost, row.longest_wait, wait, response(row), row.least_distance))
+        rows.append((task.name, row.longest_run, cost, row.longest_wait, wait, *answered(history, row),
+                     row.least_distance))
     return heads, rows
 
 
@@ -123,11 +132,23 @@ def over(history):
     report = history.application.report
     if report is not None and history.deepest > report.stack:
         found.append("the stack is over its bound")
-    for name, run, cost, wait, bound, _, _ in steps(history)[1]:
+    for name, run, cost, wait, bound, *_ in steps(history)[1]:
         if run is not None and cost is not None and run > cost:
             found.append(f"{name} ran {run} steps, over its cost {cost}")
         if wait is not None and bound is not None and wait > bound:
             found.append(f"{name} waited {wait} steps for lower tasks, over its bound {bound}")
+    return found + late(history)
+
+
+def late(history):
+    """A line for each response that took longer than `respond` says, so that the requests kept no limits."""
+    found = []
+    for row in measured(history) if history.responses is not None else ():
+        bound = history.responses.bound(row.task)
+        taken = max(row.longest_owed or 0, row.unpaid or 0)
+        if bound is not None and taken > bound:
+            found.append(f"a response of {row.task.name} took {taken} steps, over its bound {bound}: "
+                         "its requests, or those of others, come more often than the limits say")
     return found
 
 
