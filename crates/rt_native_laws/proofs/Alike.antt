@@ -36,7 +36,7 @@ use Rattle.rt_trace.specs.declared.item.What.{What}
 use Rattle.rt_trace.specs.declared.item.What.TheVariants as what
 use Rattle.rt_native_laws.specs.Alike.{IsNotTaken, SetsNoAlarm, StepsAreAlike}
 use Rattle.rt_native_laws.specs.Moments.{instruction_at}
-use Rattle.rt_native_laws.specs.Tail.{rung}
+use Rattle.rt_native_laws.specs.InTail.{rung}
 use Rattle.rt_native_laws.proofs.Tests.{is_less}
 
 -- the same outcome, but for an alarm that has come

@@ -1,9 +1,9 @@
 -- A request comes.
-use Rattle.std.proofs.Common.{◌≡◌, ◌≢◌, ◌∙◌, ℕ, ◌<◌, Bool, true, false, List, [], ◌∷◌, Some}
+use Rattle.std.proofs.Common.{◌≡◌, ◌≢◌, ◌∙◌, ℕ, ◌<◌, ◌≤◌, Bool, true, false, List, [], ◌∷◌, Some}
 use Rattle.std.proofs.Common.{sym, refl, ap, subst, arith, length, ⊎_elim, option_map}
-use Rattle.std.proofs.lemmas.Bool.{cases_eq}
-use Rattle.std.proofs.lemmas.List.{length-set, get_or-set_same, get_or-set_other}
-use Rattle.std.specs.Prelude.{◌==◌, ◌||◌, slice_index, slice_index_or, slice_set}
+use Rattle.std.proofs.lemmas.Bool.{cases_eq, cases_lt, false≢true}
+use Rattle.std.proofs.lemmas.List.{length-set, get_or_past, get_or-set_same, get_or-set_other}
+use Rattle.std.specs.Prelude.{if◌then◌else◌, ◌==◌, ◌||◌, slice_index, slice_index_or, slice_set}
 use Rattle.rt_code.specs.Image.{Image}
 use Rattle.rt_code.specs.declared.instr.Instr.{Instr}
 use Rattle.rt_core.specs.Core.{Core}
@@ -17,11 +17,16 @@ use Rattle.rt_thumb.specs.declared.instruction.Instruction.TheVariants as instru
 use Rattle.rt_thumb_laws.proofs.Undisturbed.{effects_with}
 use Rattle.rt_native_laws.specs.Arriving.{ArrivalsKeepPhases, IsAsFresh, PendingTicksKeepPhases}
 use Rattle.rt_native_laws.specs.Doing.{IsAt, with_slots}
+use Rattle.rt_native_laws.specs.InTail.{Debt, IsInTail, rung}
 use Rattle.rt_native_laws.specs.Own.{RunsPrivately, StepsPrivately, is_private}
 use Rattle.rt_native_laws.specs.Phases.{AlreadyDone, Calling, Entering, HasBegun, IsCalling, IsDone, IsEntering}
-use Rattle.rt_native_laws.specs.Phases.{IsSameAbove, IsToCome, Phase, Reads, ToCome}
+use Rattle.rt_native_laws.specs.Phases.{IsSameAbove, IsToCome, OthersRan, Phase, Reads, Tails, ToCome}
 use Rattle.rt_native_laws.specs.Reading.{AtCellLow, AtCellTop, AtLoad, AtLow, AtStore, AtTop, Holds, IsReading, Reading}
 use Rattle.rt_native_laws.specs.Standing.{HoldsWords, StandsFor}
+use Rattle.rt_native_laws.specs.Tail.{Meanwhile}
+use Rattle.rt_native_laws.proofs.Meanwhile.{tail_is_kept}
+use Rattle.rt_native_laws.proofs.Tail.{tail_owes}
+use Rattle.rt_native_laws.proofs.Tails.{debt, debt_is, untouched}
 use Rattle.rt_native_laws.proofs.Tests.{not_equal, same_number}
 
 -- what is private goes on with something pending
@@ -73,6 +78,10 @@ module _ (p : Program) (e : ℕ) where
         → (irq : ℕ) → irq < length requests
         → ((external irq == e) || pending (external irq)) ≡ slice_index_or requests irq false
 
+    -- none that was there is gone
+    abbrev Keeps : List Bool → Type 0
+    Keeps old = (irq : ℕ) → slice_index_or old irq false ≡ true → slice_index_or requests irq false ≡ true
+
     abbrev asked : Core → Core
     asked c = record c { pending = requests }
 
@@ -114,7 +123,7 @@ module _ (p : Program) (e : ℕ) where
     held_with input value m AtCellTop h = h
     held_with input value m AtStore h = h
 
-    module _ (c : Core) (top : ℕ) (m : Machine) (tells : Tells c.pending) where
+    module _ (c : Core) (top : ℕ) (m : Machine) (tells : Tells c.pending) (keeps : Keeps c.pending) where
       to_come_with : IsToCome at bottom img places p c top m
           → IsToCome at bottom img places p (asked c) top (pended e m)
       to_come_with x = record {
@@ -243,17 +252,49 @@ module _ (p : Program) (e : ℕ) where
         refl,
       )
 
+      tail_with : (core : Core) (x : IsInTail at bottom img places p core top m) (same : x.unpaid ≡ c)
+          → IsAsFresh at bottom img places p c (asked c) top m (pended e m) (Tails core x same)
+      tail_with core x same =
+          let u = x.unpaid in
+          let told : Tells u.pending = subst (λ (y : Core). Tells y.pending) (sym same) tells in
+          let ran : OthersRan at (m.register 13) top u (asked u) m (pended e m) = record {
+            core = refl;
+            as_many = refl;
+            processor = record { rest = refl; memory = λ k f g. refl };
+            settled = x.settled;
+            cells = x.stands.cells;
+            time = x.stands.time;
+            alarm = x.stands.alarm;
+            pending = told m.is_pending x.stands.pending;
+            words = words_with m x.words;
+          } in
+          let meanwhile : Meanwhile x.irq x.instant x.owes x.owes u (asked u) =
+          untouched x.irq x.instant x.owes u (asked u) (tail_owes at bottom img places p core top m x) refl refl
+          (subst (λ (y : Core). slice_index_or y.pending x.irq false ≡ true
+          → slice_index_or requests x.irq false ≡ true) (sym same) (keeps x.irq)) in
+          let settled : Core = if x.owes then rung x.irq (asked u) else asked u in
+          let again = tail_is_kept at bottom img places p core settled (asked u) x.owes top m (pended e m) x ran
+          meanwhile refl in (
+            Tails settled again.0 (again.4 ∙ ap asked same),
+            omega arith,
+            refl,
+            refl,
+            ap (λ (t : Debt). Some t) (debt_is (debt again.0.irq again.0.instant again.0.owes)
+                (debt x.irq x.instant x.owes) again.1 again.2 again.3),
+          )
+
       phase_with : (phase : Phase at bottom img places p c top m)
           → IsAsFresh at bottom img places p c (asked c) top m (pended e m) phase
-      phase_with (ToCome x) = (ToCome (to_come_with x), omega arith, refl, refl)
-      phase_with (AlreadyDone x) = (AlreadyDone (done_with x), omega arith, refl, refl)
-      phase_with (Entering x) = (Entering (entering_with x), omega arith, refl, refl)
+      phase_with (ToCome x) = (ToCome (to_come_with x), omega arith, refl, refl, refl)
+      phase_with (AlreadyDone x) = (AlreadyDone (done_with x), omega arith, refl, refl, refl)
+      phase_with (Entering x) = (Entering (entering_with x), omega arith, refl, refl, refl)
       phase_with (Calling x) =
           let same : c.pending ≡ x.before.pending = ap (λ (y : Core). y.pending) x.called.core in
           let y = calling_with x (subst Tells same tells) in
-          (Calling y.0, omega (arith, y.1), refl, refl)
+          (Calling y.0, omega (arith, y.1), refl, refl, refl)
       phase_with (Reads x) =
-          let y = reading_with x in (Reads y.0, omega arith, refl, ap (λ (ds : List Input). Some ds) y.1)
+          let y = reading_with x in (Reads y.0, omega arith, refl, ap (λ (ds : List Input). Some ds) y.1, refl)
+      phase_with (Tails core x same) = tail_with core x same
 
 -- what is pending, with one more
 one_more : (old : List Bool) (irq : ℕ) (pending : ℕ → Bool)
@@ -273,13 +314,26 @@ one_more old irq pending h k l =
     ∙ (h k there ∙ sym (get_or-set_other old irq k true false e)))
     (cases_eq k irq)
 
+-- a request that is there is so with one more
+pub still_there : (old : List Bool) (irq k : ℕ) → slice_index_or old k false ≡ true
+    → slice_index_or (slice_set old irq true) k false ≡ true
+still_there old irq k h =
+    ⊎_elim
+    (λ (e : k ≡ irq).
+    ⊎_elim
+    (λ (l : k < length old).
+    ap (λ (x : ℕ). slice_index_or (slice_set old irq true) x false) e
+    ∙ get_or-set_same old irq true false (subst (λ (x : ℕ). x < length old) e l))
+    (λ (l : length old ≤ k). absurd (false≢true (sym (get_or_past old k false l) ∙ h))) (cases_lt k (length old)))
+    (λ (e : k ≢ irq). get_or-set_other old irq k true false e ∙ h) (cases_eq k irq)
+
 pub arrivals_keep_phases : ArrivalsKeepPhases
 arrivals_keep_phases at bottom img places p c top irq m phase =
     phase_with p (external irq) at bottom img places (slice_set c.pending irq true) c top m
-    (λ pending h k l. one_more c.pending irq pending h k l) phase
+    (λ pending h k l. one_more c.pending irq pending h k l) (still_there c.pending irq) phase
 
 pub pending_ticks_keep_phases : PendingTicksKeepPhases
 pending_ticks_keep_phases at bottom img places p c top m phase =
     phase_with p systick at bottom img places c.pending c top m
     (λ pending h k l. ap (λ (b : Bool). b || pending (external k))
-    (not_equal (external k) systick (λ e. omega (arith, e))) ∙ h k l) phase
+    (not_equal (external k) systick (λ e. omega (arith, e))) ∙ h k l) (λ k e. e) phase

@@ -8,6 +8,7 @@ use Rattle.rt_ids.specs.Operation.{wrapped_number as word}
 use Rattle.rt_native.specs.declared.outside.Outside.{Outside}
 use Rattle.rt_thumb.specs.Arithmetic.{add_with_carry, complement}
 use Rattle.rt_thumb.specs.Effect.{effect, behind, branched}
+use Rattle.rt_thumb.specs.Exceptions.{execution_priority}
 use Rattle.rt_thumb.specs.Machine.{Machine, word_at}
 use Rattle.rt_thumb.specs.Step.{Program}
 use Rattle.rt_thumb.specs.declared.instruction.Condition.TheVariants as condition
@@ -28,35 +29,51 @@ use Rattle.rt_native_laws.proofs.Private.{private_is_unseen}
 use Rattle.rt_native_laws.proofs.Steady.{words_after}
 use Rattle.rt_native_laws.proofs.Tests.{not_equal, same_number}
 
--- instructions that lead from a state to another at that priority
-pub record Led (p : Program) (m last : Machine) : Type 0 where
-  pub executed : List Instruction
-  pub run : RunAtTop p executed m last
+-- the stack pointer is within a part of the stack
+abbrev pub IsWithin : ℕ → ℕ → Machine → Type 0
+IsWithin floor top m = (floor ≤ m.register 13) × (m.register 13 ≤ top)
 
-pub led_one : (p : Program) (i : Instruction) (m n : Machine) → m.is_masked ≡ true → p.code m.address ≡ Some i
-    → effect p.port i m ≡ Some n → Led p m n
-led_one p i m n masked found does =
-    record { executed = i ∷ []; run = (masked_is_top m masked, found, (n, does, refl)) }
+-- instructions are executed at that priority, with the stack pointer within a part of the stack before each
+abbrev pub RunWithin : Program → ℕ → ℕ → List Instruction → Machine → Machine → Type 0
+RunWithin p floor top [] m last = last ≡ m
+RunWithin p floor top (i ∷ is) m last =
+    IsWithin floor top m × (execution_priority m ≡ 0) × (p.code m.address ≡ Some i)
+    × ((next : Machine) × (effect p.port i m ≡ Some next) × RunWithin p floor top is next last)
 
-runs_behind : (p : Program) (xs ys : List Instruction) (m n o : Machine) → RunAtTop p xs m n → RunAtTop p ys n o
-    → RunAtTop p (xs ++ ys) m o
-runs_behind p [] ys m n o r s = subst (λ (k : Machine). RunAtTop p ys k o) r s
-runs_behind p (x ∷ xs) ys m n o (top, found, rest) s =
-    (top, found, (rest.0, rest.1, runs_behind p xs ys rest.0 n o rest.2 s))
+module _ (p : Program) (floor top : ℕ) where
+  pub at_top : (is : List Instruction) (m last : Machine) → RunWithin p floor top is m last → RunAtTop p is m last
+  at_top [] m last run = run
+  at_top (i ∷ is) m last (within, first, found, rest) =
+      (first, found, (rest.0, rest.1, at_top is rest.0 last rest.2))
 
-pub led_on : (p : Program) (m n o : Machine) → Led p m n → Led p n o → Led p m o
-led_on p m n o a b =
-    record { executed = a.executed ++ b.executed; run = runs_behind p a.executed b.executed m n o a.run b.run }
+  -- instructions that lead from a state to another so
+  pub record Led (m last : Machine) : Type 0 where
+    pub executed : List Instruction
+    pub run : RunWithin p floor top executed m last
 
-pub led_privately : (p : Program) (floor top : ℕ) → IsApart p floor top → (is : List Instruction) (m n : Machine)
-    → floor ≤ m.register 13 → m.register 13 ≤ top → m.is_masked ≡ true → RunsPrivately p floor top is m n
-    → Led p m n
-led_privately p floor top apart [] m n low high masked r = record { executed = []; run = r }
-led_privately p floor top apart (i ∷ is) m n low high masked r =
-    let own = private_is_unseen p floor top (i ∷ []) m r.0 apart low high (r.0, r.1, refl) in
-    let still : r.0.is_masked ≡ true = ap (λ (x : Machine). x.is_masked) own.rest ∙ masked in
-    led_on p m r.0 n (led_one p i m r.0 masked r.1.executes.found r.1.executes.does)
-    (led_privately p floor top apart is r.0 n own.stack.0 own.stack.1 still r.2)
+  pub led_one : (i : Instruction) (m n : Machine) → IsWithin floor top m → m.is_masked ≡ true
+      → p.code m.address ≡ Some i → effect p.port i m ≡ Some n → Led m n
+  led_one i m n within masked found does =
+      record { executed = i ∷ []; run = (within, masked_is_top m masked, found, (n, does, refl)) }
+
+  runs_behind : (xs ys : List Instruction) (m n o : Machine) → RunWithin p floor top xs m n
+      → RunWithin p floor top ys n o → RunWithin p floor top (xs ++ ys) m o
+  runs_behind [] ys m n o r s = subst (λ (k : Machine). RunWithin p floor top ys k o) r s
+  runs_behind (x ∷ xs) ys m n o (within, first, found, rest) s =
+      (within, first, found, (rest.0, rest.1, runs_behind xs ys rest.0 n o rest.2 s))
+
+  pub led_on : (m n o : Machine) → Led m n → Led n o → Led m o
+  led_on m n o a b =
+      record { executed = a.executed ++ b.executed; run = runs_behind a.executed b.executed m n o a.run b.run }
+
+  pub led_privately : IsApart p floor top → (is : List Instruction) (m n : Machine) → IsWithin floor top m
+      → m.is_masked ≡ true → RunsPrivately p floor top is m n → Led m n
+  led_privately apart [] m n within masked r = record { executed = []; run = r }
+  led_privately apart (i ∷ is) m n within masked r =
+      let own = private_is_unseen p floor top (i ∷ []) m r.0 apart within.0 within.1 (r.0, r.1, refl) in
+      let still : r.0.is_masked ≡ true = ap (λ (x : Machine). x.is_masked) own.rest ∙ masked in
+      led_on m r.0 n (led_one i m r.0 within masked r.1.executes.found r.1.executes.does)
+      (led_privately apart is r.0 n own.stack still r.2)
 
 -- the loop that copies
 abbrev pub loop : List Instruction
@@ -66,9 +83,9 @@ loop =
     ∷ instruction.Branch (2 ^ 32 - 18) ∷ []
 
 -- so many words were copied, from one address on to another
-pub record Copied (p : Program) (m : Machine) (from to count : ℕ) : Type 0 where
+pub record Copied (p : Program) (floor top : ℕ) (m : Machine) (from to count : ℕ) : Type 0 where
   pub last : Machine
-  pub led : Led p m last
+  pub led : Led p floor top m last
   pub rest : last ≡ record m {
     register = last.register;
     flags = last.flags;
@@ -114,11 +131,13 @@ compared : (a b : ℕ) → a < 2 ^ 32 → b < 2 ^ 32
     → ((add_with_carry a (complement b) true).value == 0) ≡ (a == b)
 compared a b h k = ap (λ (x : ℕ). x == 0) (minus a b k) ∙ is_none a b h k
 
-module _ (at : Outside) (img : Image) (places : List ℕ) (p : Program) (code : HasCode at img places p) where
+module _ (at : Outside) (img : Image) (places : List ℕ) (p : Program) (code : HasCode at img places p)
+    (floor top : ℕ) where
   -- no word more
-  ends : (m : Machine) (from to : ℕ) → m.register 1 ≡ to → m.register 2 ≡ to → m.is_masked ≡ true → HoldsWords m
-      → Spans p m.address loop (m.address + 18) → m.address < 0xE0000000 → Copied p m from to 0
-  ends m from to r1 r2 masked words span low =
+  ends : (m : Machine) (from to : ℕ) → m.register 1 ≡ to → m.register 2 ≡ to → m.is_masked ≡ true
+      → IsWithin floor top m → HoldsWords m → Spans p m.address loop (m.address + 18) → m.address < 0xE0000000
+      → Copied p floor top m from to 0
+  ends m from to r1 r2 masked within words span low =
       let i = instruction.Operate operation.Compare 1 2 in
       let j = instruction.BranchIf condition.Equal 12 in
       let m1 = stepped p i m in
@@ -133,7 +152,8 @@ module _ (at : Outside) (img : Image) (places : List ℕ) (p : Program) (code : 
       let w1 = words_after at img places p code i m m1 (record { found = span.0; does = refl }) tt words in
       record {
         last = m2;
-        led = led_on p m m1 m2 (led_one p i m m1 masked span.0 refl) (led_one p j m1 m2 masked span.1.0 does);
+        led = led_on p floor top m m1 m2 (led_one p floor top i m m1 within masked span.0 refl)
+            (led_one p floor top j m1 m2 within masked span.1.0 does);
         rest = refl;
         registers = λ k h. refl;
         copied = λ k l. absurd (omega (arith, l));
@@ -144,7 +164,7 @@ module _ (at : Outside) (img : Image) (places : List ℕ) (p : Program) (code : 
   -- one word
   pub record One (m : Machine) (from to : ℕ) : Type 0 where
     pub next : Machine
-    pub led : Led p m next
+    pub led : Led p floor top m next
     pub rest : next ≡ record m {
       register = next.register;
       flags = next.flags;
@@ -157,9 +177,9 @@ module _ (at : Outside) (img : Image) (places : List ℕ) (p : Program) (code : 
     pub words : HoldsWords next
 
   one : (m : Machine) (from to count : ℕ) → CanCopy p.port from to (suc count) → m.register 0 ≡ from
-      → m.register 1 ≡ to → m.register 2 ≡ to + 4 * suc count → m.is_masked ≡ true → HoldsWords m
+      → m.register 1 ≡ to → m.register 2 ≡ to + 4 * suc count → m.is_masked ≡ true → IsWithin floor top m → HoldsWords m
       → Spans p m.address loop (m.address + 18) → m.address < 0xE0000000 → One m from to
-  one m from to count can r0 r1 r2 masked words span low =
+  one m from to count can r0 r1 r2 masked within words span low =
       let i1 = instruction.Operate operation.Compare 1 2 in
       let i2 = instruction.BranchIf condition.Equal 12 in
       let i3 = instruction.Load 3 0 0 in
@@ -198,12 +218,13 @@ module _ (at : Outside) (img : Image) (places : List ℕ) (p : Program) (code : 
       let w6 = words_after at img places p code i6 m5 m6 (record { found = f5.1.0; does = refl }) tt w5 in
       record {
         next = m7;
-        led = led_on p m m1 m7 (led_one p i1 m m1 masked span.0 refl)
-            (led_on p m1 m2 m7 (led_one p i2 m1 m2 masked span.1.0 does2)
-            (led_on p m2 m3 m7 (led_one p i3 m2 m3 masked f3.0 does3)
-            (led_on p m3 m4 m7 (led_one p i4 m3 m4 masked f3.1.0 does4)
-            (led_on p m4 m5 m7 (led_one p i5 m4 m5 masked f5.0 refl)
-            (led_on p m5 m6 m7 (led_one p i6 m5 m6 masked f5.1.0 refl) (led_one p i7 m6 m7 masked f7.0 does7))))));
+        led = led_on p floor top m m1 m7 (led_one p floor top i1 m m1 within masked span.0 refl)
+            (led_on p floor top m1 m2 m7 (led_one p floor top i2 m1 m2 within masked span.1.0 does2)
+            (led_on p floor top m2 m3 m7 (led_one p floor top i3 m2 m3 within masked f3.0 does3)
+            (led_on p floor top m3 m4 m7 (led_one p floor top i4 m3 m4 within masked f3.1.0 does4)
+            (led_on p floor top m4 m5 m7 (led_one p floor top i5 m4 m5 within masked f5.0 refl)
+            (led_on p floor top m5 m6 m7 (led_one p floor top i6 m5 m6 within masked f5.1.0 refl)
+            (led_one p floor top i7 m6 m7 within masked f7.0 does7))))));
         rest = refl;
         source = omega (arith, r0, can.from_space);
         target = omega (arith, r1, can.to_memory);
@@ -215,24 +236,25 @@ module _ (at : Outside) (img : Image) (places : List ℕ) (p : Program) (code : 
       }
 
   pub copies : (count : ℕ) (m : Machine) (from to : ℕ) → CanCopy p.port from to count → m.register 0 ≡ from
-      → m.register 1 ≡ to → m.register 2 ≡ to + 4 * count → m.is_masked ≡ true → HoldsWords m
-      → Spans p m.address loop (m.address + 18) → m.address < 0xE0000000 → Copied p m from to count
-  copies zero m from to can r0 r1 r2 masked words span low =
-      ends m from to r1 (r2 ∙ omega arith) masked words span low
-  copies (suc count) m from to can r0 r1 r2 masked words span low =
-      let o = one m from to count can r0 r1 r2 masked words span low in
+      → m.register 1 ≡ to → m.register 2 ≡ to + 4 * count → m.is_masked ≡ true → IsWithin floor top m → HoldsWords m
+      → Spans p m.address loop (m.address + 18) → m.address < 0xE0000000 → Copied p floor top m from to count
+  copies zero m from to can r0 r1 r2 masked within words span low =
+      ends m from to r1 (r2 ∙ omega arith) masked within words span low
+  copies (suc count) m from to can r0 r1 r2 masked within words span low =
+      let o = one m from to count can r0 r1 r2 masked within words span low in
       let v = word_at m from in
       let same_address : o.next.address ≡ m.address = ap (λ (x : Machine). x.address) o.rest in
       let still : o.next.is_masked ≡ true = ap (λ (x : Machine). x.is_masked) o.rest ∙ masked in
       let more = copies count o.next (from + 4) (to + 4) (further p.port from to count can) o.source o.target
-      (o.limit ∙ (r2 ∙ omega arith)) still o.words
+      (o.limit ∙ (r2 ∙ omega arith)) still
+      (subst (λ (k : ℕ). (floor ≤ k) × (k ≤ top)) (sym (o.registers 13 (omega arith))) within) o.words
       (subst (λ (a : ℕ). Spans p a loop (a + 18)) (sym same_address) span)
       (subst (λ (a : ℕ). a < 0xE0000000) (sym same_address) low) in
       let memory_is : (k : ℕ) → o.next.memory k ≡ written m.memory to v k =
       λ k. ap (λ (x : Machine). x.memory k) o.rest in
       record {
         last = more.last;
-        led = led_on p m o.next more.last o.led more.led;
+        led = led_on p floor top m o.next more.last o.led more.led;
         rest = more.rest ∙ (ap (λ (x : Machine). record x {
           register = more.last.register;
           flags = more.last.flags;
@@ -255,8 +277,9 @@ module _ (at : Outside) (img : Image) (places : List ℕ) (p : Program) (code : 
         words = more.words;
       }
     where
-      each : (more : Copied p (one m from to count can r0 r1 r2 masked words span low).next (from + 4) (to + 4) count)
-          → ((k : ℕ) → (one m from to count can r0 r1 r2 masked words span low).next.memory k
+      each : (more : Copied p floor top (one m from to count can r0 r1 r2 masked within words span low).next
+          (from + 4) (to + 4) count)
+          → ((k : ℕ) → (one m from to count can r0 r1 r2 masked within words span low).next.memory k
           ≡ written m.memory to (word_at m from) k)
           → (j : ℕ) → j < suc count → word_at more.last (to + 4 * j) ≡ word_at m (from + 4 * j)
       each more memory_is zero l =

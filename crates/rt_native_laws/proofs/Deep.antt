@@ -1,5 +1,6 @@
 -- The stack is no deeper than the model's.
-use Rattle.std.proofs.Common.{◌≡◌, ℕ, suc, ◌+◌, ◌*◌, ◌≤◌, Bool, true, false, List, [], ◌∷◌, Option, ap, arith, sum_by}
+use Rattle.std.proofs.Common.{◌≡◌, ℕ, suc, ◌+◌, ◌*◌, ◌≤◌, Bool, true, false, List, [], ◌∷◌, Option, ap}
+use Rattle.std.proofs.Common.{subst, arith, sum_by}
 use Rattle.std.proofs.Common.{length, None}
 use Rattle.std.proofs.lemmas.List.{length-set}
 use Rattle.std.proofs.lemmas.List.Sums.{sum_by-cons}
@@ -14,12 +15,13 @@ use Rattle.rt_native.specs.declared.target.Input.{Input}
 use Rattle.rt_thumb.specs.Machine.{Machine}
 use Rattle.rt_thumb.specs.Step.{Program}
 use Rattle.rt_native_laws.specs.Deep.{IsWithinFrames, PhasesAreWithinFrames, StackIsNoDeeper}
+use Rattle.rt_native_laws.specs.InTail.{Debt, IsInTail}
 use Rattle.rt_native_laws.specs.Moments.{Taking}
 use Rattle.rt_native_laws.specs.Phases.{AlreadyDone, Calling, Entering, IsCalling, IsDone, IsEntering, IsToCome, Phase}
-use Rattle.rt_native_laws.specs.Phases.{Reads, ToCome}
+use Rattle.rt_native_laws.specs.Phases.{Reads, Tails, ToCome, tail_of}
 use Rattle.rt_native_laws.specs.Reading.{IsReading}
 use Rattle.rt_native_laws.specs.Standing.{IsLaidOut}
-use Rattle.rt_native_laws.specs.Waiting.{Waiting, interrupted_core, resumed}
+use Rattle.rt_native_laws.specs.Waiting.{Waiting, interrupted_core, others_tail, resumed}
 use Rattle.rt_native_laws.proofs.Calls.{is_free}
 use Rattle.rt_native_laws.proofs.Phases.{apart_of}
 use Rattle.rt_native_laws.proofs.Private.{private_is_unseen}
@@ -85,12 +87,22 @@ module _ (at : Outside) (bottom : ℕ) (img : Image) (places : List ℕ) (p : Pr
     below_cells = omega (arith, x.ends, x.stands.frames);
   }
 
+  tail_within : (core : Core) (x : IsInTail at bottom img places p core top m) → x.unpaid ≡ c
+      → IsWithinFrames at bottom c top m
+  tail_within core x same = subst (λ (y : Core). IsWithinFrames at bottom y top m) same (record {
+    low = omega (arith, x.stands.stack);
+    high = omega (arith, x.ends);
+    frames = omega (arith, x.ends);
+    below_cells = omega (arith, x.ends, x.stands.frames);
+  })
+
   within : Phase at bottom img places p c top m → IsWithinFrames at bottom c top m
   within (ToCome x) = to_come_within x
   within (AlreadyDone x) = done_within x
   within (Entering x) = entering_within x
   within (Calling x) = calling_within x
   within (Reads x) = reading_within x
+  within (Tails core x same) = tail_within core x same
 
 pub phases_are_within_frames : PhasesAreWithinFrames
 phases_are_within_frames at bottom img places p c top m laid port phase =
@@ -101,28 +113,30 @@ pub eight : (fpu : Bool) → 8 ≤ exception.entry_words fpu
 eight true = omega arith
 eight false = omega arith
 
-module _ (at : Outside) (bottom highest : ℕ) (inputs : List Input) (img : Image) (places : List ℕ) (p : Program)
-    (port : p.port ≡ at.port)
+module _ (at : Outside) (bottom highest ceiling : ℕ) (inputs : List Input) (img : Image) (places : List ℕ)
+    (p : Program) (port : p.port ≡ at.port)
   where
     abbrev contexts : List Context → ℕ
     contexts below = sum_by (context_words (entry_words img)) below
 
-    pub others_deep : (takings : List Taking) (below : List Context) (c : Core) (top : ℕ) (m : Machine)
-        → IsLaidOut at bottom (length c.processor.cells)
-        → Waiting at bottom highest inputs img places p takings below c top m → highest ≤ top + 4 * contexts below
-    others_deep [] [] c top m laid jobs = omega (arith, jobs.0)
-    others_deep [] (x ∷ below) c top m laid jobs = absurd jobs
-    others_deep (taking ∷ takings) [] c top m laid jobs = absurd jobs
-    others_deep (taking ∷ takings) (x ∷ below) c top m laid
-        (aligned, small, runs, active, link, up, next, within, fits, phase, more) =
+    pub others_deep : (tail : Option Debt) (takings : List Taking) (below : List Context) (c : Core) (top : ℕ)
+        (m : Machine) → IsLaidOut at bottom (length c.processor.cells)
+        → Waiting at bottom highest ceiling inputs img places p tail takings below c top m
+        → highest ≤ top + 4 * contexts below
+    others_deep tail [] [] c top m laid jobs = omega (arith, jobs.0)
+    others_deep tail [] (x ∷ below) c top m laid jobs = absurd jobs
+    others_deep tail (taking ∷ takings) [] c top m laid jobs = absurd jobs
+    others_deep tail (taking ∷ takings) (x ∷ below) c top m laid
+        (aligned, small, runs, active, link, up, next, within, fits, higher, phase, fresh, more) =
         let back = resumed taking.base_priority top m in
         let there = interrupted_core taking.base_priority c x below in
-        let frames = (phases_are_within_frames at bottom img places p there next back laid port phase.0).frames in
-        let rest = others_deep takings below there next back laid more in
+        let frames = (phases_are_within_frames at bottom img places p there next back laid port phase).frames in
+        let rest = others_deep (others_tail (tail_of at bottom img places p there next back phase) tail) takings below
+        there next back laid more in
         omega (arith, frames, rest, up, sum_by-cons (context_words (entry_words img)) x below, eight img.fpu)
 
 pub stack_is_no_deeper : StackIsNoDeeper
-stack_is_no_deeper at bottom highest inputs img places p takings c top m laid port phase jobs =
+stack_is_no_deeper at bottom highest ceiling inputs img places p tail takings c top m laid port phase jobs =
     let frames = (phases_are_within_frames at bottom img places p c top m laid port phase).frames in
-    let rest = others_deep at bottom highest inputs img places p port takings c.below c top m laid jobs in
+    let rest = others_deep at bottom highest ceiling inputs img places p port tail takings c.below c top m laid jobs in
     omega (arith, frames, rest)

@@ -28,9 +28,10 @@ use Rattle.rt_native_laws.specs.Doing.{CanCall, IsBody, UnlessTrapped, with_slot
 use Rattle.rt_native_laws.specs.Going.{HasCode, IsNothing, IsOneStep, IsOneStepOrNone, IsPlain, Nothing, OneStep}
 use Rattle.rt_native_laws.specs.Going.{StepsBy}
 use Rattle.rt_native_laws.specs.EachKind.{BySteps, ByReturn, EachGoes, EachKindGoesOn, HasOneCommit, Silently}
+use Rattle.rt_native_laws.specs.InTail.{Debt}
 use Rattle.rt_native_laws.specs.Moments.{CameBack, Moment, Taking, instruction_at, last_after, settled_words}
 use Rattle.rt_native_laws.specs.Own.{AreSteady, Executes, RunsPrivately}
-use Rattle.rt_native_laws.specs.Phases.{AlreadyDone, Calling, Entering, IsButForWords, IsDone, IsNoReading, Reads}
+use Rattle.rt_native_laws.specs.Phases.{AlreadyDone, Calling, Entering, IsButForWords, IsDone, IsOrdinary, Reads, Tails}
 use Rattle.rt_native_laws.specs.Phases.{IsNoCall, IsToCome, Phase, ToCome, kept_words}
 use Rattle.rt_native_laws.specs.Standing.{HoldsWords, IsLaidOut, StandsFor, caller_words, frames_end}
 use Rattle.rt_native_laws.specs.Waiting.{Waiting, return_value}
@@ -151,8 +152,8 @@ kind_of img ceiling s instr.Ret one well = IsRet refl
 kind_of img ceiling s i one well = Plain tt
 
 module _ (at : Outside) (bottom highest ceiling : ℕ) (inputs : List Input) (img : Image) (places : List ℕ)
-    (p : Program) (i : Instr)
-    (s : Moment) (d : Core) (said : Option What) (top : ℕ) (m : Machine) (code : HasCode at img places p)
+    (p : Program) (i : Instr) (tail : Option Debt) (s : Moment) (d : Core) (said : Option What) (top : ℕ) (m : Machine)
+    (code : HasCode at img places p)
     (laid : IsLaidOut at bottom (length s.core.processor.cells)) (reach : highest ≡ bottom + img.stack_bytes)
     (whole : img.stack_bytes % 4 ≡ 0) (st : StepsBy img i s.core d said) (well : GoesWell img ceiling s i)
     (words : HoldsWords m) where
@@ -180,18 +181,18 @@ module _ (at : Outside) (bottom highest ceiling : ℕ) (inputs : List Input) (im
   same_instruction x = ap (λ (y : Instr × Option Note). y.0)
       (same_some (x.instruction, x.note) (i, st.note) (sym x.line ∙ st.line))
 
-  module _ (jobs : Waiting at bottom highest inputs img places p s.takings c.below c top m) where
+  module _ (jobs : Waiting at bottom highest ceiling inputs img places p tail s.takings c.below c top m) where
     -- the handler that returns
     record Link : Type 0 where
       inside : m.exception ≢ 0
       high : 0xF0000000 ≤ m.register 14
       link : m.register 13 ≡ top → m.register 14 ≡ return_value (popped m).exception
 
-    link_of : (takings : List Taking) (x : Context) (below : List Context)
-        → Waiting at bottom highest inputs img places p takings (x ∷ below) c top m → Link
-    link_of [] x below waits = absurd waits
-    link_of (taking ∷ takings) x below
-        (aligned, small, runs, active, link, up, next, within, fits, phase, more) = record {
+    link_of : (tail : Option Debt) (takings : List Taking) (x : Context) (below : List Context)
+        → Waiting at bottom highest ceiling inputs img places p tail takings (x ∷ below) c top m → Link
+    link_of tail [] x below waits = absurd waits
+    link_of tail (taking ∷ takings) x below
+        (aligned, small, runs, active, link, up, next, within, fits, higher, phase, fresh, more) = record {
           inside = λ e. omega (arith, runs, e);
           high = subst (λ (v : ℕ). 0xF0000000 ≤ v) (sym link) (link_high _);
           link = λ e. link ∙ ap (λ (y : Machine). return_value (popped y).exception) (same_stack top m e);
@@ -199,7 +200,7 @@ module _ (at : Outside) (bottom highest ceiling : ℕ) (inputs : List Input) (im
 
     -- an instruction that is to come
     plain_goes : IsPlain i → IsToCome at bottom img places p c top m → (phase : Phase at bottom img places p c top m)
-        → IsNoReading at bottom img places p c top m phase
+        → IsOrdinary at bottom img places p c top m phase
         → Goes (kept_words at bottom img places p c top m phase)
     plain_goes plain x phase unread =
         let y = plain_has_next at bottom img places p code i plain c d said st top m x in (
@@ -216,8 +217,9 @@ module _ (at : Outside) (bottom highest ceiling : ℕ) (inputs : List Input) (im
         let st_now : StepsBy img instr.Ret c d said = subst (λ (j : Instr). StepsBy img j c d said) e st in
         let ends : ReturnsWell img s = subst (GoesWell img ceiling s) e well in
         let there = return_context img c d said st_now in
-        let l = link_of s.takings there.context there.others
-        (subst (λ (b : List Context). Waiting at bottom highest inputs img places p s.takings b c top m) there.below
+        let l = link_of tail s.takings there.context there.others
+        (subst (λ (b : List Context). Waiting at bottom highest ceiling inputs img places p tail s.takings b c top m)
+        there.below
         jobs) in
         let is = same_instruction x ∙ e in
         let y = ret_has_next at bottom img places p code c top m x is there.free ends.frame l.inside l.high l.link in (
@@ -277,7 +279,8 @@ module _ (at : Outside) (bottom highest ceiling : ℕ) (inputs : List Input) (im
           subst (λ (j : Instr). StepsBy img j c d said) e st in
           let b = called_body img row from c d said st_now in
           let calls : CallsWell b.body from c = subst (GoesWell img ceiling s) e well b.body b.found in
-          let deep = stack_is_no_deeper at bottom highest inputs img places p s.takings c top m laid code.port
+          let deep = stack_is_no_deeper at bottom highest ceiling inputs img places p tail s.takings c top m laid
+          code.port
           (AlreadyDone x)
           jobs in
           let room = at_most (stack_in_use img c + b.body.frame) (img.stack_bytes / 4)
@@ -325,7 +328,7 @@ module _ (at : Outside) (bottom highest ceiling : ℕ) (inputs : List Input) (im
         )
 
     by_phase : KindOf i → (phase : Phase at bottom img places p c top m)
-        → IsNoReading at bottom img places p c top m phase
+        → IsOrdinary at bottom img places p c top m phase
         → Goes (kept_words at bottom img places p c top m phase)
     by_phase kind (ToCome x) unread = to_come kind x
     by_phase kind (AlreadyDone x) unread = by_left kind x x.left x.steady x.completes
@@ -333,13 +336,15 @@ module _ (at : Outside) (bottom highest ceiling : ℕ) (inputs : List Input) (im
         let y = entering_has_next at bottom img places p code c top m x in
         (y.0, y.1, y.2, Silently (entering_goes at bottom img places p code c top m y.1 y.0 y.2 x))
     by_phase kind (Reads x) unread = absurd unread
+    by_phase kind (Tails core x same) unread = absurd unread
     by_phase kind (Calling x) unread =
         let y = calling_has_next at bottom img places p code c top m x in
         (y.0, y.1, y.2, Silently (calling_goes at bottom img places p code c top m y.1 y.0 y.2 x))
 
 pub each_kind_goes_on : EachKindGoesOn
-each_kind_goes_on at bottom highest ceiling inputs img places p i s d said top m code laid reach whole one st well
+each_kind_goes_on at bottom highest ceiling inputs img places p i tail s d said top m code laid reach whole one st well
     words phase
     unread jobs =
-    by_phase at bottom highest ceiling inputs img places p i s d said top m code laid reach whole st well words jobs
+    by_phase at bottom highest ceiling inputs img places p i tail s d said top m code laid reach whole st well words
+    jobs
     (kind_of img ceiling s i one well) phase unread

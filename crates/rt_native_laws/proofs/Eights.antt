@@ -21,8 +21,8 @@ use Rattle.rt_code.specs.declared.instr.Note.{Note}
 use Rattle.rt_core.specs.Core.{Core}
 use Rattle.rt_native.specs.Frames.{body_words, handler_words, later, later_handler, no_frame}
 use Rattle.rt_native.specs.Pieces.{STEP, address, close_frame, fall, open_frame, read_slot, rise, write_slot}
-use Rattle.rt_native.specs.Sequences.{RETURN_SLOT, back, branch, call, pend, read_arguments, ret, sequence}
-use Rattle.rt_native.specs.Sequences.{write_arguments}
+use Rattle.rt_native.specs.Sequences.{RETURN_SLOT, back, branch, call, due, pend, read_arguments, ret, sequence}
+use Rattle.rt_native.specs.Sequences.{set_alarm, write_arguments}
 use Rattle.rt_native.specs.Service.{opening, stub}
 use Rattle.rt_native.specs.declared.outside.Outside.{Outside}
 use Rattle.rt_thumb.specs.Effect.{effect, exchanged}
@@ -36,12 +36,11 @@ use Rattle.rt_native_laws.specs.Behaving.{HasEvenFrames}
 use Rattle.rt_native_laws.specs.Going.{HasCode, IsPlain}
 use Rattle.rt_native_laws.specs.Own.{AreSteady, RunsPrivately, is_private, is_steady}
 use Rattle.rt_native_laws.specs.Phases.{AlreadyDone, Calling, Entering, IsCalling, IsDone, IsEntering, IsToCome, Phase}
-use Rattle.rt_native_laws.specs.Phases.{IsNoCall, Reads, ToCome}
+use Rattle.rt_native_laws.specs.Phases.{IsNoCall, Reads, Tails, ToCome}
 use Rattle.rt_native_laws.specs.Relating.{IsEvenFrame}
-use Rattle.rt_native_laws.specs.Simulating.{HasNoAlarms}
 use Rattle.rt_native_laws.proofs.Calls.{is_free}
 use Rattle.rt_native_laws.proofs.Private.{no_return}
-use Rattle.rt_native_laws.proofs.Shapes.{address_is, plain_is_steady, reads, writes}
+use Rattle.rt_native_laws.proofs.Shapes.{address_is, plain_is_steady, reads, slot_with_address, writes}
 use Rattle.rt_native_laws.proofs.Steady.{stack_stays}
 
 -- an instruction moves the stack pointer by a multiple of 8, or leaves it
@@ -168,6 +167,12 @@ post_moves : (irq : ℕ) → MoveByEights (pend irq)
 unfolding pend address
 post_moves irq = (tt, (tt, (tt, (tt, (tt, (tt, tt))))))
 
+alarm_moves : (at : Outside) (s irq : ℕ) → MoveByEights (set_alarm at s irq)
+unfolding set_alarm due pend address
+alarm_moves at s irq =
+    joined (read_slot 0 s ++ address 1 at.time) _ (steady_code _ (slot_with_address s at.time))
+    (tt, (tt, (tt, (tt, (tt, (tt, (tt, (tt, (tt, (tt, (tt, (tt, tt))))))))))))
+
 -- parts of code that end in an even frame
 chosen_even : (found other : _) (b : Bool) → (later_handler 0 found None).words % 2 ≡ 0
     → (later_handler 0 other None).words % 2 ≡ 0 → (later_handler 0 (if b then other else found) None).words % 2 ≡ 0
@@ -237,7 +242,7 @@ module _ (p : Program) (floor top : ℕ) (encodable : (a : ℕ) (i : Instruction
       (moves i m r.0 (encodable m.address i r.1.executes.found) h.0 r.1.is_private r.1.executes.does z)
 
 module _ (at : Outside) (bottom : ℕ) (img : Image) (places : List ℕ) (p : Program) (code : HasCode at img places p)
-    (frames : HasEvenFrames img) (no_alarms : HasNoAlarms img) (c : Core) (top : ℕ) (m : Machine)
+    (frames : HasEvenFrames img) (c : Core) (top : ℕ) (m : Machine)
     (eight : top % 8 ≡ 0) (even_frame : IsEvenFrame c.caller c.processor.slots) where
   abbrev n : ℕ
   n = c.processor.address
@@ -248,7 +253,7 @@ module _ (at : Outside) (bottom : ℕ) (img : Image) (places : List ℕ) (p : Pr
   sequence_moves : (i : Instr) (note : Option Note) → IsNoCall i → slice_get img.code n ≡ Some (i, note)
       → MoveByEights (sequence at img places n i)
   sequence_moves (instr.Call row s) _ kind line = absurd kind
-  sequence_moves (instr.Alarm slot irq) note kind line = absurd (no_alarms n slot irq note line)
+  sequence_moves (instr.Alarm slot irq) _ kind line = alarm_moves at slot irq
   sequence_moves instr.Mark _ kind line = tt
   sequence_moves instr.Back _ kind line =
       back_moves (body_words img.bodies n) (bodies_even img.bodies n no_frame frames.bodies refl)
@@ -310,3 +315,7 @@ module _ (at : Outside) (bottom : ℕ) (img : Image) (places : List ℕ) (p : Pr
   phase_is_eight (Entering x) = entering_eight x
   phase_is_eight (Calling x) = calling_eight x
   phase_is_eight (Reads x) = omega (arith, x.ends, eight)
+  phase_is_eight (Tails core x same) =
+      let even_there : IsEvenFrame x.unpaid.caller x.unpaid.processor.slots =
+      subst (λ (y : Core). IsEvenFrame y.caller y.processor.slots) (sym same) even_frame in
+      omega (arith, x.ends, eight, even_there)

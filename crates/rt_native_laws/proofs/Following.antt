@@ -33,10 +33,10 @@ use Rattle.rt_thumb.specs.Step.{Program, executed, going, pended}
 use Rattle.rt_native_laws.specs.Behaving.{HasEvenFrames, IsGood, StaysGood}
 use Rattle.rt_native_laws.specs.Moments.{AllCanHappen, AreFillings, Comes, Fills, Happening, Moment, at_reset}
 use Rattle.rt_native_laws.specs.Moments.{moment_after, moment_after_all, shown}
-use Rattle.rt_native_laws.specs.Phases.{AlreadyDone}
+use Rattle.rt_native_laws.specs.Phases.{AlreadyDone, tail_of}
 use Rattle.rt_native_laws.specs.Relating.{IsPastMarks, IsInPlace, IsWhere, LeadsOn, Related, lowest}
-use Rattle.rt_native_laws.specs.Simulating.{StaysBeside, HasNoAlarms, IsBehindReset, IsBeside, IsImageFor}
-use Rattle.rt_native_laws.specs.Simulating.{NativeSimulatesWithoutAlarms, arrivals_at, compared}
+use Rattle.rt_native_laws.specs.Simulating.{StaysBeside, IsBehindReset, IsBeside, IsImageFor}
+use Rattle.rt_native_laws.specs.Simulating.{NativeSimulates, arrivals_at, compared}
 use Rattle.rt_native_laws.specs.Simulating.{seen_of_label, ticks}
 use Rattle.rt_native_laws.specs.Standing.{IsLaidOut}
 use Rattle.rt_native_laws.proofs.Deep.{stack_is_no_deeper}
@@ -50,22 +50,25 @@ use Rattle.rt_native_laws.proofs.Requesting.{late_instructions_lead_on, pending_
 use Rattle.rt_native_laws.proofs.Tests.{is_less, not_equal}
 use Rattle.rt_native_laws.proofs.Ticks.{time_is, frame_deep, once, seen_is, tick_last, tick_moment, tick_shown}
 use Rattle.rt_native_laws.proofs.Ticks.{where_last}
+use Rattle.rt_native_laws.specs.Waiting.{others_tail}
+use Rattle.rt_native_laws.proofs.Unpaid.{by_debt, picks_same}
 use Rattle.rt_thumb_laws.proofs.Taking.{ticks_come_first}
 use Rattle.rt_thumb_laws.proofs.Undisturbed.{none_at_top}
 
 -- what happens in two parts
 module _ (img : Image) where
-  after_both : (s : Moment) (xs ys : List Happening)
+  pub after_both : (s : Moment) (xs ys : List Happening)
       → moment_after_all img s (xs ++ ys) ≡ moment_after_all img (moment_after_all img s xs) ys
   after_both s [] ys = refl
   after_both s (x ∷ xs) ys = after_both (moment_after img s x) xs ys
 
-  can_both : (inputs : List Input) (s : Moment) (xs ys : List Happening) → AllCanHappen img inputs s xs
+  pub can_both : (inputs : List Input) (s : Moment) (xs ys : List Happening) → AllCanHappen img inputs s xs
       → AllCanHappen img inputs (moment_after_all img s xs) ys → AllCanHappen img inputs s (xs ++ ys)
   can_both inputs s [] ys h k = k
   can_both inputs s (x ∷ xs) ys h k = (h.0, can_both inputs (moment_after img s x) xs ys h.1 k)
 
-  pub stays_behind : (inputs : List Input) (ceiling : ℕ) (fits : List Happening → Bool) (s : Moment) (xs : List Happening)
+  pub stays_behind : (inputs : List Input) (ceiling : ℕ) (fits : List Happening → Bool) (s : Moment)
+      (xs : List Happening)
       → AllCanHappen img inputs s xs → StaysGood img inputs ceiling fits s
       → StaysGood img inputs ceiling (λ more. fits (xs ++ more)) (moment_after_all img s xs)
   stays_behind inputs ceiling fits s xs can stays more ok f =
@@ -115,23 +118,29 @@ none_is_picked img c e = by_pick (pick img c) refl
         absurd (omega (arith, higher, e))
 
 module _ (img : Image) (target : Target) (p : Program) (there : IsInPlace img target p) (ceiling : ℕ)
-    (no_alarms : HasNoAlarms img) (even_frames : HasEvenFrames img) where
+    (even_frames : HasEvenFrames img) where
   abbrev Here : (List Happening → Bool) → Moment → Machine → Type 0
   Here fits s m =
-      (w : IsWhere img target p s m) × (fits [] ≡ true → IsPastMarks img target p s.core w.top m w.phase)
+      (w : IsWhere img target p ceiling s m) × (fits [] ≡ true → IsPastMarks img target p w.unpaid w.top m w.phase)
 
   related : (fits : List Happening → Bool) (s : Moment) (m : Machine) → Here fits s m → fits [] ≡ true
-      → Related img target p s m
+      → Related img target p ceiling s m
   related fits s m here fitting = record { here = here.0; marks = here.1 fitting }
 
   -- how deep the stack is
-  deep : (s : Moment) (m : Machine) → IsWhere img target p s m → stack_top img target ≤ m.register 13 + depth img s.core
+  deep : (s : Moment) (m : Machine) → IsWhere img target p ceiling s m
+      → stack_top img target ≤ m.register 13 + depth img s.core
   deep s m w =
-      stack_is_no_deeper (outside img target) (lowest img target p) (stack_top img target) target.inputs img
-      (places img target) p
-      s.takings s.core w.top m
+      let low = stack_is_no_deeper (outside img target) (lowest img target p) (stack_top img target) ceiling
+      target.inputs img (places img target) p
+      (others_tail (tail_of (outside img target) (lowest img target p) img (places img target) p w.unpaid w.top m
+      w.phase) w.tail) s.takings w.unpaid w.top m
       (subst (IsLaidOut (outside img target) (lowest img target p)) (sym w.cells) there.laid) there.has.port w.phase
-      w.waiting
+      w.waiting in
+      let depth_same : depth img s.core ≡ depth img w.unpaid =
+      ap (λ (c : Core). depth img c) w.owed
+      ∙ by_debt (λ (f : Core → Core). depth img (f w.unpaid) ≡ depth img w.unpaid) w.tail refl (λ t e. refl) in
+      omega (arith, low, depth_same)
 
   -- a tick may be pending
   abbrev owed : Machine → ℕ
@@ -163,7 +172,8 @@ module _ (img : Image) (target : Target) (p : Program) (there : IsInPlace img ta
   module _ (events : List processor.Event) (follows : FollowsFrom events) (fits : List Happening → Bool) (s : Moment)
       (m : Machine) (stays : StaysGood img target.inputs ceiling fits s) where
     -- an event that leads on
-    leads_to : (n : Machine) → LeadsOn img target p fits s m n → s.core.time + owed m + ticks events + 2 < 2 ^ 32
+    leads_to : (n : Machine) → LeadsOn img target p ceiling fits s m n
+        → s.core.time + owed m + ticks events + 2 < 2 ^ 32
         → (event : processor.Event) → arrivals_at event ≡ [] → processor.step p m event ≡ Some n
         → Next fits s m event events
     leads_to n l bound event silent is = (
@@ -173,7 +183,7 @@ module _ (img : Image) (target : Target) (p : Program) (there : IsInPlace img ta
         no_fault = is;
         can = l.can;
         arrivals = l.arrivals ∙ sym silent;
-        seen = ap (compared (timer_irq img.code)) l.seen;
+        seen = l.seen;
         deep = (let low = deep (moment_after_all img s l.happened) n l.here in omega (arith, low));
       },
       follows (λ more. fits (l.happened ++ more)) (moment_after_all img s l.happened) n
@@ -196,7 +206,7 @@ module _ (img : Image) (target : Target) (p : Program) (there : IsInPlace img ta
     )
 
     -- a request of a device
-    request_comes : (irq : ℕ) → irq < IRQ_NUMBERS → (last : Machine) → Related img target p s last
+    request_comes : (irq : ℕ) → irq < IRQ_NUMBERS → (last : Machine) → Related img target p ceiling s last
         → (stands : Stands (λ more. fits (Comes (Arrive irq) ∷ more)) (moment_after img s (Comes (Arrive irq)))
         (pended (external irq) m))
         → s.core.time
@@ -207,7 +217,7 @@ module _ (img : Image) (target : Target) (p : Program) (there : IsInPlace img ta
         let happened = Comes (Arrive irq) ∷ [] in
         let s1 = moment_after img s (Comes (Arrive irq)) in
         let n = pended (external irq) m in
-        let there_then = requests_lead_on img target p s last irq there r small in (
+        let there_then = requests_lead_on img target p ceiling s last irq there r small in (
           happened,
           n,
           record {
@@ -230,27 +240,27 @@ module _ (img : Image) (target : Target) (p : Program) (there : IsInPlace img ta
         let good = stays [] tt fitting in
         let w = here.0 in
         let fits_in : s.core.time + 2 < 2 ^ 32 = omega (arith, bound) in
-        let last = tick_last img target p ceiling fits s m there no_alarms even_frames good w fits_in
+        let last = tick_last img target p ceiling fits s m there even_frames good w fits_in
         ticks_now in
-        let once_more = once img target p ceiling fits s m there no_alarms even_frames good w fits_in
+        let once_more = once img target p ceiling fits s m there even_frames good w fits_in
         ticks_now in
         let s1 = moment_after img s (Comes Tick) in
-        let there_then : IsWhere img target p s1 last =
-        subst (λ (z : Moment). IsWhere img target p z last) (sym (tick_moment img s))
-        (where_last img target p ceiling fits s m there no_alarms even_frames good w fits_in ticks_now) in
+        let there_then : IsWhere img target p ceiling s1 last =
+        subst (λ (z : Moment). IsWhere img target p ceiling z last) (sym (tick_moment img s))
+        (where_last img target p ceiling fits s m there even_frames good w fits_in ticks_now) in
         let marked = marks_are_done img target p there ceiling (λ more. fits (Comes Tick ∷ more)) s1 last
         (λ more ok f. stays (Comes Tick ∷ more) (tt, ok) f) there_then in
         let happened = Comes Tick ∷ marked.happened in
         let n = entered systick m in
         let time_then : s1.core.time ≡ suc s.core.time =
         ap (λ (z : Moment). z.core.time) (tick_moment img s)
-        ∙ time_is img target p ceiling fits s m there no_alarms even_frames good w fits_in ticks_now in
+        ∙ time_is img target p ceiling fits s m there even_frames good w fits_in ticks_now in
         let in_tick : IsInTick img p n last = record {
           rest = once_more.executed;
           calm = once_more.calm;
           run = once_more.run;
-          seen = seen_is img target p ceiling fits s m there no_alarms even_frames good w fits_in ticks_now;
-          deep = frame_deep img target p ceiling fits s m there no_alarms even_frames good w fits_in ticks_now;
+          seen = seen_is img target p ceiling fits s m there even_frames good w fits_in ticks_now;
+          deep = frame_deep img target p ceiling fits s m there even_frames good w fits_in ticks_now;
         } in (
           happened,
           n,
@@ -278,25 +288,28 @@ module _ (img : Image) (target : Target) (p : Program) (there : IsInPlace img ta
     -- the processor goes on, and may take an interrupt or a tick
     module _ (here : Here fits s m) (fitting : fits [] ≡ true)
         (bound : s.core.time + owed m + ticks events + 2 < 2 ^ 32) where
-      r : Related img target p s m
+      r : Related img target p ceiling s m
       r = related fits s m here fitting
 
       instructs : pick img s.core ≡ None → taken m ≡ None → Next fits s m processor.Goes events
       instructs none takes =
-          let y = instructions_lead_on img target p ceiling fits s m there no_alarms stays fitting r none in
+          let y = instructions_lead_on img target p ceiling fits s m there stays fitting r none in
           leads_to y.0 y.2 bound processor.Goes refl (ap (going p m) takes ∙ y.1)
 
-      by_pick : m.is_pending systick ≡ false → (o : Option IrqRow) → pick img s.core ≡ o
+      picks : pick img s.core ≡ pick img here.0.unpaid
+      picks = picks_same img target p ceiling s m here.0
+
+      by_pick : m.is_pending systick ≡ false → (o : Option IrqRow) → pick img here.0.unpaid ≡ o
           → Next fits s m processor.Goes events
       by_pick quiet None e =
-          instructs e (they_take_the_same img s.core m here.0.agrees quiet
+          instructs (picks ∙ e) (they_take_the_same img here.0.unpaid m here.0.agrees quiet
           ∙ ap (option_map (λ row. external row.number)) e)
       by_pick quiet (Some row) e =
-          let h = some_handler img s.core row e in
+          let h = some_handler img here.0.unpaid row e in
           leads_to (entered (external row.number) m)
-          (entries_lead_on img target p ceiling fits s m row h.0 there no_alarms even_frames stays fitting r e
-          h.1) bound processor.Goes refl
-          (ap (going p m) (they_take_the_same img s.core m here.0.agrees quiet
+          (entries_lead_on img target p ceiling fits s m row h.0 there even_frames stays fitting r (picks ∙ e) h.1)
+          bound processor.Goes refl
+          (ap (going p m) (they_take_the_same img here.0.unpaid m here.0.agrees quiet
           ∙ ap (option_map (λ row. external row.number)) e))
 
       by_priority : m.is_pending systick ≡ true → (0 < execution_priority m) ⊎ (execution_priority m ≤ 0)
@@ -306,11 +319,11 @@ module _ (img : Image) (target : Target) (p : Program) (there : IsInPlace img ta
           (ticks_come_first m here.0.tick waits high)
       by_priority waits (inr low) =
           let zero : execution_priority m ≡ 0 = omega (arith, low) in
-          instructs (none_is_picked img s.core
-          (sym (execution_priorities_agree img s.core m here.0.agrees) ∙ zero)) (none_at_top m zero)
+          instructs (picks ∙ none_is_picked img here.0.unpaid
+          (sym (execution_priorities_agree img here.0.unpaid m here.0.agrees) ∙ zero)) (none_at_top m zero)
 
       by_pending : (b : Bool) → m.is_pending systick ≡ b → Next fits s m processor.Goes events
-      by_pending false e = by_pick e (pick img s.core) refl
+      by_pending false e = by_pick e (pick img here.0.unpaid) refl
       by_pending true e = by_priority e (cases_lt 0 (execution_priority m))
 
       goes_on : Next fits s m processor.Goes events
@@ -345,24 +358,24 @@ module _ (img : Image) (target : Target) (p : Program) (there : IsInPlace img ta
   follow [] fits s m stays stands bound = tt
   follow (processor.Arrives irq ∷ events) fits s m stays (At here) bound = λ fitting can_come.
       let r = related fits s m here fitting in
-      let joined = requests_lead_on img target p s m irq there r can_come in
+      let joined = requests_lead_on img target p ceiling s m irq there r can_come in
       request_comes events (follow events) fits s m stays irq can_come m r
       (At (joined.here, λ f. joined.marks))
       (omega (arith, bound, ap one_if (same_owed irq m))) (omega arith)
   follow (processor.Arrives irq ∷ events) fits s m stays (Within last here x) bound = λ fitting can_come.
       let r = related fits s last here fitting in
-      let joined = requests_lead_on img target p s last irq there r can_come in
+      let joined = requests_lead_on img target p ceiling s last irq there r can_come in
       request_comes events (follow events) fits s m stays irq can_come last r
       (Within (pended (external irq) last) (joined.here, λ f. joined.marks) (request_in_tick img p (external irq) m
       last x))
       (omega (arith, bound, ap one_if (same_owed irq last))) x.deep
   follow (processor.Ticks ∷ events) fits s m stays (At here) bound = λ fitting can_come.
-      let joined = pending_ticks_lead_on img target p s m there (related fits s m here fitting) in
+      let joined = pending_ticks_lead_on img target p ceiling s m there (related fits s m here fitting) in
       leaves_it events (follow events) fits s m stays (pended systick m) (At (joined.here, λ f. joined.marks))
       (omega (arith, bound)) processor.Ticks refl refl refl
       (let high = deep s (pended systick m) joined.here in omega (arith, high))
   follow (processor.Ticks ∷ events) fits s m stays (Within last here x) bound = λ fitting can_come.
-      let joined = pending_ticks_lead_on img target p s last there (related fits s last here fitting) in
+      let joined = pending_ticks_lead_on img target p ceiling s last there (related fits s last here fitting) in
       leaves_it events (follow events) fits s m stays (pended systick m)
       (Within (pended systick last) (joined.here, λ f. joined.marks) (request_in_tick img p systick m last x))
       (omega (arith, bound)) processor.Ticks refl refl refl
@@ -441,12 +454,16 @@ module _ (img : Image) (target : Target) (p : Program) (words : List ℕ) (m : M
   abbrev pub start : Moment
   start = moment_after img (at_reset img) (Fills words)
 
-  pub where_is : IsWhere img target p start m
-  where_is = record {
+  pub where_is : (ceiling : ℕ) → IsWhere img target p ceiling start m
+  where_is ceiling = record {
+    tail = None;
+    of_timer = tt;
+    unpaid = start.core;
+    owed = refl;
     top = stack_top img target;
     phase = AlreadyDone behind.thread;
-    fresh = (omega arith, tt);
-    waiting = (refl, behind.exception, behind.agrees.active);
+    fresh = (omega arith, tt, tt);
+    waiting = (refl, behind.exception, behind.agrees.active, refl);
     agrees = record {
       declared = behind.agrees.declared;
       undeclared = behind.agrees.undeclared;
@@ -480,15 +497,15 @@ pub at_most_one : (b : Bool) → one_if b ≤ 1
 at_most_one true = omega arith
 at_most_one false = omega arith
 
-pub native_simulates_without_alarms : NativeSimulatesWithoutAlarms
-native_simulates_without_alarms img target p fits words m events image well behind no_alarms few =
+pub native_simulates : NativeSimulates
+native_simulates img target p fits words m events image well behind few =
     let there = there_is img target p words m image behind in
     let ceiling = well.ceiling in
     let start_here = start img target p words m image behind in
     let stays = stays_behind img target.inputs ceiling fits (at_reset img) (Fills words ∷ [])
     (filled img target p words m image behind, tt) well.moments in
     let marked = marks_are_done img target p there ceiling (λ more. fits (Fills words ∷ more)) start_here m stays
-    (where_is img target p words m image behind) in
+    (where_is img target p words m image behind ceiling) in
     let first = Fills words ∷ marked.happened in
     let can : AllCanHappen img target.inputs (at_reset img) first =
     (filled img target p words m image behind, marked.can) in
@@ -497,7 +514,7 @@ native_simulates_without_alarms img target p fits words m events image well behi
       can = can;
       arrivals = marked.arrivals;
       unseen = marked.seen;
-      follows = follow img target p there ceiling no_alarms well.frames events
+      follows = follow img target p there ceiling well.frames events
           (λ more. fits (first ++ more)) (moment_after_all img (at_reset img) first) m
           (stays_behind img target.inputs ceiling fits (at_reset img) first can well.moments)
           (At (marked.here, λ f. marked.marks (ap fits (sym (append-nil first)) ∙ f)))

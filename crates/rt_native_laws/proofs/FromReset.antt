@@ -37,7 +37,8 @@ use Rattle.rt_native_laws.specs.Own.{Spans}
 use Rattle.rt_native_laws.specs.Resetting.{IsAtSecondPart, LeadsToReset, second_part}
 use Rattle.rt_native_laws.specs.Simulating.{IsImageFor, stack_bottom}
 use Rattle.rt_native_laws.specs.Standing.{HoldsWords}
-use Rattle.rt_native_laws.proofs.Copying.{Led, led_on}
+use Rattle.rt_native_laws.proofs.Copying.{IsWithin, Led, at_top, led_on}
+use Rattle.rt_native_laws.proofs.InReset.{is_in_reset, plain_within}
 use Rattle.rt_native_laws.proofs.Loading.{even_reset, loaded_code_is_there}
 use Rattle.rt_native_laws.proofs.ResetPlaces.{first_lies, second_spans}
 use Rattle.rt_native_laws.proofs.Resetting.{IsBehind, behind_it, longer, result, result_last}
@@ -92,6 +93,13 @@ module _ (img : Image) (target : Target) (p : Program) (m : Machine) (image : Is
   abbrev load : ℕ
   load = load_at img target
 
+  -- the thread's frame
+  abbrev floor : ℕ
+  floor = stack_top img target - 4 * img.thread_words
+
+  abbrev top : ℕ
+  top = stack_top img target
+
   has : HasCode at img pl p
   has = loaded_code_is_there img target p m start.loaded start.executed
 
@@ -126,7 +134,9 @@ module _ (img : Image) (target : Target) (p : Program) (m : Machine) (image : Is
       subst (λ (a : ℕ). CodeLies p a (first_part img)) (sym address_is) (first_lies img target p m start.loaded)
 
   elsewhere : IsElsewhere (Some p.port)
-  elsewhere = inl (omega (arith, mapped.port, start.executed.port))
+  elsewhere =
+      ⊎_elim (λ (y : target.port < 0xE000E000). inl (omega (arith, y, start.executed.port)))
+      (λ (y : 0xE000F000 ≤ target.port). inr (omega (arith, y, start.executed.port))) mapped.port
 
   led : (last : Machine) × RunAtTop p (settings img) (masked m) last × IsSetUp img m last
   led = sets_up_masked p img m image.set elsewhere start.interrupts code_first
@@ -189,10 +199,19 @@ module _ (img : Image) (target : Target) (p : Program) (m : Machine) (image : Is
   unfolding led_to
   same_last = result_last at bottom target.tick img load pl p middle at_second second
 
-  whole : Led p (masked m) led_to.last
+  whole : Led p floor top (masked m) led_to.last
   whole =
-      led_on p (masked m) middle led_to.last (record { executed = settings img; run = run })
-      (subst (λ (y : Machine). Led p middle y) (sym same_last) second.led)
+      led_on p floor top (masked m) middle led_to.last (record {
+        executed = settings img;
+        run = plain_within at img pl p has floor top (settings img) (masked m) middle (rows_plain img.irqs) run
+            (omega (arith, stack_is), omega (arith, stack_is));
+      })
+      (subst (λ (y : Machine). Led p floor top middle y) (sym same_last) second.led)
+
+  ends_within : IsWithin floor top led_to.last
+  ends_within =
+      let stack : led_to.last.register 13 ≡ floor = ap (λ (y : Machine). y.register 13) same_last ∙ second.stack in
+      (omega (arith, stack), omega (arith, stack))
 
   system_kept : (a : ℕ) → 0xE000ED00 ≤ a → word_at led_to.last a ≡ word_at m a
   system_kept a h =
@@ -251,7 +270,7 @@ module _ (img : Image) (target : Target) (p : Program) (m : Machine) (image : Is
     last = led_to.last;
     leads = λ events many early.
         from_first p whole.executed events m led_to.last start.interrupts.enabled start.interrupts.tick code_first.0
-        whole.run early many;
+        (at_top p floor top whole.executed (masked m) led_to.last whole.run) early many;
     words = led_to.slots;
     behind = record {
       loaded = loaded_then;
@@ -268,6 +287,8 @@ module _ (img : Image) (target : Target) (p : Program) (m : Machine) (image : Is
     };
     no_tick = ap (λ (f : ℕ → Bool). f systick) (led_to.is_pending ∙ set.is_pending) ∙ start.interrupts.tick;
     seen = led_to.seen ∙ set.seen;
+    meanwhile = is_in_reset img target p m led_to.last whole.executed start.interrupts.enabled start.interrupts.tick
+        code_first.0 image.runnable.sizes.thread_fits whole.run ends_within (led_to.seen ∙ set.seen);
   }
 
 pub reset_leads_behind : ResetLeadsBehind

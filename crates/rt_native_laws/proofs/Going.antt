@@ -26,8 +26,8 @@ use Rattle.rt_native_laws.specs.Laws.{IsApart}
 use Rattle.rt_native_laws.specs.Moments.{instruction_at, last_after}
 use Rattle.rt_native_laws.specs.Own.{AreSteady, ChangesItsOwn, Executes, RunsPrivately, Spans, StepsPrivately}
 use Rattle.rt_native_laws.specs.Own.{is_steady}
-use Rattle.rt_native_laws.specs.Phases.{IsNoCall, IsNoReading, IsToCome, IsDone, Phase, ToCome, AlreadyDone, Reads}
-use Rattle.rt_native_laws.specs.Phases.{Entering, Calling, kept_words}
+use Rattle.rt_native_laws.specs.Phases.{IsNoCall, IsOrdinary, IsToCome, IsDone, Phase, ToCome, AlreadyDone, Reads}
+use Rattle.rt_native_laws.specs.Phases.{Entering, Calling, Tails, kept_words}
 use Rattle.rt_native_laws.proofs.Beginning.{entering_goes, calling_goes, same_words}
 use Rattle.rt_native_laws.specs.Standing.{IsLaidOut, StandsFor, HoldsWords, IsBeside, frames_end}
 use Rattle.rt_native_laws.proofs.Accesses.{load_is_done, store_is_done, load_at_is_done, store_at_is_done}
@@ -502,13 +502,14 @@ module _ (at : Outside) (bottom : ℕ) (img : Image) (places : List ℕ) (p : Pr
   by_left x (j ∷ js) behind run =
       Nothing (goes_behind at bottom img places p code c laid top m n executed exec x j js behind run)
 
-  by_phase : (phase : Phase at bottom img places p c top m) → IsNoReading at bottom img places p c top m phase
+  by_phase : (phase : Phase at bottom img places p c top m) → IsOrdinary at bottom img places p c top m phase
       → IsOneStepOrNone at bottom img places p c top m n (kept_words at bottom img places p c top m phase) d said
   by_phase (ToCome x) unread = goes_to_come at bottom img places p code i plain c d said s top m n executed exec x
   by_phase (AlreadyDone x) unread = by_left x x.left x.steady x.completes
   by_phase (Entering x) unread = Nothing (entering_goes at bottom img places p code c top m n executed exec x)
   by_phase (Calling x) unread = Nothing (calling_goes at bottom img places p code c top m n executed exec x)
   by_phase (Reads x) unread = absurd unread
+  by_phase (Tails core x same) unread = absurd unread
 
 pub one_event_is_one_step_or_none : OneEventIsOneStepOrNone
 one_event_is_one_step_or_none at bottom img places p i c d said top m n executed code laid plain s phase unread exec =
@@ -546,6 +547,7 @@ module _ (at : Outside) (bottom : ℕ) (img : Image) (places : List ℕ) (p : Pr
   late_by_phase (Entering x) = entering_goes at bottom img places p code c top m n executed exec x
   late_by_phase (Calling x) = calling_goes at bottom img places p code c top m n executed exec x
   late_by_phase (Reads x) = absurd (true_and_false m.is_unsettled late x.settled)
+  late_by_phase (Tails core x same) = absurd (true_and_false m.is_unsettled late x.settled)
 
 pub what_is_late_is_nothing : WhatIsLateIsNothing
 what_is_late_is_nothing at bottom img places p c top m n executed code laid phase late exec =

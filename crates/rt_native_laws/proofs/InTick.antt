@@ -41,7 +41,7 @@ both_kept f (x ∷ xs) ys = by_test (both_kept f xs ys) (f x)
     by_test e true = ap (λ (zs : List Seen). x ∷ zs) e
     by_test e false = e
 
-none_behind : (xs ys : List Seen) → xs ++ ys ≡ [] → ys ≡ []
+pub none_behind : (xs ys : List Seen) → xs ++ ys ≡ [] → ys ≡ []
 none_behind [] ys e = e
 none_behind (x ∷ xs) ys e = absurd (cc)
 

@@ -2,7 +2,7 @@
 use Rattle.std.proofs.Common.{◌≡◌, ◌≢◌, ◌∙◌, ℕ, ◌+◌, ◌*◌, ◌/◌, ◌%◌, ◌^◌, ◌<◌, ◌≤◌, inl, inr, Bool, true, false, List}
 use Rattle.std.proofs.Common.{[], ◌∷◌, ◌++◌, Option, Some, None, IfSome, refl, sym, ap, subst, arith, length, map}
 use Rattle.std.proofs.Common.{⊎_elim}
-use Rattle.std.proofs.lemmas.List.{length-set}
+use Rattle.std.proofs.lemmas.List.{get_or-set_other, length-set}
 use Rattle.std.specs.List.{AllByRecursion, filter}
 use Rattle.std.specs.Prelude.{if◌then◌else◌, ◌==◌, min, nat_lt, reverse, slice_get, slice_index, slice_index_or}
 use Rattle.rt_ids.specs.Event.{Step}
@@ -19,7 +19,7 @@ use Rattle.rt_core.specs.Stepping.{attempt, step}
 use Rattle.rt_core.specs.Transfer.{core_after_entry, exception_entry, has_room}
 use Rattle.rt_core.proofs.Picking.{picked_row}
 use Rattle.rt_native.specs.Layout.{TICK_BYTES, outside, places, stack_top, stub_places}
-use Rattle.rt_native.specs.Service.{entrance, first_call, stub}
+use Rattle.rt_native.specs.Service.{entrance, first_call, stub, timer_irq}
 use Rattle.rt_native.specs.Target.{Target}
 use Rattle.rt_native.specs.declared.outside.Outside.{Outside}
 use Rattle.rt_native.specs.declared.target.Input.{Input}
@@ -36,15 +36,17 @@ use Rattle.rt_trace.specs.declared.item.What.TheVariants as what
 use Rattle.rt_native_laws.specs.Behaving.{HasEvenFrames, IsGood, StaysGood}
 use Rattle.rt_native_laws.specs.Deep.{IsWithinFrames}
 use Rattle.rt_native_laws.specs.Inputs.{Enters, IsAtInputs, Reads as ReadsMore}
+use Rattle.rt_native_laws.specs.InTail.{Debt, paid}
 use Rattle.rt_native_laws.specs.Moments.{Began, Comes, Happening, Moment, Taking, after_step, moment_after}
+use Rattle.rt_native_laws.specs.Moments.{with_core}
 use Rattle.rt_native_laws.specs.Own.{Spans}
-use Rattle.rt_native_laws.specs.Phases.{Entering, Phase, Reads}
+use Rattle.rt_native_laws.specs.Phases.{Entering, Phase, Reads, tail_of}
 use Rattle.rt_native_laws.specs.Reading.{IsInput}
 use Rattle.rt_native_laws.specs.Relating.{EntriesLeadOn, IsInPlace, IsWhere, LeadsOn, lowest}
 use Rattle.rt_native_laws.specs.Saving.{CanBeInterrupted}
-use Rattle.rt_native_laws.specs.Simulating.{HasNoAlarms, seen_of_label}
+use Rattle.rt_native_laws.specs.Simulating.{compared, seen_of_label}
 use Rattle.rt_native_laws.specs.Standing.{IsLaidOut}
-use Rattle.rt_native_laws.specs.Waiting.{IsFresh, Waiting}
+use Rattle.rt_native_laws.specs.Waiting.{IsFresh, KeepsTail, Waiting, others_tail}
 use Rattle.rt_native_laws.proofs.Deep.{eight, phases_are_within_frames, stack_is_no_deeper}
 use Rattle.rt_native_laws.proofs.Eights.{phase_is_eight}
 use Rattle.rt_native_laws.proofs.Inputs.{entry_reads_inputs}
@@ -52,7 +54,10 @@ use Rattle.rt_native_laws.proofs.Loading.{loaded_entries_lead}
 use Rattle.rt_native_laws.proofs.Marking.{marks_are_done, step_seen}
 use Rattle.rt_native_laws.proofs.Relating.{KeepsOutside, loaded_still, tick_still}
 use Rattle.rt_native_laws.proofs.Saving.{entry_pushes_below}
+use Rattle.rt_native_laws.proofs.Tails.{for_some, tail_untouched}
 use Rattle.rt_native_laws.proofs.Tests.{at_most, is_less, not_equal}
+use Rattle.rt_native_laws.proofs.Unpaid.{IsQuiet, free, good_unpaid, moment_same, owing, paid_same, parts_same}
+use Rattle.rt_native_laws.proofs.Unpaid.{picks_same, step_same}
 use Rattle.rt_native_laws.proofs.Waiting.{entry_adds_a_job, unopened_inside}
 
 -- the step that takes an interrupt, where it is no trap
@@ -98,18 +103,19 @@ none_is_it m irq v (x ∷ below) value higher all nested = (
 )
 
 -- what interrupted jobs say of what runs
-module _ (at : Outside) (bottom highest : ℕ) (inputs : List Input) (img : Image) (places : List ℕ) (p : Program)
-    (c : Core) (top : ℕ)
-    (m : Machine) where
+module _ (at : Outside) (bottom highest ceiling : ℕ) (inputs : List Input) (img : Image) (places : List ℕ)
+    (p : Program) (tail : Option Debt) (c : Core) (top : ℕ) (m : Machine) where
   pub top_is_eight : (takings : List Taking) (below : List Context)
-      → Waiting at bottom highest inputs img places p takings below c top m → highest % 8 ≡ 0 → top % 8 ≡ 0
+      → Waiting at bottom highest ceiling inputs img places p tail takings below c top m → highest % 8 ≡ 0
+      → top % 8 ≡ 0
   top_is_eight [] [] jobs z = omega (arith, jobs.0, z)
   top_is_eight [] (x ∷ below) jobs z = absurd jobs
   top_is_eight (taking ∷ takings) [] jobs z = absurd jobs
   top_is_eight (taking ∷ takings) (x ∷ below) jobs z = jobs.0
 
   pub exception_is : (takings : List Taking) (below : List Context)
-      → Waiting at bottom highest inputs img places p takings below c top m → m.exception ≡ exception_number below
+      → Waiting at bottom highest ceiling inputs img places p tail takings below c top m
+      → m.exception ≡ exception_number below
   exception_is [] [] jobs = jobs.1
   exception_is [] (x ∷ below) jobs = absurd jobs
   exception_is (taking ∷ takings) [] jobs = absurd jobs
@@ -138,10 +144,10 @@ all_of P passes (x ∷ xs) h = by_test (all_of P passes xs h.1) (passes x)
     by_test later false = later
 
 module _ (img : Image) (target : Target) (p : Program) (ceiling : ℕ) (fits : List Happening → Bool) (s : Moment)
-    (m : Machine) (row : IrqRow) (h : Handler) (there : IsInPlace img target p) (no_alarms : HasNoAlarms img)
-    (even_frames : HasEvenFrames img)
-    (stays : StaysGood img target.inputs ceiling fits s) (fitting : fits [] ≡ true) (w : IsWhere img target p s m)
-    (picked : pick img s.core ≡ Some row) (handled : row.handler ≡ Some h) where
+    (m : Machine) (row : IrqRow) (h : Handler) (there : IsInPlace img target p) (even_frames : HasEvenFrames img)
+    (stays : StaysGood img target.inputs ceiling fits s) (fitting : fits [] ≡ true)
+    (w : IsWhere img target p ceiling s m)
+    (picked : pick img w.unpaid ≡ Some row) (handled : row.handler ≡ Some h) where
   abbrev at : Outside
   at = outside img target
 
@@ -158,7 +164,10 @@ module _ (img : Image) (target : Target) (p : Program) (ceiling : ℕ) (fits : L
   inputs = target.inputs
 
   abbrev c : Core
-  c = s.core
+  c = w.unpaid
+
+  abbrev others : Option Debt
+  others = others_tail (tail_of at bottom img pl p c w.top m w.phase) w.tail
 
   abbrev e : ℕ
   e = external row.number
@@ -169,8 +178,15 @@ module _ (img : Image) (target : Target) (p : Program) (ceiling : ℕ) (fits : L
   abbrev d : Core
   d = core_after_entry c row.number h
 
-  good : IsGood img ceiling s
-  good = stays [] tt fitting
+  -- an interrupt is taken, so no instruction is executed
+  quiet : IsQuiet img target p ceiling s m w
+  quiet t e none = absurd (some_row (sym none ∙ picked))
+    where
+      some_row : None ≡ Some row → ⊥
+      some_row f = cc
+
+  good : IsGood img ceiling (with_core s c)
+  good = good_unpaid img target p ceiling s m w quiet (stays [] tt fitting)
 
   laid : IsLaidOut at bottom (length c.processor.cells)
   laid = subst (IsLaidOut at bottom) (sym w.cells) there.laid
@@ -213,8 +229,9 @@ module _ (img : Image) (target : Target) (p : Program) (ceiling : ℕ) (fits : L
 
   eights : m.register 13 % 8 ≡ 0
   eights =
-      phase_is_eight at bottom img pl p there.has even_frames no_alarms c w.top m
-      (top_is_eight at bottom highest inputs img pl p c w.top m s.takings c.below w.waiting highest_eight) good.frames
+      phase_is_eight at bottom img pl p there.has even_frames c w.top m
+      (top_is_eight at bottom highest ceiling inputs img pl p others c w.top m s.takings c.below w.waiting
+      highest_eight) good.frames
       w.phase
 
   within : IsWithinFrames at bottom c w.top m
@@ -225,7 +242,9 @@ module _ (img : Image) (target : Target) (p : Program) (ceiling : ℕ) (fits : L
 
   room : bottom + 4 * h.frame + 32 ≤ m.register 13
   room =
-      let deep = stack_is_no_deeper at bottom highest inputs img pl p s.takings c w.top m laid there.has.port w.phase
+      let deep = stack_is_no_deeper at bottom highest ceiling inputs img pl p others s.takings c w.top m laid
+      there.has.port
+      w.phase
       w.waiting in
       let fits_in = at_most (stack_in_use img c + (entry_words img + h.frame)) (img.stack_bytes / 4) entry.room in
       omega (arith, deep, fits_in, there.reach, there.image.runnable.sizes.stack_pairs, eight img.fpu)
@@ -239,7 +258,7 @@ module _ (img : Image) (target : Target) (p : Program) (ceiling : ℕ) (fits : L
     room = omega (arith, room);
     address = w.placed.0;
     exception = subst (λ (x : ℕ). x < 2 ^ 9)
-        (sym (exception_is at bottom highest inputs img pl p c w.top m s.takings c.below w.waiting))
+        (sym (exception_is at bottom highest ceiling inputs img pl p others c w.top m s.takings c.below w.waiting))
         (number_is_small m c.below w.agrees.values);
   }
 
@@ -260,12 +279,14 @@ module _ (img : Image) (target : Target) (p : Program) (ceiling : ℕ) (fits : L
 
   phase_of : IsAtInputs at bottom img pl p target.inputs d (n.register 13) n
       → (phase : Phase at bottom img pl p d (n.register 13) n)
-      × IsFresh at bottom highest inputs img pl p Began d (n.register 13) n phase
-  phase_of (ReadsMore x same) = (Reads x, (omega arith, (refl, same)))
-  phase_of (Enters x) = (Entering x, (omega arith, tt))
+      × IsFresh at bottom highest ceiling inputs img pl p w.tail Began d (n.register 13) n phase
+      × (tail_of at bottom img pl p d (n.register 13) n phase ≡ None)
+  phase_of (ReadsMore x same) = (Reads x, (omega arith, (refl, same), tt), refl)
+  phase_of (Enters x) = (Entering x, (omega arith, tt, tt), refl)
 
   phase : (phase : Phase at bottom img pl p d (n.register 13) n)
-      × IsFresh at bottom highest inputs img pl p Began d (n.register 13) n phase
+      × IsFresh at bottom highest ceiling inputs img pl p w.tail Began d (n.register 13) n phase
+      × (tail_of at bottom img pl p d (n.register 13) n phase ≡ None)
   phase =
       phase_of (entry_reads_inputs at bottom img pl p target.inputs to row.number h c w.top m there.has laid can
       w.placed.1 inactive unmasked w.words within.high within.below_cells w.phase
@@ -276,6 +297,18 @@ module _ (img : Image) (target : Target) (p : Program) (ceiling : ℕ) (fits : L
       entry_pushes_below e m can k (⊎_elim (λ (x : 4 * k + 4 + TICK_BYTES ≤ bottom). inl (omega (arith, x, room)))
       (λ (x : at.time + 8 ≤ 4 * k). inr (omega (arith, x, within.high, within.below_cells, there.laid.time))) beside)
 
+  -- the interrupt of an alarm that is owed is another one
+  meanwhile : KeepsTail w.tail w.tail c d
+  meanwhile =
+      tail_untouched w.tail c d (owing img target p ceiling s m w) refl
+      (for_some w.tail (λ t. (d.alarm ≡ c.alarm)
+      × (slice_index_or c.pending t.irq false ≡ true → slice_index_or d.pending t.irq false ≡ true)) (λ t e. (
+        refl,
+        λ f. get_or-set_other c.pending row.number t.irq false false (λ g.
+            let low = free img target p ceiling s m w t e row (picked_row img c row picked).0 (sym g) in
+            omega (arith, low, higher)) ∙ f,
+      )))
+
   abbrev taking : Taking
   taking = record { base_priority = c.processor.basepri; last = s.last }
 
@@ -283,15 +316,21 @@ module _ (img : Image) (target : Target) (p : Program) (ceiling : ℕ) (fits : L
   small_place =
       let small = w.words.memory ((m.memory (0xE000ED08 / 4) + 4 * e) / 4) in omega (arith, small)
 
-  where_then : IsWhere img target p (record { core = d; last = Began; takings = taking ∷ s.takings }) n
+  where_then : IsWhere img target p ceiling
+      (record { core = paid w.tail d; last = Began; takings = taking ∷ s.takings }) n
   where_then = record {
+    tail = w.tail;
+    of_timer = w.of_timer;
+    unpaid = d;
+    owed = refl;
     top = n.register 13;
     phase = phase.0;
     fresh = phase.1;
-    waiting = entry_adds_a_job at bottom highest inputs img pl p s.takings s.last row.number h c w.top m laid
-        there.has.port
-        can
-        w.placed.1 inactive unmasked w.words within.high within.below_cells w.phase w.fresh w.waiting;
+    waiting = subst (λ (o : Option Debt). Waiting at bottom highest ceiling inputs img pl p (others_tail o w.tail)
+        (taking ∷ s.takings) d.below d (n.register 13) n) (sym phase.2)
+        (entry_adds_a_job at bottom highest ceiling inputs img pl p w.tail s.takings s.last row.number h c w.top m laid
+        there.has.port can w.placed.1 inactive unmasked w.words within.high within.below_cells higher_than meanwhile
+        w.phase w.fresh w.waiting);
     agrees = entries_keep_agreeing img c m row h w.agrees picked handled (omega (arith, room, lowest_is))
         (omega (arith, within.high, within.below_cells, there.laid.time, there.laid.in_memory));
     words = (unopened_inside at bottom img pl p row.number h c w.top m laid there.has.port can w.placed.1 inactive
@@ -306,34 +345,41 @@ module _ (img : Image) (target : Target) (p : Program) (ceiling : ℕ) (fits : L
     frames = (good.frames, w.frames);
   }
 
-  next_is : moment_after img s (Comes Step) ≡ record { core = d; last = Began; takings = taking ∷ s.takings }
+  next_is : moment_after img s (Comes Step)
+      ≡ record { core = paid w.tail d; last = Began; takings = taking ∷ s.takings }
   next_is =
-      ap (after_step img s (step img c).0) picked
-      ∙ ap (λ (k : Core). after_step img s k (Some row)) (ap (λ (x : Core × Option What). x.0) entry.is)
+      moment_same img target p ceiling s m w quiet
+      ∙ ap (λ (z : Moment). with_core z (paid w.tail z.core))
+      (ap (after_step img (with_core s c) (step img c).0) picked
+      ∙ ap (λ (k : Core). after_step img (with_core s c) k (Some row))
+      (ap (λ (x : Core × Option What). x.0) entry.is))
 
-  leads : LeadsOn img target p fits s m n
+  leads : LeadsOn img target p ceiling fits s m n
   leads =
       let s1 = moment_after img s (Comes Step) in
-      let here = subst (λ (z : Moment). IsWhere img target p z n) (sym next_is) where_then in
+      let here = subst (λ (z : Moment). IsWhere img target p ceiling z n) (sym next_is) where_then in
       let marked = marks_are_done img target p there ceiling (λ more. fits (Comes Step ∷ more)) s1 n
       (λ more ok f. stays (Comes Step ∷ more) (tt, ok) f) here in
       record {
         happened = Comes Step ∷ marked.happened;
         can = (tt, marked.can);
         arrivals = marked.arrivals;
-        seen = sym (ap (λ (xs : List Seen). reverse xs ++ m.seen)
+        seen = ap (compared (timer_irq img.code)) (sym (ap (λ (xs : List Seen). reverse xs ++ m.seen)
             (step_seen img s marked.happened
-            ∙ (ap (λ (xs : List Seen). seen_of_label (Stepped (step img c).1) ++ xs) marked.seen
+            ∙ (ap (λ (xs : List Seen). seen_of_label (Stepped (step img s.core).1) ++ xs) marked.seen
             ∙ ap (λ (o : Option What). seen_of_label (Stepped o) ++ [])
-            (ap (λ (x : Core × Option What). x.1) entry.is))));
+            (ap (λ (x : Core × Option What). x.1) (step_same img target p ceiling s m w quiet)
+            ∙ ap (λ (x : Core × Option What). x.1) entry.is)))));
         ticks = ap (λ (b : Bool). if b then false else m.is_pending systick)
             (not_equal systick e (λ f. omega (arith, f)));
-        time = marked.time ∙ ap (λ (z : Moment). z.core.time) next_is;
+        time = marked.time ∙ (ap (λ (z : Moment). z.core.time) next_is
+            ∙ ((paid_same w.tail d).time ∙ sym (parts_same img target p ceiling s m w).time));
         here = marked.here;
         marks = marked.marks;
       }
 
 pub entries_lead_on : EntriesLeadOn
-entries_lead_on img target p ceiling fits s m row h there no_alarms even_frames stays fitting r picked
+entries_lead_on img target p ceiling fits s m row h there even_frames stays fitting r picked
     handled =
-    leads img target p ceiling fits s m row h there no_alarms even_frames stays fitting r.here picked handled
+    leads img target p ceiling fits s m row h there even_frames stays fitting r.here
+    (sym (picks_same img target p ceiling s m r.here) ∙ picked) handled

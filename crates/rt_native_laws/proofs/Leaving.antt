@@ -32,12 +32,13 @@ use Rattle.rt_native_laws.specs.Doing.{seen_of, with_slots}
 use Rattle.rt_native_laws.specs.Going.{HasCode, IsNothing, IsOneStep, StepsBy}
 use Rattle.rt_native_laws.specs.Leaving.{BackGoesOn, RetGoesOn, Resumes, ReturnResumes}
 use Rattle.rt_native_laws.specs.Laws.{IsApart}
+use Rattle.rt_native_laws.specs.InTail.{Debt}
 use Rattle.rt_native_laws.specs.Moments.{Taking, instruction_at, last_after}
 use Rattle.rt_native_laws.specs.Own.{ChangesItsOwn, Executes, RunsPrivately, StepsPrivately}
-use Rattle.rt_native_laws.specs.Phases.{AlreadyDone, IsSameAbove, IsToCome, Phase}
+use Rattle.rt_native_laws.specs.Phases.{AlreadyDone, IsSameAbove, IsToCome, Phase, tail_of}
 use Rattle.rt_native_laws.specs.Standing.{HoldsWords, IsBeside, IsLaidOut, StandsFor, caller_words, frame_bytes}
 use Rattle.rt_native_laws.specs.Standing.{frames_end}
-use Rattle.rt_native_laws.specs.Waiting.{IsFresh, Waiting, interrupted_core, resumed}
+use Rattle.rt_native_laws.specs.Waiting.{IsFresh, Waiting, interrupted_core, others_tail, resumed}
 use Rattle.rt_native_laws.proofs.Accesses.{runs_within}
 use Rattle.rt_native_laws.proofs.Prefixes.{same_some, same_run, rest_of, compare, Place, Before}
 use Rattle.rt_native_laws.proofs.Prefixes.{There, Past}
@@ -376,9 +377,9 @@ same_stack top m e =
         ap (λ (b : Bool). if b then top else m.register k) f ∙ (sym e ∙ ap m.register (sym is))
     by_number k false f = ap (λ (b : Bool). if b then top else m.register k) f
 
-module _ (at : Outside) (bottom highest : ℕ) (inputs : List Input) (img : Image) (places : List ℕ) (p : Program)
-    (taking : Taking)
-    (takings : List Taking) (x : Context) (below : List Context) (c d : Core) (said : Option What) (top : ℕ)
+module _ (at : Outside) (bottom highest ceiling : ℕ) (inputs : List Input) (img : Image) (places : List ℕ)
+    (p : Program) (tail : Option Debt) (taking : Taking) (takings : List Taking) (x : Context) (below : List Context)
+    (c d : Core) (said : Option What) (top : ℕ)
     (m n : Machine) (st : StepsBy img instr.Ret c d said) (waits : c.below ≡ x ∷ below) (free : c.caller ≡ None)
     (base : c.processor.basepri ≡ taking.base_priority) (unmasked : c.processor.primask ≡ false)
     (same_base : m.base_priority ≡ taking.base_priority) (same_mask : m.is_masked ≡ false)
@@ -410,31 +411,25 @@ module _ (at : Outside) (bottom highest : ℕ) (inputs : List Input) (img : Imag
       ∙ (ap (λ (y : ℕ). record (popped m) { base_priority = y; is_masked = false }) (sym same_base)
       ∙ (ap (λ (y : Bool). record (popped m) { is_masked = y }) (sym same_mask) ∙ return_pops (m.register 14) m n goes))
 
-  -- a phase of another job, with its frame as new
+  -- a phase of another job, with its frame as new, and those that wait
   abbrev Fresh : Core → ℕ → Machine → Type 0
   Fresh y next z =
       (phase : Phase at bottom img places p y next z)
-      × IsFresh at bottom highest inputs img places p taking.last y next z phase
+      × IsFresh at bottom highest ceiling inputs img places p tail taking.last y next z phase
+      × Waiting at bottom highest ceiling inputs img places p
+      (others_tail (tail_of at bottom img places p y next z phase) tail) takings below y next z
 
-  resumes : Waiting at bottom highest inputs img places p (taking ∷ takings) (x ∷ below) c top m
-      → Resumes at bottom highest inputs img places p taking.last takings below d n
-  resumes (aligned, small, runs, active, link, up, next, within, fits, phase, more) =
+  resumes : Waiting at bottom highest ceiling inputs img places p tail (taking ∷ takings) (x ∷ below) c top m
+      → Resumes at bottom highest ceiling inputs img places p tail taking.last takings below d n
+  resumes (aligned, small, runs, active, link, up, next, within, fits, higher, phase, fresh, more) =
       let there = interrupted_core priority c x below in
       let now : Fresh d next n =
-      subst (λ (y : Core). Fresh y next n) (sym core_is) (subst (λ (y : Machine). Fresh there next y) state_is phase) in
-      record {
-        top = next;
-        phase = now.0;
-        fresh = now.1;
-        others = subst (λ (y : Core). Waiting at bottom highest inputs img places p takings below y next n)
-            (sym core_is)
-            (subst (λ (y : Machine). Waiting at bottom highest inputs img places p takings below there next y) state_is
-            more);
-      }
+      subst (λ (y : Core). Fresh y next n) (sym core_is)
+      (subst (λ (y : Machine). Fresh there next y) state_is (phase, fresh, more)) in
+      record { top = next; phase = now.0; fresh = now.1; others = now.2 }
 
 pub return_resumes : ReturnResumes
-return_resumes at bottom highest inputs img places p taking takings x below c d said top m n st waits free base unmasked
-    same_base same_mask stack goes jobs =
-    resumes at bottom highest inputs img places p taking takings x below c d said top m n st waits free base unmasked
-    same_base
-    same_mask stack goes jobs
+return_resumes at bottom highest ceiling inputs img places p tail taking takings x below c d said top m n st waits free
+    base unmasked same_base same_mask stack goes jobs =
+    resumes at bottom highest ceiling inputs img places p tail taking takings x below c d said top m n st waits free
+    base unmasked same_base same_mask stack goes jobs

@@ -37,6 +37,7 @@ pub mod Silent
 pub mod Going
 pub mod Tail
 pub mod Meanwhile
+pub mod Tails
 pub mod Storing
 pub mod Loading
 pub mod Copying
@@ -50,12 +51,14 @@ pub mod Deep
 pub mod Above
 pub mod EachKind
 pub mod Arriving
+pub mod Unpaid
 pub mod Relating
 pub mod Even
 pub mod Items
 pub mod Shaping
 pub mod Marking
 pub mod Leading
+pub mod Tailing
 pub mod Returning
 pub mod Instructing
 pub mod Requesting
@@ -68,5 +71,7 @@ pub mod Alike
 pub mod Owing
 pub mod Following
 pub mod ResetPlaces
+pub mod InReset
 pub mod FromReset
 pub mod Early
+pub mod Throughout

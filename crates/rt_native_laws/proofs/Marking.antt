@@ -7,6 +7,7 @@ use Rattle.std.proofs.lemmas.Option.{slice_get_past}
 use Rattle.rt_ids.specs.Event.{Step}
 use Rattle.rt_lemmas.proofs.Bools.{true_and_false}
 use Rattle.rt_code.specs.Image.{Image}
+use Rattle.rt_code.specs.Processor.{Processor}
 use Rattle.rt_code.specs.declared.image.IrqRow.{IrqRow}
 use Rattle.rt_code.specs.declared.instr.Instr.{Instr}
 use Rattle.rt_code.specs.declared.instr.Instr.TheVariants as instr
@@ -20,20 +21,27 @@ use Rattle.rt_native.specs.Target.{Target}
 use Rattle.rt_thumb.specs.Machine.{Machine, Seen}
 use Rattle.rt_thumb.specs.Step.{Program}
 use Rattle.rt_trace.specs.Label.{Stepped}
+use Rattle.rt_native_laws.specs.Alike.{SetsNoAlarm}
 use Rattle.rt_native_laws.specs.Behaving.{GoesWell, IsGood, StaysGood}
 use Rattle.rt_native_laws.specs.Doing.{RaisesOnly, seen_of}
 use Rattle.rt_native_laws.specs.Going.{StepsBy}
+use Rattle.rt_native_laws.specs.InTail.{Debt, paid}
 use Rattle.rt_native_laws.specs.Moments.{AllCanHappen, Comes, Happening, Moment, Went, after_instruction, after_step}
-use Rattle.rt_native_laws.specs.Moments.{instruction_at, last_after, moment_after, moment_after_all, shown}
-use Rattle.rt_native_laws.specs.Phases.{AlreadyDone, Calling, Entering, IsDone, Phase, Reads, ToCome}
+use Rattle.rt_native_laws.specs.Moments.{instruction_at, last_after, moment_after, moment_after_all, shown, with_core}
+use Rattle.rt_native_laws.specs.Phases.{AlreadyDone, Calling, Entering, IsDone, Phase, Reads, Tails, ToCome}
+use Rattle.rt_native_laws.specs.Phases.{tail_of}
 use Rattle.rt_native_laws.specs.Relating.{IsPastMarks, IsInPlace, IsWhere, lowest}
 use Rattle.rt_native_laws.specs.Simulating.{arrivals_of, seen_of_label}
 use Rattle.rt_native_laws.proofs.Going.{mark_is_no_event, same_core}
 use Rattle.rt_native_laws.proofs.Prefixes.{same_some}
-use Rattle.rt_native_laws.proofs.Relating.{is_where_on}
+use Rattle.rt_native_laws.proofs.Relating.{alarm_then, in_no_tail, is_where_on}
 use Rattle.rt_native_laws.proofs.Settled.{settled_within}
 use Rattle.rt_native_laws.proofs.Shaping.{KeepsShape, StaysInContext, step_keeps_shape, step_shows}
 use Rattle.rt_native_laws.proofs.Stepping.{outcome_is}
+use Rattle.rt_native_laws.proofs.Tails.{tail_same}
+use Rattle.rt_native_laws.proofs.Unpaid.{IsQuiet, good_unpaid, moment_same, owing, paid_same, parts_same}
+use Rattle.rt_native_laws.proofs.Unpaid.{step_same}
+use Rattle.rt_trace.specs.declared.item.What.{What}
 
 abbrev is_mark : Instr → Bool
 is_mark instr.Mark = true
@@ -96,9 +104,8 @@ module _ (img : Image) (target : Target) (p : Program) (there : IsInPlace img ta
     pub arrivals : flat_map arrivals_of happened ≡ []
     pub seen : flat_map seen_of_label (shown img s happened) ≡ []
     pub time : (moment_after_all img s happened).core.time ≡ s.core.time
-    pub here : IsWhere img target p (moment_after_all img s happened) m
-    pub marks : fits happened ≡ true
-        → IsPastMarks img target p (moment_after_all img s happened).core here.top m here.phase
+    pub here : IsWhere img target p ceiling (moment_after_all img s happened) m
+    pub marks : fits happened ≡ true → IsPastMarks img target p here.unpaid here.top m here.phase
 
   abbrev ThePhase : Core → ℕ → Machine → Type 0
   ThePhase c top m = Phase (outside img target) (lowest img target p) img (places img target) p c top m
@@ -110,10 +117,11 @@ module _ (img : Image) (target : Target) (p : Program) (there : IsInPlace img ta
   past_if c top m (Entering x) h = tt
   past_if c top m (Calling x) h = tt
   past_if c top m (Reads x) h = tt
+  past_if c top m (Tails core x same) h = tt
 
   -- no mark is next
-  none_next : (fits : List Happening → Bool) (s : Moment) (m : Machine) (w : IsWhere img target p s m)
-      → (fits [] ≡ true → IsPastMarks img target p s.core w.top m w.phase) → HasMarked fits s m
+  none_next : (fits : List Happening → Bool) (s : Moment) (m : Machine) (w : IsWhere img target p ceiling s m)
+      → (fits [] ≡ true → IsPastMarks img target p w.unpaid w.top m w.phase) → HasMarked fits s m
   none_next fits s m w past = record {
     happened = [];
     can = tt;
@@ -125,48 +133,77 @@ module _ (img : Image) (target : Target) (p : Program) (there : IsInPlace img ta
   }
 
   -- one mark
-  module _ (s : Moment) (m : Machine) (w : IsWhere img target p s m) (good : IsGood img ceiling s)
-      (none : pick img s.core ≡ None) (note : Option Note)
-      (line : slice_get img.code s.core.processor.address ≡ Some (instr.Mark, note))
-      (x : IsDone (outside img target) (lowest img target p) img (places img target) p s.core w.top m) where
+  module _ (s : Moment) (m : Machine) (w : IsWhere img target p ceiling s m) (good : IsGood img ceiling s)
+      (none : pick img w.unpaid ≡ None) (note : Option Note)
+      (line : slice_get img.code w.unpaid.processor.address ≡ Some (instr.Mark, note))
+      (x : IsDone (outside img target) (lowest img target p) img (places img target) p w.unpaid w.top m)
+      (own : tail_of (outside img target) (lowest img target p) img (places img target) p w.unpaid w.top m w.phase
+      ≡ None) where
+    abbrev u : Core
+    u = w.unpaid
+
     abbrev d : Core
-    d = (step img s.core).0
+    d = (step img u).0
 
-    st : StepsBy img instr.Mark s.core d (step img s.core).1
-    st = steps_by img ceiling s good instr.Mark note line none
-
-    shape : KeepsShape s.core d
-    shape = step_keeps_shape img instr.Mark s.core d (step img s.core).1 tt st
-
-    done : IsDone (outside img target) (lowest img target p) img (places img target) p d w.top m
-        × (seen_of (step img s.core).1 ≡ [])
-    done = mark_is_no_event (outside img target) (lowest img target p) img (places img target) p s.core d
-        (step img s.core).1 w.top m there.has st x
-
-    at_mark : instruction_at img s.core ≡ Some instr.Mark
+    at_mark : instruction_at img u ≡ Some instr.Mark
     at_mark = ap (option_map (λ l. l.0)) line
 
-    next_is : moment_after img s (Comes Step) ≡ record { core = d; last = Went; takings = s.takings }
-    next_is = moment_is img s instr.Mark tt none at_mark
+    quiet : IsQuiet img target p ceiling s m w
+    quiet t e f = subst SetsNoAlarm (sym at_mark) tt
 
-    after_mark : IsWhere img target p (moment_after img s (Comes Step)) m
+    st : StepsBy img instr.Mark u d (step img u).1
+    st =
+        steps_by img ceiling (with_core s u) (good_unpaid img target p ceiling s m w quiet good) instr.Mark note line
+        none
+
+    shape : KeepsShape instr.Mark u d
+    shape = step_keeps_shape img instr.Mark u d (step img u).1 tt st
+
+    done : IsDone (outside img target) (lowest img target p) img (places img target) p d w.top m
+        × (seen_of (step img u).1 ≡ [])
+    done = mark_is_no_event (outside img target) (lowest img target p) img (places img target) p u d
+        (step img u).1 w.top m there.has st x
+
+    core_is : record u { processor = record u.processor { address = suc u.processor.address } } ≡ d
+    core_is =
+        let is = outcome_is img instr.Mark u d (step img u).1 st in
+        same_core (record u { processor = record u.processor { address = suc u.processor.address } }) d None is.own
+        is.is
+
+    next_is : moment_after img s (Comes Step) ≡ record { core = paid w.tail d; last = Went; takings = s.takings }
+    next_is =
+        moment_same img target p ceiling s m w quiet
+        ∙ ap (λ (z : Moment). with_core z (paid w.tail z.core))
+        (moment_is img (with_core s u) instr.Mark tt none at_mark)
+
+    after_mark : IsWhere img target p ceiling (moment_after img s (Comes Step)) m
     after_mark =
-        subst (λ (y : Moment). IsWhere img target p y m) (sym next_is)
-        (is_where_on img target p there s m m w d Went (AlreadyDone done.0)
-        (settled_within Went (length d.processor.slots), tt)
+        subst (λ (y : Moment). IsWhere img target p ceiling y m) (sym next_is)
+        (is_where_on img target p there ceiling s m m w w.tail w.of_timer d Went (AlreadyDone done.0)
+        (settled_within Went (length d.processor.slots), tt, tt)
+        (in_no_tail _ None w.tail u d own refl
+        (tail_same w.tail u d (owing img target p ceiling s m w) (sym (ap (λ (y : Core). y.time) core_is))
+        (sym (ap (λ (y : Core). y.alarm) core_is)) (sym (ap (λ (y : Core). y.pending) core_is))))
         (record { registers = λ k h f. refl; memory = λ k h f. refl; exception = refl; active = refl })
-        (λ k h. refl) w.words w.placed shape.below shape.cells shape.requests shape.stopped shape.alarm)
+        (λ k h. refl) w.words w.placed shape.below shape.cells shape.requests shape.stopped
+        (alarm_then img u d w.alarm shape.alarm))
 
     address_is : (moment_after img s (Comes Step)).core.processor.address ≡ suc s.core.processor.address
     address_is =
-        let is = outcome_is img instr.Mark s.core d (step img s.core).1 st in
-        let after = record s.core { processor = record s.core.processor { address = suc s.core.processor.address } } in
-        let same : after ≡ d = same_core after d None is.own is.is in
         ap (λ (y : Moment). y.core.processor.address) next_is
-        ∙ ap (λ (y : Core). y.processor.address) (sym same)
+        ∙ (ap (λ (q : Processor). q.address) (paid_same w.tail d).processor
+        ∙ (ap (λ (y : Core). y.processor.address) (sym core_is)
+        ∙ ap (λ (q : Processor). suc q.address) (sym (parts_same img target p ceiling s m w).processor)))
+
+    time_is : (moment_after img s (Comes Step)).core.time ≡ s.core.time
+    time_is =
+        ap (λ (y : Moment). y.core.time) next_is
+        ∙ ((paid_same w.tail d).time ∙ (shape.time ∙ sym (parts_same img target p ceiling s m w).time))
 
     silent : seen_of_label (Stepped (step img s.core).1) ≡ []
-    silent = step_shows img instr.Mark s.core d (step img s.core).1 tt st ∙ done.1
+    silent =
+        ap (λ (x : Core × Option What). seen_of_label (Stepped x.1)) (step_same img target p ceiling s m w quiet)
+        ∙ (step_shows img instr.Mark u d (step img u).1 tt st ∙ done.1)
 
     and_then : (fits : List Happening → Bool)
         → HasMarked (λ more. fits (Comes Step ∷ more)) (moment_after img s (Comes Step)) m → HasMarked fits s m
@@ -176,35 +213,41 @@ module _ (img : Image) (target : Target) (p : Program) (there : IsInPlace img ta
       arrivals = more.arrivals;
       seen = step_seen img s more.happened ∙ (ap (λ (xs : List Seen). xs ++ flat_map seen_of_label
           (shown img (moment_after img s (Comes Step)) more.happened)) silent ∙ more.seen);
-      time = more.time ∙ (ap (λ (y : Moment). y.core.time) next_is ∙ shape.time);
+      time = more.time ∙ time_is;
       here = more.here;
       marks = more.marks;
     }
 
   -- by what is next: a mark, behind code that is done, or something else
   module _ (fits : List Happening → Bool) (s : Moment) (m : Machine)
-      (stays : StaysGood img target.inputs ceiling fits s) (w : IsWhere img target p s m)
-      (again : IsGood img ceiling s → pick img s.core ≡ None → (note : Option Note)
-      → slice_get img.code s.core.processor.address ≡ Some (instr.Mark, note)
-      → IsDone (outside img target) (lowest img target p) img (places img target) p s.core w.top m
+      (stays : StaysGood img target.inputs ceiling fits s) (w : IsWhere img target p ceiling s m)
+      (again : IsGood img ceiling s → pick img w.unpaid ≡ None → (note : Option Note)
+      → slice_get img.code w.unpaid.processor.address ≡ Some (instr.Mark, note)
+      → IsDone (outside img target) (lowest img target p) img (places img target) p w.unpaid w.top m
+      → tail_of (outside img target) (lowest img target p) img (places img target) p w.unpaid w.top m w.phase ≡ None
       → HasMarked fits s m) where
-    abbrev Past : ThePhase s.core w.top m → Type 0
-    Past phase = IsPastMarks img target p s.core w.top m phase
+    abbrev Past : ThePhase w.unpaid w.top m → Type 0
+    Past phase = IsPastMarks img target p w.unpaid w.top m phase
 
-    other_line : (pick img s.core ≡ None → instruction_at img s.core ≡ Some instr.Mark → ⊥) → HasMarked fits s m
-    other_line h = none_next fits s m w (λ f. past_if s.core w.top m w.phase h)
+    abbrev Own : ThePhase w.unpaid w.top m → Option Debt
+    Own phase = tail_of (outside img target) (lowest img target p) img (places img target) p w.unpaid w.top m phase
 
-    by_phase : IsGood img ceiling s → pick img s.core ≡ None → (note : Option Note)
-        → slice_get img.code s.core.processor.address ≡ Some (instr.Mark, note) → (phase : ThePhase s.core w.top m)
+    other_line : (pick img w.unpaid ≡ None → instruction_at img w.unpaid ≡ Some instr.Mark → ⊥) → HasMarked fits s m
+    other_line h = none_next fits s m w (λ f. past_if w.unpaid w.top m w.phase h)
+
+    by_phase : IsGood img ceiling s → pick img w.unpaid ≡ None → (note : Option Note)
+        → slice_get img.code w.unpaid.processor.address ≡ Some (instr.Mark, note) → (phase : ThePhase w.unpaid w.top m)
         → w.phase ≡ phase → HasMarked fits s m
-    by_phase good none note line (AlreadyDone x) e = again good none note line x
+    by_phase good none note line (AlreadyDone x) e = again good none note line x (ap Own e)
     by_phase good none _ line (ToCome x) e = none_next fits s m w (λ f. subst Past (sym e) tt)
     by_phase good none _ line (Entering x) e = none_next fits s m w (λ f. subst Past (sym e) tt)
     by_phase good none _ line (Calling x) e = none_next fits s m w (λ f. subst Past (sym e) tt)
     by_phase good none _ line (Reads x) e = none_next fits s m w (λ f. subst Past (sym e) tt)
+    by_phase good none _ line (Tails core x same) e = none_next fits s m w (λ f. subst Past (sym e) tt)
 
-    by_test : IsGood img ceiling s → pick img s.core ≡ None → (i : Instr) (note : Option Note)
-        → slice_get img.code s.core.processor.address ≡ Some (i, note) → (b : Bool) → is_mark i ≡ b → HasMarked fits s m
+    by_test : IsGood img ceiling s → pick img w.unpaid ≡ None → (i : Instr) (note : Option Note)
+        → slice_get img.code w.unpaid.processor.address ≡ Some (i, note) → (b : Bool) → is_mark i ≡ b
+        → HasMarked fits s m
     by_test good none i note line true e =
         by_phase good none note (line ∙ ap (λ (j : Instr). Some (j, note)) (mark_of i e)) w.phase refl
     by_test good none i _ line false e =
@@ -212,17 +255,17 @@ module _ (img : Image) (target : Target) (p : Program) (there : IsInPlace img ta
         let same : i ≡ instr.Mark = same_some i instr.Mark (sym (ap (option_map (λ l. l.0)) line) ∙ g) in
         false≢true (sym e ∙ ap is_mark same))
 
-    by_line : IsGood img ceiling s → pick img s.core ≡ None → (line : Option (Instr × Option Note))
-        → slice_get img.code s.core.processor.address ≡ line → HasMarked fits s m
+    by_line : IsGood img ceiling s → pick img w.unpaid ≡ None → (line : Option (Instr × Option Note))
+        → slice_get img.code w.unpaid.processor.address ≡ line → HasMarked fits s m
     by_line good none None e = other_line (λ f g. not_some instr.Mark (sym (ap (option_map (λ l. l.0)) e) ∙ g))
     by_line good none (Some line) e = by_test good none line.0 line.1 e (is_mark line.0) refl
 
-    by_pick : IsGood img ceiling s → (o : Option IrqRow) → pick img s.core ≡ o → HasMarked fits s m
-    by_pick good None e = by_line good e (slice_get img.code s.core.processor.address) refl
+    by_pick : IsGood img ceiling s → (o : Option IrqRow) → pick img w.unpaid ≡ o → HasMarked fits s m
+    by_pick good None e = by_line good e (slice_get img.code w.unpaid.processor.address) refl
     by_pick good (Some row) e = other_line (λ f g. not_some row (sym f ∙ e))
 
     by_fits : (b : Bool) → fits [] ≡ b → HasMarked fits s m
-    by_fits true e = by_pick (stays [] tt e) (pick img s.core) refl
+    by_fits true e = by_pick (stays [] tt e) (pick img w.unpaid) refl
     by_fits false e = none_next fits s m w (λ f. absurd (true_and_false (fits []) f e))
 
     one_round : HasMarked fits s m
@@ -230,19 +273,22 @@ module _ (img : Image) (target : Target) (p : Program) (there : IsInPlace img ta
 
   -- Each mark is at an address of its own, behind the one before it; so many instructions are left at most.
   all_marks : (left : ℕ) (fits : List Happening → Bool) (s : Moment) (m : Machine)
-      → StaysGood img target.inputs ceiling fits s → IsWhere img target p s m
+      → StaysGood img target.inputs ceiling fits s → IsWhere img target p ceiling s m
       → length img.code ≤ s.core.processor.address + left → HasMarked fits s m
   all_marks zero fits s m stays w bound =
-      one_round fits s m stays w (λ good none note line x.
-      absurd (not_some (instr.Mark, note) (sym (slice_get_past img.code s.core.processor.address (omega (arith, bound)))
-      ∙ line)))
+      one_round fits s m stays w (λ good none note line x own.
+      absurd (not_some (instr.Mark, note) (sym (slice_get_past img.code w.unpaid.processor.address (omega (
+        arith,
+        bound,
+        ap (λ (q : Processor). q.address) (parts_same img target p ceiling s m w).processor,
+      ))) ∙ line)))
   all_marks (suc left) fits s m stays w bound =
-      one_round fits s m stays w (λ good none note line x.
-      and_then s m w good none note line x fits
+      one_round fits s m stays w (λ good none note line x own.
+      and_then s m w good none note line x own fits
       (all_marks left (λ more. fits (Comes Step ∷ more)) (moment_after img s (Comes Step)) m
-      (λ more can g. stays (Comes Step ∷ more) (tt, can) g) (after_mark s m w good none note line x)
-      (omega (arith, bound, address_is s m w good none note line x))))
+      (λ more can g. stays (Comes Step ∷ more) (tt, can) g) (after_mark s m w good none note line x own)
+      (omega (arith, bound, address_is s m w good none note line x own))))
 
   pub marks_are_done : (fits : List Happening → Bool) (s : Moment) (m : Machine)
-      → StaysGood img target.inputs ceiling fits s → IsWhere img target p s m → HasMarked fits s m
+      → StaysGood img target.inputs ceiling fits s → IsWhere img target p ceiling s m → HasMarked fits s m
   marks_are_done fits s m stays w = all_marks (length img.code) fits s m stays w (omega arith)

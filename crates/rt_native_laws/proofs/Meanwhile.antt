@@ -10,9 +10,10 @@ use Rattle.rt_thumb.specs.Step.{Program}
 use Rattle.rt_native_laws.specs.Own.{Spans}
 use Rattle.rt_native_laws.specs.Phases.{OthersRan}
 use Rattle.rt_native_laws.specs.Standing.{IsLaidOut, StandsFor, HoldsWords, frames_end}
-use Rattle.rt_native_laws.specs.Tail.{IsInTail, Knows, Stage, AtTime, AtCompare, AtBranch, AtNone, AtStore, AtNumber}
-use Rattle.rt_native_laws.specs.Tail.{AtLow, AtTop, AtRequest, Meanwhile, TailIsKept, alarm_tail}
-use Rattle.rt_native_laws.specs.Tail.{passed, rung}
+use Rattle.rt_native_laws.specs.InTail.{IsInTail, Knows, Stage, AtTime, AtCompare, AtBranch, AtNone, AtStore, AtNumber}
+use Rattle.rt_native_laws.specs.InTail.{AtLow, AtTop, AtRequest, alarm_tail}
+use Rattle.rt_native_laws.specs.Tail.{Meanwhile, TailIsKept}
+use Rattle.rt_native_laws.specs.InTail.{passed, rung}
 use Rattle.rt_native_laws.proofs.Phases.{stands_again}
 
 address_of : (line : ℕ) (b : Bool) (c u : Core) → c ≡ (if b then rung line u else u)
@@ -86,11 +87,11 @@ module _ (at : Outside) (bottom : ℕ) (img : Image) (places : List ℕ) (p : Pr
   abbrev Again : Machine → Type 0
   Again y =
       (again : IsInTail at bottom img places p d top y) × (again.irq ≡ x.irq) × (again.instant ≡ x.instant)
-      × (again.owes ≡ owes)
+      × (again.owes ≡ owes) × (again.unpaid ≡ v)
 
   kept_so : Again n
   unfolding tail_again
-  kept_so = subst Again (sym o.processor.rest) (tail_again, refl, refl, refl)
+  kept_so = subst Again (sym o.processor.rest) (tail_again, refl, refl, refl, refl)
 
 pub tail_is_kept : TailIsKept
 tail_is_kept at bottom img places p c d v owes top m n x o w debt =

@@ -19,19 +19,16 @@ use Rattle.rt_core.specs.Trace.{happen, ring, tick}
 use Rattle.rt_core.specs.declared.alarm.Alarm.{Alarm}
 use Rattle.rt_trace.specs.Label.{Label, Rang, Stepped}
 use Rattle.rt_trace.specs.declared.item.What.{What}
-use Rattle.rt_native.specs.declared.outside.Outside.{Outside}
-use Rattle.rt_thumb.specs.Machine.{Machine}
-use Rattle.rt_thumb.specs.Step.{Program}
 use Rattle.rt_native_laws.specs.Alike.{IsNotTaken, SetsNoAlarm}
 use Rattle.rt_native_laws.specs.Behaving.{GoesWell, IsGood}
-use Rattle.rt_native_laws.specs.Going.{HasCode}
 use Rattle.rt_native_laws.specs.Moments.{Comes, Fills, Moment, Puts, Taking, after_instruction, after_return}
 use Rattle.rt_native_laws.specs.Moments.{after_step, instruction_at, moment_after}
 use Rattle.rt_native_laws.specs.Owing.{CeilingsHoldOff, HappeningsAreAlike, NoneAboveSetsAlarms}
-use Rattle.rt_native_laws.specs.Owing.{TicksInTails, TicksLeaveOwed, TicksPay, rung_moment}
-use Rattle.rt_native_laws.specs.Tail.{IsInTail, Meanwhile, rung}
+use Rattle.rt_native_laws.specs.Owing.{TailsOweSo, TicksInTails, TicksLeaveOwed, TicksPay, rung_moment}
+use Rattle.rt_native_laws.specs.InTail.{rung}
+use Rattle.rt_native_laws.specs.Tail.{IsOwing, Meanwhile}
 use Rattle.rt_native_laws.proofs.Alike.{same_pick, steps_are_alike}
-use Rattle.rt_native_laws.proofs.Tail.{holds_at_most, owed_is_due}
+use Rattle.rt_native_laws.proofs.Tail.{holds_at_most, tail_owes}
 use Rattle.rt_native_laws.proofs.Tests.{at_most, not_at_most}
 
 pub mask_is_small : (b : Bool) → mask_value b ≤ 256
@@ -68,7 +65,7 @@ pub none_above_sets_alarms : NoneAboveSetsAlarms
 none_above_sets_alarms img ceiling s good above none = sets_none img ceiling s good above none
 
 -- a request more, in either order
-both_asked : (old : List Bool) (irq other : ℕ)
+pub both_asked : (old : List Bool) (irq other : ℕ)
     → slice_set (slice_set old irq true) other true ≡ slice_set (slice_set old other true) irq true
 both_asked old irq other =
     ⊎_elim
@@ -129,104 +126,102 @@ pub ticks_leave_owed : TicksLeaveOwed
 ticks_leave_owed irq c none =
     sym (ap (λ (x : Core × List Label). rung irq x.0) (ap (ring (record c { time = suc c.time })) none))
 
+pub tails_owe_so : TailsOweSo
+tails_owe_so at bottom img places p c top m x = tail_owes at bottom img places p c top m x
+
 -- a tick in a tail
-module _ (at : Outside) (bottom : ℕ) (img : Image) (places : List ℕ) (p : Program) (c : Core) (top : ℕ) (m : Machine)
-    (code : HasCode at img places p) (x : IsInTail at bottom img places p c top m)
-    (there : x.irq < length x.unpaid.pending) where
-  abbrev u : Core
-  u = x.unpaid
+module _ (irq instant : ℕ) (owed : Bool) (u : Core) (x : IsOwing irq instant owed u) (there : irq < length u.pending)
+  where
+    abbrev c : Core
+    c = if owed then rung irq u else u
 
-  abbrev later : Core
-  later = record u { time = suc u.time }
+    abbrev later : Core
+    later = record u { time = suc u.time }
 
-  abbrev After : Core → Type 0
-  After k =
-      (owes : Bool) × Meanwhile x.irq x.instant x.owes owes u k × ((tick c).0 ≡ (if owes then rung x.irq k else k))
+    abbrev After : Core → Type 0
+    After k = (owes : Bool) × Meanwhile irq instant owed owes u k × ((tick c).0 ≡ (if owes then rung irq k else k))
 
-  free : x.owes ≡ false → c ≡ u
-  free e = x.debt ∙ ap (λ (t : Bool). if t then rung x.irq u else u) e
+    free : owed ≡ false → c ≡ u
+    free e = ap (λ (t : Bool). if t then rung irq u else u) e
 
-  owed : x.owes ≡ true → c ≡ rung x.irq u
-  owed e = x.debt ∙ ap (λ (t : Bool). if t then rung x.irq u else u) e
+    is_owed : owed ≡ true → c ≡ rung irq u
+    is_owed e = ap (λ (t : Bool). if t then rung irq u else u) e
 
-  -- it is set, and due now or not
-  pays : (b : Bool) → x.owes ≡ b → u.alarm ≡ Some (record { instant = x.instant; irq = x.irq })
-      → x.instant ≤ suc u.time → (tick c).0 ≡ (tick u).0
-  pays true e set due =
-      ap (λ (y : Core). (tick y).0) (owed e)
-      ∙ ticks_pay u (record { instant = x.instant; irq = x.irq }) set due
-  pays false e set due = ap (λ (y : Core). (tick y).0) (free e)
+    -- it is set, and due now or not
+    pays : (b : Bool) → owed ≡ b → u.alarm ≡ Some (record { instant = instant; irq = irq })
+        → instant ≤ suc u.time → (tick c).0 ≡ (tick u).0
+    pays true e set due =
+        ap (λ (y : Core). (tick y).0) (is_owed e) ∙ ticks_pay u (record { instant = instant; irq = irq }) set due
+    pays false e set due = ap (λ (y : Core). (tick y).0) (free e)
 
-  rings : u.alarm ≡ Some (record { instant = x.instant; irq = x.irq }) → (b : Bool)
-      → nat_le x.instant (suc u.time) ≡ b → (tick u).0 ≡ (if b then rung x.irq later else later)
-  rings set true e =
-      ap (λ (y : Core × List Label). y.0) (ap (ring later) set
-      ∙ ap (λ (b : Bool). if b then (rung x.irq later, Rang ∷ []) else (later, [])) e)
-  rings set false e =
-      ap (λ (y : Core × List Label). y.0) (ap (ring later) set
-      ∙ ap (λ (b : Bool). if b then (rung x.irq later, Rang ∷ []) else (later, [])) e)
+    rings : u.alarm ≡ Some (record { instant = instant; irq = irq }) → (b : Bool)
+        → nat_le instant (suc u.time) ≡ b → (tick u).0 ≡ (if b then rung irq later else later)
+    rings set true e =
+        ap (λ (y : Core × List Label). y.0) (ap (ring later) set
+        ∙ ap (λ (b : Bool). if b then (rung irq later, Rang ∷ []) else (later, [])) e)
+    rings set false e =
+        ap (λ (y : Core × List Label). y.0) (ap (ring later) set
+        ∙ ap (λ (b : Bool). if b then (rung irq later, Rang ∷ []) else (later, [])) e)
 
-  asked : slice_index_or (slice_set u.pending x.irq true) x.irq false ≡ true
-  asked = get_or-set_same u.pending x.irq true false there
+    asked : slice_index_or (slice_set u.pending irq true) irq false ≡ true
+    asked = get_or-set_same u.pending irq true false there
 
-  by_due : u.alarm ≡ Some (record { instant = x.instant; irq = x.irq }) → (b : Bool)
-      → nat_le x.instant (suc u.time) ≡ b → After (tick u).0
-  by_due set true e =
-      let is = rings set true e in
-      subst After (sym is) (
-        false,
-        record {
-          later = omega arith;
-          debt = λ f. absurd (false≢true f);
-          has_come = λ f g. (refl, asked);
-          none = λ f. refl;
-          set = inr (refl, λ f. asked);
-        },
-        pays x.owes refl set (at_most x.instant (suc u.time) e) ∙ is,
-      )
-  by_due set false e =
-      let is = rings set false e in
-      let early = not_at_most x.instant (suc u.time) e in
-      subst After (sym is) (
-        false,
-        record {
-          later = omega arith;
-          debt = λ f. absurd (false≢true f);
-          has_come = λ f g. absurd (omega (arith, early, g));
-          none = λ f. f;
-          set = inl set;
-        },
-        none_owed x.owes refl early is,
-      )
-    where
-      none_owed : (b : Bool) → x.owes ≡ b → suc u.time < x.instant → (tick u).0 ≡ later → (tick c).0 ≡ later
-      none_owed true f early is =
-          let due = owed_is_due at bottom img places p c top m code x f in absurd (omega (arith, due, early))
-      none_owed false f early is = ap (λ (y : Core). (tick y).0) (free f) ∙ is
+    by_due : u.alarm ≡ Some (record { instant = instant; irq = irq }) → (b : Bool)
+        → nat_le instant (suc u.time) ≡ b → After (tick u).0
+    by_due set true e =
+        let is = rings set true e in
+        subst After (sym is) (
+          false,
+          record {
+            later = omega arith;
+            debt = λ f. absurd (false≢true f);
+            has_come = λ f g. (refl, asked);
+            none = λ f. refl;
+            set = inr (refl, λ f. asked);
+          },
+          pays owed refl set (at_most instant (suc u.time) e) ∙ is,
+        )
+    by_due set false e =
+        let is = rings set false e in
+        let early = not_at_most instant (suc u.time) e in
+        subst After (sym is) (
+          false,
+          record {
+            later = omega arith;
+            debt = λ f. absurd (false≢true f);
+            has_come = λ f g. absurd (omega (arith, early, g));
+            none = λ f. f;
+            set = inl set;
+          },
+          none_owed owed refl early is,
+        )
+      where
+        none_owed : (b : Bool) → owed ≡ b → suc u.time < instant → (tick u).0 ≡ later → (tick c).0 ≡ later
+        none_owed true f early is = let due = x.due f in absurd (omega (arith, due, early))
+        none_owed false f early is = ap (λ (y : Core). (tick y).0) (free f) ∙ is
 
-  -- its word is none
-  stays_owed : u.alarm ≡ None → (owes : Bool) → x.owes ≡ owes
-      → (tick c).0 ≡ (if owes then rung x.irq (tick u).0 else (tick u).0)
-  stays_owed none true e = ap (λ (y : Core). (tick y).0) (owed e) ∙ ticks_leave_owed x.irq u none
-  stays_owed none false e = ap (λ (y : Core). (tick y).0) (free e)
+    -- its word is none
+    stays_owed : u.alarm ≡ None → (owes : Bool) → owed ≡ owes
+        → (tick c).0 ≡ (if owes then rung irq (tick u).0 else (tick u).0)
+    stays_owed none true e = ap (λ (y : Core). (tick y).0) (is_owed e) ∙ ticks_leave_owed irq u none
+    stays_owed none false e = ap (λ (y : Core). (tick y).0) (free e)
 
-  by_set : (u.alarm ≡ Some (record { instant = x.instant; irq = x.irq }))
-      ⊎ ((u.alarm ≡ None) × (x.owes ≡ false → slice_index_or u.pending x.irq false ≡ true)) → After (tick u).0
-  by_set (inl set) = by_due set (nat_le x.instant (suc u.time)) refl
-  by_set (inr (none, come)) =
-      let is : (tick u).0 ≡ later = ap (λ (y : Core × List Label). y.0) (ap (ring later) none) in
-      subst After (sym is) (
-        x.owes,
-        record {
-          later = omega arith;
-          debt = λ f. f;
-          has_come = λ f g. (none, come f);
-          none = λ f. f;
-          set = inr (none, come);
-        },
-        stays_owed none x.owes refl ∙ ap (λ (k : Core). if x.owes then rung x.irq k else k) is,
-      )
+    by_set : (u.alarm ≡ Some (record { instant = instant; irq = irq }))
+        ⊎ ((u.alarm ≡ None) × (owed ≡ false → slice_index_or u.pending irq false ≡ true)) → After (tick u).0
+    by_set (inl set) = by_due set (nat_le instant (suc u.time)) refl
+    by_set (inr (none, come)) =
+        let is : (tick u).0 ≡ later = ap (λ (y : Core × List Label). y.0) (ap (ring later) none) in
+        subst After (sym is) (
+          owed,
+          record {
+            later = omega arith;
+            debt = λ f. f;
+            has_come = λ f g. (none, come f);
+            none = λ f. f;
+            set = inr (none, come);
+          },
+          stays_owed none owed refl ∙ ap (λ (k : Core). if owed then rung irq k else k) is,
+        )
 
 pub ticks_in_tails : TicksInTails
-ticks_in_tails at bottom img places p c top m code x there =
-    by_set at bottom img places p c top m code x there x.set
+ticks_in_tails irq instant owed u x there = by_set irq instant owed u x there x.set

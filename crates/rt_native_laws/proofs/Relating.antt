@@ -1,7 +1,6 @@
 -- What runs goes on, and the processor is where the image is again.
-use Rattle.std.proofs.Common.{◌≡◌, ◌∙◌, ℕ, ◌+◌, ◌*◌, ◌/◌, ◌%◌, ◌^◌, ◌<◌, ◌≤◌, ◌⊎◌, inl, inr, List, None, Option, sym}
-use Rattle.std.proofs.Common.{ap}
-use Rattle.std.proofs.Common.{subst, arith, length, ⊎_elim}
+use Rattle.std.proofs.Common.{◌≡◌, ◌∙◌, ℕ, ◌+◌, ◌*◌, ◌/◌, ◌%◌, ◌^◌, ◌<◌, ◌≤◌, ◌⊎◌, inl, inr, List, Option}
+use Rattle.std.proofs.Common.{IfSome, None, refl, sym, ap, subst, arith, length, ⊎_elim}
 use Rattle.rt_code.specs.Image.{Image}
 use Rattle.rt_core.specs.Core.{Context, Core}
 use Rattle.rt_native.specs.Layout.{TICK_BYTES, outside, places, stack_top}
@@ -14,12 +13,14 @@ use Rattle.rt_thumb.specs.Exceptions.{priority_of, systick}
 use Rattle.rt_thumb.specs.Machine.{Machine, word_at}
 use Rattle.rt_thumb.specs.Step.{Program}
 use Rattle.rt_native_laws.specs.Going.{LeavesOthers}
+use Rattle.rt_native_laws.specs.InTail.{Debt, paid}
 use Rattle.rt_native_laws.specs.Moments.{Last, Moment}
 use Rattle.rt_native_laws.specs.Own.{ChangesItsOwn}
-use Rattle.rt_native_laws.specs.Phases.{Phase}
-use Rattle.rt_native_laws.specs.Relating.{AreEvenBelow, IsAlarmOf, IsPastMarks, IsInPlace, IsWhere, Related, lowest}
+use Rattle.rt_native_laws.specs.Phases.{Phase, tail_of}
+use Rattle.rt_native_laws.specs.Relating.{AreEvenBelow, IsAlarmOf, IsOfTimer, IsPastMarks, IsInPlace, IsWhere}
+use Rattle.rt_native_laws.specs.Relating.{Related, lowest}
 use Rattle.rt_native_laws.specs.Standing.{HoldsWords, IsLaidOut}
-use Rattle.rt_native_laws.specs.Waiting.{IsFresh, KeepsAbove, Shows, Waiting}
+use Rattle.rt_native_laws.specs.Waiting.{IsFresh, KeepsAbove, KeepsTail, Shows, Waiting, others_tail}
 use Rattle.rt_native_laws.proofs.Showing.{phases_show}
 use Rattle.rt_native_laws.proofs.Waiting.{waiting_is_kept}
 use Rattle.rt_trace.specs.declared.item.What.{What}
@@ -80,17 +81,20 @@ module _ (img : Image) (target : Target) (p : Program) (there : IsInPlace img ta
     tick_still e =
         ap (λ (w : ℕ). w / 2 ^ (8 * (0xE000ED23 % 4)) % 2 ^ 8) (system_word 0xE000ED23 (omega arith)) ∙ e
 
-  -- A machine instruction of what runs leads to a core and to a phase of it.
-  module _ (s : Moment) (m n : Machine) (r : IsWhere img target p s m) (d : Core) (last : Last)
+  -- A machine instruction of what runs leads to a core and to a phase of it, with a tail in which a job is then.
+  module _ (ceiling : ℕ) (s : Moment) (m n : Machine) (r : IsWhere img target p ceiling s m) (tail : Option Debt)
+      (of_timer : IfSome tail (IsOfTimer img ceiling)) (d : Core) (last : Last)
       (phase : Phase at bottom img pl p d r.top n)
-      (fresh : IsFresh at bottom highest inputs img pl p last d r.top n phase)
+      (fresh : IsFresh at bottom highest ceiling inputs img pl p tail last d r.top n phase)
+      (meanwhile : KeepsTail (others_tail (tail_of at bottom img pl p r.unpaid r.top m r.phase) r.tail)
+      (others_tail (tail_of at bottom img pl p d r.top n phase) tail) r.unpaid d)
       (above : KeepsAbove at r.top m n) (keeps : KeepsOutside at bottom m n) (words : HoldsWords n)
       (placed : (n.address % 2 ≡ 0) × (n.address < 2 ^ 32))
-      (below : d.below ≡ s.core.below)
-      (as_many : length d.processor.cells ≡ length s.core.processor.cells)
-      (requests : length d.pending ≡ length s.core.pending) (stopped : d.stopped ≡ s.core.stopped)
-      (alarm : (d.alarm ≡ s.core.alarm) ⊎ (d.alarm ≡ None)) where
-    laid_before : IsLaidOut at bottom (length s.core.processor.cells)
+      (below : d.below ≡ r.unpaid.below)
+      (as_many : length d.processor.cells ≡ length r.unpaid.processor.cells)
+      (requests : length d.pending ≡ length r.unpaid.pending) (stopped : d.stopped ≡ r.unpaid.stopped)
+      (alarm : IsAlarmOf img d.alarm) where
+    laid_before : IsLaidOut at bottom (length r.unpaid.processor.cells)
     laid_before = subst (IsLaidOut at bottom) (sym r.cells) there.laid
 
     laid_now : IsLaidOut at bottom (length d.processor.cells)
@@ -99,16 +103,23 @@ module _ (img : Image) (target : Target) (p : Program) (there : IsInPlace img ta
     shown : Shows at d n
     shown = phases_show at bottom img pl p d r.top n laid_now there.has.port phase
 
-    pub is_where_on : IsWhere img target p (record { core = d; last = last; takings = s.takings }) n
+    pub is_where_on : IsWhere img target p ceiling (record { core = paid tail d; last = last; takings = s.takings }) n
     is_where_on = record {
+      tail = tail;
+      of_timer = of_timer;
+      unpaid = d;
+      owed = refl;
       top = r.top;
       phase = phase;
       fresh = fresh;
-      waiting = subst (λ (b : List Context). Waiting at bottom highest inputs img pl p s.takings b d r.top n)
+      waiting = subst (λ (b : List Context). Waiting at bottom highest ceiling inputs img pl p
+          (others_tail (tail_of at bottom img pl p d r.top n phase) tail) s.takings b d r.top n)
           (sym below)
-          (waiting_is_kept at bottom highest inputs img pl p s.takings s.core.below s.core d r.top m n laid_before
-          there.has.port as_many stopped above shown words r.waiting);
-      agrees = others_keep_agreeing img s.core d m n r.agrees (record {
+          (waiting_is_kept at bottom highest ceiling inputs img pl p
+          (others_tail (tail_of at bottom img pl p r.unpaid r.top m r.phase) r.tail)
+          (others_tail (tail_of at bottom img pl p d r.top n phase) tail) s.takings r.unpaid.below r.unpaid d r.top m n
+          laid_before there.has.port as_many stopped above shown words meanwhile r.waiting);
+      agrees = others_keep_agreeing img r.unpaid d m n r.agrees (record {
         registers = λ a h f. system_word m n keeps a (omega (arith, h));
         handlers = above.active;
         contexts = below;
@@ -121,14 +132,27 @@ module _ (img : Image) (target : Target) (p : Program) (there : IsInPlace img ta
       loaded = loaded_still m n keeps r.loaded;
       tick = tick_still m n keeps r.tick;
       requests = requests ∙ r.requests;
-      alarm = ⊎_elim (λ (e : d.alarm ≡ s.core.alarm). subst (IsAlarmOf img) (sym e) r.alarm)
-          (λ (e : d.alarm ≡ None). subst (IsAlarmOf img) (sym e) tt) alarm;
+      alarm = alarm;
       cells = as_many ∙ r.cells;
       frames = subst AreEvenBelow (sym below) r.frames;
     }
 
     -- with its marks done, if they are
     pub related_on : IsPastMarks img target p d r.top n phase
-        → Related img target p (record { core = d; last = last; takings = s.takings }) n
+        → Related img target p ceiling (record { core = paid tail d; last = last; takings = s.takings }) n
     unfolding is_where_on
     related_on marks = record { here = is_where_on; marks = marks }
+
+-- an alarm that is as it was, or none
+pub alarm_then : (img : Image) (c d : Core) → IsAlarmOf img c.alarm → (d.alarm ≡ c.alarm) ⊎ (d.alarm ≡ None)
+    → IsAlarmOf img d.alarm
+alarm_then img c d h e =
+    ⊎_elim (λ (f : d.alarm ≡ c.alarm). subst (IsAlarmOf img) (sym f) h)
+    (λ (f : d.alarm ≡ None). subst (IsAlarmOf img) (sym f) tt) e
+
+-- the tail of others, where the job is in none before and then
+pub in_no_tail : (own then tail : Option Debt) (c d : Core) → own ≡ None → then ≡ None → KeepsTail tail tail c d
+    → KeepsTail (others_tail own tail) (others_tail then tail) c d
+in_no_tail own then tail c d e f keeps =
+    subst (λ (o : Option Debt). KeepsTail (others_tail o tail) (others_tail then tail) c d) (sym e)
+    (subst (λ (o : Option Debt). KeepsTail tail (others_tail o tail) c d) (sym f) keeps)

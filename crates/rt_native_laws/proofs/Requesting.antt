@@ -1,19 +1,22 @@
 -- A request comes to both, and an instruction that is executed late leads on.
-use Rattle.std.proofs.Common.{◌≡◌, ◌≢◌, ◌∙◌, ℕ, ◌<◌, ◌≤◌, Bool, true, false, List, [], ◌∷◌, Option, Some, None, IfSome}
-use Rattle.std.proofs.Common.{inl, refl, sym, ap, subst, arith, length, ⊎_elim}
-use Rattle.std.proofs.lemmas.Bool.{cases_eq, cases_lt, false≢true}
-use Rattle.std.proofs.lemmas.List.{get_or_past, get_or-set_other, get_or-set_same, length-set}
-use Rattle.std.specs.Prelude.{if◌then◌else◌, nat_lt, slice_index_or, slice_set}
+use Rattle.std.proofs.Common.{◌≡◌, ◌∙◌, ℕ, ◌≤◌, Bool, true, false, List, [], ◌∷◌, Option, Some, None, IfSome}
+use Rattle.std.proofs.Common.{inl, refl, sym, ap, subst, arith, length}
+use Rattle.std.proofs.lemmas.Bool.{false≢true}
+use Rattle.std.proofs.lemmas.List.{length-set}
+use Rattle.std.specs.Prelude.{if◌then◌else◌, min, nat_lt, slice_index_or, slice_set}
 use Rattle.rt_ids.specs.Choice.{best, better_of}
+use Rattle.rt_ids.specs.Event.{Arrive}
 use Rattle.rt_lemmas.proofs.Bools.{and_both, and_parts, not_so, true_and_false}
 use Rattle.rt_code.specs.Image.{Image}
+use Rattle.rt_code.specs.Processor.{Processor}
 use Rattle.rt_code.specs.declared.image.IrqRow.{IrqRow}
 use Rattle.rt_code.specs.declared.instr.Instr.TheVariants as instr
-use Rattle.rt_core.specs.Core.{Core}
-use Rattle.rt_core.specs.Priority.{can_preempt, execution, pick, precedes, value_or_none}
+use Rattle.rt_core.specs.Core.{Context, Core}
+use Rattle.rt_core.specs.Priority.{base_value, can_preempt, execution, mask_value, pick, precedes, running_value}
+use Rattle.rt_core.specs.Priority.{value_or_none}
 use Rattle.rt_core.specs.Trace.{happen}
 use Rattle.rt_core.specs.Transfer.{core_after_pend}
-use Rattle.rt_native.specs.Layout.{outside, places}
+use Rattle.rt_native.specs.Layout.{outside, places, stack_top}
 use Rattle.rt_native.specs.Target.{Target}
 use Rattle.rt_native.specs.declared.outside.Outside.{Outside}
 use Rattle.rt_native.specs.declared.target.Input.{Input}
@@ -22,21 +25,26 @@ use Rattle.rt_thumb.specs.Machine.{Machine}
 use Rattle.rt_thumb.specs.Step.{Program, pended}
 use Rattle.rt_thumb.specs.declared.instruction.Instruction.{Instruction}
 use Rattle.rt_native_laws.specs.Arriving.{IsAsFresh, is_done}
-use Rattle.rt_native_laws.specs.Moments.{Began, Moment, instruction_at, settled_words}
-use Rattle.rt_native_laws.specs.Phases.{AlreadyDone, Calling, Entering, IsDone, IsToCome, Phase, Reads, ToCome}
-use Rattle.rt_native_laws.specs.Phases.{kept_words}
+use Rattle.rt_native_laws.specs.InTail.{Debt, paid, rung}
+use Rattle.rt_native_laws.specs.Moments.{Began, Comes, Moment, instruction_at, moment_after, settled_words, with_core}
+use Rattle.rt_native_laws.specs.Phases.{AlreadyDone, Calling, Entering, IsDone, IsToCome, Phase, Reads, Tails}
+use Rattle.rt_native_laws.specs.Phases.{ToCome, kept_words, tail_of}
 use Rattle.rt_native_laws.specs.Own.{RunsPrivately}
 use Rattle.rt_native_laws.specs.Relating.{IsPastMarks, IsInPlace, IsWhere, LateInstructionsLeadOn}
 use Rattle.rt_native_laws.specs.Relating.{PendingTicksLeadOn, Related, RequestsLeadOn, lowest}
-use Rattle.rt_native_laws.specs.Standing.{IsLaidOut}
-use Rattle.rt_native_laws.proofs.Arriving.{arrivals_keep_phases, pending_ticks_keep_phases}
+use Rattle.rt_native_laws.specs.Standing.{HoldsWords, IsLaidOut}
+use Rattle.rt_native_laws.specs.Waiting.{IsFresh, KeepsAbove, KeepsTail, others_tail}
+use Rattle.rt_native_laws.proofs.Arriving.{arrivals_keep_phases, pending_ticks_keep_phases, still_there}
 use Rattle.rt_native_laws.proofs.Faultless.{HasNext, calling_has_next, done_has_next, entering_has_next}
 use Rattle.rt_native_laws.proofs.Going.{what_is_late_is_nothing}
 use Rattle.rt_native_laws.proofs.Instructing.{executes_so}
 use Rattle.rt_native_laws.proofs.Leading.{silence_leads_on}
 use Rattle.rt_native_laws.proofs.Phases.{apart_of}
 use Rattle.rt_native_laws.proofs.Private.{private_is_unseen}
-use Rattle.rt_native_laws.proofs.Relating.{related_on}
+use Rattle.rt_native_laws.proofs.Owing.{both_asked}
+use Rattle.rt_native_laws.proofs.Relating.{alarm_then, is_where_on, related_on}
+use Rattle.rt_native_laws.proofs.Tails.{for_some, others_stay, tail_untouched}
+use Rattle.rt_native_laws.proofs.Unpaid.{by_debt, owing}
 
 -- where none of more is the best, none of fewer is
 better_there : {A : Type 0} (beats : A → A → Bool) (x : A) (o : Option A) → better_of beats x o ≡ None → ⊥
@@ -62,19 +70,6 @@ fewer few many beats (x ∷ xs) h e = by_tests (fewer few many beats xs h) (few 
         ap (λ (t : Bool). if t then better_of beats x (best few beats xs) else best few beats xs) f
         ∙ rest (sym (ap (λ (t : Bool). if t then better_of beats x (best many beats xs) else best many beats xs) g) ∙ e)
 
--- a request that is there is so with one more
-still_there : (old : List Bool) (irq k : ℕ) → slice_index_or old k false ≡ true
-    → slice_index_or (slice_set old irq true) k false ≡ true
-still_there old irq k h =
-    ⊎_elim
-    (λ (e : k ≡ irq).
-    ⊎_elim
-    (λ (l : k < length old).
-    ap (λ (x : ℕ). slice_index_or (slice_set old irq true) x false) e
-    ∙ get_or-set_same old irq true false (subst (λ (x : ℕ). x < length old) e l))
-    (λ (l : length old ≤ k). absurd (false≢true (sym (get_or_past old k false l) ∙ h))) (cases_lt k (length old)))
-    (λ (e : k ≢ irq). get_or-set_other old irq k true false e ∙ h) (cases_eq k irq)
-
 none_before : (img : Image) (c : Core) (irq : ℕ) → pick img (core_after_pend c irq) ≡ None → pick img c ≡ None
 none_before img c irq e =
     fewer (can_preempt c) (can_preempt (core_after_pend c irq)) precedes img.irqs
@@ -84,8 +79,8 @@ none_before img c irq e =
     and_both (slice_index_or (slice_set c.pending irq true) row.number false)
     (nat_lt (value_or_none row.handler) (execution c)) (still_there c.pending irq row.number parts.0) parts.1) e
 
-module _ (img : Image) (target : Target) (p : Program) (there : IsInPlace img target p) (s : Moment)
-    (m : Machine) (r : Related img target p s m) where
+module _ (img : Image) (target : Target) (p : Program) (ceiling : ℕ) (there : IsInPlace img target p) (s : Moment)
+    (m : Machine) (w : IsWhere img target p ceiling s m) where
   abbrev at : Outside
   at = outside img target
 
@@ -95,71 +90,153 @@ module _ (img : Image) (target : Target) (p : Program) (there : IsInPlace img ta
   abbrev bottom : ℕ
   bottom = lowest img target p
 
-  abbrev w : IsWhere img target p s m
-  w = r.here
-
   abbrev top : ℕ
   top = w.top
 
-  -- marks, by whether the job has done all but what is private
-  past_of : (c : Core) (n : Machine) (phase : Phase at bottom img pl p c top n)
-      → (is_done at bottom img pl p c top n phase ≡ true → pick img c ≡ None
-      → instruction_at img c ≡ Some instr.Mark → ⊥)
-      → IsPastMarks img target p c top n phase
-  past_of c n (AlreadyDone x) h = h refl
-  past_of c n (ToCome x) h = tt
-  past_of c n (Entering x) h = tt
-  past_of c n (Calling x) h = tt
-  past_of c n (Reads x) h = tt
+  abbrev c : Core
+  c = w.unpaid
 
-  of_past : (phase : Phase at bottom img pl p s.core top m) → IsPastMarks img target p s.core top m phase
-      → is_done at bottom img pl p s.core top m phase ≡ true → pick img s.core ≡ None
-      → instruction_at img s.core ≡ Some instr.Mark → ⊥
+  -- marks, by whether the job has done all but what is private
+  past_of : (d : Core) (n : Machine) (phase : Phase at bottom img pl p d top n)
+      → (is_done at bottom img pl p d top n phase ≡ true → pick img d ≡ None
+      → instruction_at img d ≡ Some instr.Mark → ⊥)
+      → IsPastMarks img target p d top n phase
+  past_of d n (AlreadyDone x) h = h refl
+  past_of d n (ToCome x) h = tt
+  past_of d n (Entering x) h = tt
+  past_of d n (Calling x) h = tt
+  past_of d n (Reads x) h = tt
+  past_of d n (Tails core x same) h = tt
+
+  of_past : (phase : Phase at bottom img pl p c top m) → IsPastMarks img target p c top m phase
+      → is_done at bottom img pl p c top m phase ≡ true → pick img c ≡ None
+      → instruction_at img c ≡ Some instr.Mark → ⊥
   of_past (AlreadyDone x) past e = past
   of_past (ToCome x) past e = absurd (false≢true e)
   of_past (Entering x) past e = absurd (false≢true e)
   of_past (Calling x) past e = absurd (false≢true e)
   of_past (Reads x) past e = absurd (false≢true e)
+  of_past (Tails core x same) past e = absurd (false≢true e)
 
-  module _ (d : Core) (e : ℕ) (fresh : IsAsFresh at bottom img pl p s.core d top m (pended e m) w.phase)
-      (below : d.below ≡ s.core.below) (processor : d.processor ≡ s.core.processor)
-      (requests : length d.pending ≡ length s.core.pending) (stopped : d.stopped ≡ s.core.stopped)
-      (alarm : d.alarm ≡ s.core.alarm)
-      (before : pick img d ≡ None → pick img s.core ≡ None) where
-    same_frame : length d.processor.slots ≡ length s.core.processor.slots
+  module _ (d : Core) (e : ℕ) (fresh : IsAsFresh at bottom img pl p c d top m (pended e m) w.phase)
+      (below : d.below ≡ c.below) (processor : d.processor ≡ c.processor)
+      (requests : length d.pending ≡ length c.pending) (stopped : d.stopped ≡ c.stopped) (time : d.time ≡ c.time)
+      (alarm : d.alarm ≡ c.alarm)
+      (asked : (irq : ℕ) → slice_index_or c.pending irq false ≡ true → slice_index_or d.pending irq false ≡ true) where
+    same_frame : length d.processor.slots ≡ length c.processor.slots
     same_frame = ap (λ x. length x.slots) processor
 
-    kept : settled_words s.last (length s.core.processor.slots) ≤ kept_words at bottom img pl p s.core top m w.phase
+    kept : settled_words s.last (length c.processor.slots) ≤ kept_words at bottom img pl p c top m w.phase
     kept = w.fresh.0
 
-    asked : Related img target p (record { core = d; last = s.last; takings = s.takings }) (pended e m)
-    asked =
-        related_on img target p there s m (pended e m) w d s.last fresh.0 (
-          subst (λ (k : ℕ). settled_words s.last k ≤ kept_words at bottom img pl p d top (pended e m) fresh.0)
-              (sym same_frame) (omega (arith, kept, fresh.1)),
-          subst (λ (o : Option (List Input)). IfSome o (λ declared. (s.last ≡ Began) × (declared ≡ target.inputs)))
-              (sym fresh.3) w.fresh.1,
-        )
-        (record { registers = λ k h f. refl; memory = λ k h f. refl; exception = refl; active = refl })
-        (λ k h. refl)
-        (record { registers = w.words.registers; memory = w.words.memory; base_priority = w.words.base_priority })
-        w.placed below (ap (λ x. length x.cells) processor) requests stopped (inl alarm)
+    abbrev own : Option Debt
+    own = tail_of at bottom img pl p c top m w.phase
+
+    same_priority : execution d ≡ execution c
+    same_priority =
+        ap (λ (q : Processor). min (running_value d.below) (min (base_value q.basepri) (mask_value q.primask)))
+        processor
+        ∙ ap (λ (b : List Context). min (running_value b) (min (base_value c.processor.basepri)
+        (mask_value c.processor.primask))) below
+
+    meanwhile : KeepsTail (others_tail own w.tail)
+        (others_tail (tail_of at bottom img pl p d top (pended e m) fresh.0) w.tail) c d
+    meanwhile =
+        subst (λ (o : Option Debt). KeepsTail (others_tail own w.tail) (others_tail o w.tail) c d) (sym fresh.4)
+        (others_stay own w.tail c d
+        (tail_untouched w.tail c d (owing img target p ceiling s m w) time
+        (for_some w.tail (λ t. (d.alarm ≡ c.alarm)
+        × (slice_index_or c.pending t.irq false ≡ true → slice_index_or d.pending t.irq false ≡ true))
+        (λ t f. (alarm, asked t.irq)))))
+
+    still_fresh : IsFresh at bottom (stack_top img target) ceiling target.inputs img pl p w.tail s.last d top
+        (pended e m)
+        fresh.0
+    still_fresh = (
+      subst (λ (k : ℕ). settled_words s.last k ≤ kept_words at bottom img pl p d top (pended e m) fresh.0)
+          (sym same_frame) (omega (arith, kept, fresh.1)),
+      subst (λ (o : Option (List Input)). IfSome o (λ declared. (s.last ≡ Began) × (declared ≡ target.inputs)))
+          (sym fresh.3) w.fresh.1,
+      subst (λ (o : Option Debt). IfSome o (λ t. (w.tail ≡ Some t) × (execution d ≤ ceiling))) (sym fresh.4)
+          (subst (λ (k : ℕ). IfSome own (λ t. (w.tail ≡ Some t) × (k ≤ ceiling))) (sym same_priority) w.fresh.2),
+    )
+
+    still_above : KeepsAbove at top m (pended e m)
+    still_above = record { registers = λ k h f. refl; memory = λ k h f. refl; exception = refl; active = refl }
+
+    still_words : HoldsWords (pended e m)
+    still_words =
+        record { registers = w.words.registers; memory = w.words.memory; base_priority = w.words.base_priority }
+
+    pub asked_where : IsWhere img target p ceiling
+        (record { core = paid w.tail d; last = s.last; takings = s.takings }) (pended e m)
+    asked_where =
+        is_where_on img target p there ceiling s m (pended e m) w w.tail w.of_timer d s.last fresh.0 still_fresh
+        meanwhile
+        still_above (λ k h. refl) still_words w.placed below (ap (λ x. length x.cells) processor) requests stopped
+        (alarm_then img c d w.alarm (inl alarm))
+
+    pub asked_related : (before : pick img d ≡ None → pick img c ≡ None)
+        → IsPastMarks img target p c top m w.phase
+        → Related img target p ceiling (record { core = paid w.tail d; last = s.last; takings = s.takings })
+        (pended e m)
+    asked_related before marks =
+        related_on img target p there ceiling s m (pended e m) w w.tail w.of_timer d s.last fresh.0 still_fresh
+        meanwhile
+        still_above (λ k h. refl) still_words w.placed below (ap (λ x. length x.cells) processor) requests stopped
+        (alarm_then img c d w.alarm (inl alarm))
         (past_of d (pended e m) fresh.0 (λ f none at_mark.
-        of_past w.phase r.marks (sym fresh.2 ∙ f) (before none)
-        (sym (ap (λ x. instruction_at img (record s.core { processor = x })) processor) ∙ at_mark)))
+        of_past w.phase marks (sym fresh.2 ∙ f) (before none)
+        (sym (ap (λ x. instruction_at img (record c { processor = x })) processor) ∙ at_mark)))
+
+  -- a request that a device makes
+  abbrev asked_core : ℕ → Core
+  asked_core irq = core_after_pend c irq
+
+  arrival : (irq : ℕ) → IsAsFresh at bottom img pl p c (asked_core irq) top m (pended (external irq) m) w.phase
+  arrival irq = arrivals_keep_phases at bottom img pl p c top irq m w.phase
+
+  pub asked_paid : (irq : ℕ) → core_after_pend s.core irq ≡ paid w.tail (asked_core irq)
+  asked_paid irq =
+      ap (λ (k : Core). core_after_pend k irq) w.owed
+      ∙ by_debt (λ (f : Core → Core). core_after_pend (f c) irq ≡ f (asked_core irq)) w.tail refl
+      (λ t e. ap (λ (ps : List Bool). record (rung t.irq c) { pending = ps }) (both_asked c.pending t.irq irq))
+
+  pub arrives : (irq : ℕ) → IsWhere img target p ceiling (moment_after img s (Comes (Arrive irq)))
+      (pended (external irq) m)
+  unfolding happen
+  arrives irq =
+      subst (λ (k : Core). IsWhere img target p ceiling (with_core s k) (pended (external irq) m))
+      (sym (asked_paid irq))
+      (asked_where (asked_core irq) (external irq) (arrival irq) refl refl (length-set c.pending irq true) refl refl
+      refl
+      (still_there c.pending irq))
+
+  pub ticks_come : IsWhere img target p ceiling s (pended systick m)
+  ticks_come =
+      subst (λ (k : Core). IsWhere img target p ceiling (with_core s k) (pended systick m)) (sym w.owed)
+      (asked_where c systick (pending_ticks_keep_phases at bottom img pl p c top m w.phase) refl refl refl refl refl
+      refl
+      (λ irq e. e))
 
 pub requests_lead_on : RequestsLeadOn
 unfolding happen
-requests_lead_on img target p s m irq there r l =
-    asked img target p there s m r (core_after_pend s.core irq) (external irq)
-    (arrivals_keep_phases (outside img target) (lowest img target p) img (places img target) p s.core r.here.top irq m
-    r.here.phase) refl refl (length-set s.core.pending irq true) refl refl (none_before img s.core irq)
+requests_lead_on img target p ceiling s m irq there r l =
+    let w = r.here in
+    let c = w.unpaid in
+    subst (λ (k : Core). Related img target p ceiling (with_core s k) (pended (external irq) m))
+    (sym (asked_paid img target p ceiling there s m w irq))
+    (asked_related img target p ceiling there s m w (core_after_pend c irq) (external irq)
+    (arrival img target p ceiling there s m w irq) refl refl (length-set c.pending irq true) refl refl refl
+    (still_there c.pending irq) (none_before img c irq) r.marks)
 
 pub pending_ticks_lead_on : PendingTicksLeadOn
-pending_ticks_lead_on img target p s m there r =
-    asked img target p there s m r s.core systick
-    (pending_ticks_keep_phases (outside img target) (lowest img target p) img (places img target) p s.core r.here.top m
-    r.here.phase) refl refl refl refl refl (λ e. e)
+pending_ticks_lead_on img target p ceiling s m there r =
+    let w = r.here in
+    subst (λ (k : Core). Related img target p ceiling (with_core s k) (pended systick m)) (sym w.owed)
+    (asked_related img target p ceiling there s m w w.unpaid systick
+    (pending_ticks_keep_phases (outside img target) (lowest img target p) img (places img target) p w.unpaid w.top m
+    w.phase) refl refl refl refl refl refl (λ irq e. e) (λ e. e) r.marks)
 
 -- what is executed late
 module _ (at : Outside) (bottom : ℕ) (img : Image) (places : List ℕ) (p : Program) (c : Core) (top : ℕ) (m : Machine)
@@ -188,25 +265,35 @@ late_instructions_lead_on img target p ceiling fits s m there stays fitting r la
     let bottom = lowest img target p in
     let pl = places img target in
     let laid = subst (IsLaidOut at bottom) (sym w.cells) there.laid in
-    let y = next_by img target p there s m late w.top w.phase in (
-      y.1,
-      executes_so p y.0 m y.1 y.2,
-      silence_leads_on img target p there ceiling fits s m y.1 stays w y.0 y.2
-          (what_is_late_is_nothing at bottom img pl p s.core w.top m y.1 y.0 there.has laid w.phase late y.2),
+    let y = next_by img target p there m late w.unpaid w.top w.phase in (
+      y.0.1,
+      executes_so p y.0.0 m y.0.1 y.0.2,
+      silence_leads_on img target p there ceiling fits s m y.0.1 stays w y.0.0 y.0.2 y.1
+          (what_is_late_is_nothing at bottom img pl p w.unpaid w.top m y.0.1 y.0.0 there.has laid w.phase late y.0.2),
     )
   where
-    next_by : (img : Image) (target : Target) (p : Program) → IsInPlace img target p → (s : Moment) (m : Machine)
-        → m.is_unsettled ≡ true → (top : ℕ)
-        → Phase (outside img target) (lowest img target p) img (places img target) p s.core top m → HasNext p m
-    next_by img target p there s m late top (ToCome x) =
+    next_by : (img : Image) (target : Target) (p : Program) → IsInPlace img target p → (m : Machine)
+        → m.is_unsettled ≡ true → (k : Core) (high : ℕ)
+        → (phase : Phase (outside img target) (lowest img target p) img (places img target) p k high m)
+        → HasNext p m × (tail_of (outside img target) (lowest img target p) img (places img target) p k high m phase
+        ≡ None)
+    next_by img target p there m late k high (ToCome x) =
         absurd (true_and_false m.is_unsettled late
-        (to_come_settled (outside img target) (lowest img target p) img (places img target) p s.core top m
+        (to_come_settled (outside img target) (lowest img target p) img (places img target) p k high m
         there.has.port x))
-    next_by img target p there s m late top (AlreadyDone x) =
-        left_has_next (outside img target) (lowest img target p) img (places img target) p s.core top m there.has.port x
-        late x.left x.completes
-    next_by img target p there s m late top (Entering x) =
-        entering_has_next (outside img target) (lowest img target p) img (places img target) p there.has s.core top m x
-    next_by img target p there s m late top (Reads x) = absurd (true_and_false m.is_unsettled late x.settled)
-    next_by img target p there s m late top (Calling x) =
-        calling_has_next (outside img target) (lowest img target p) img (places img target) p there.has s.core top m x
+    next_by img target p there m late k high (AlreadyDone x) = (
+      left_has_next (outside img target) (lowest img target p) img (places img target) p k high m there.has.port x
+          late x.left x.completes,
+      refl,
+    )
+    next_by img target p there m late k high (Entering x) = (
+      entering_has_next (outside img target) (lowest img target p) img (places img target) p there.has k high m x,
+      refl,
+    )
+    next_by img target p there m late k high (Reads x) = absurd (true_and_false m.is_unsettled late x.settled)
+    next_by img target p there m late k high (Tails core x same) =
+        absurd (true_and_false m.is_unsettled late x.settled)
+    next_by img target p there m late k high (Calling x) = (
+      calling_has_next (outside img target) (lowest img target p) img (places img target) p there.has k high m x,
+      refl,
+    )

@@ -31,7 +31,7 @@ use Rattle.rt_native_laws.specs.Standing.{StandsFor, HoldsWords}
 use Rattle.rt_native_laws.proofs.Accesses.{otherwise}
 use Rattle.rt_native_laws.proofs.Calculating.{next as stepped}
 use Rattle.rt_native_laws.proofs.Calls.{words_from, long_words, word_of}
-use Rattle.rt_native_laws.proofs.Copying.{Led, led_one, led_on, led_privately, loop, CanCopy, copies}
+use Rattle.rt_native_laws.proofs.Copying.{CanCopy, IsWithin, Led, at_top, copies, led_on, led_one, led_privately, loop}
 use Rattle.rt_native_laws.proofs.Frames.{opens, shifted}
 use Rattle.rt_native_laws.proofs.Keeping.{written}
 use Rattle.rt_native_laws.proofs.Phases.{apart_of}
@@ -82,18 +82,23 @@ system_store port i t computed a m e z apart low =
     ∙ ap (λ (b : Bool). behind i (if b then as_enabling a v m else with_word a v m)) (early a low))))
 
 -- what a store changes of the system's three registers of SysTick, and nothing else
-pub record Started (p : Program) (m : Machine) (to : ℕ) : Type 0 where
+pub record Started (p : Program) (floor top : ℕ) (m : Machine) (to : ℕ) : Type 0 where
   pub last : Machine
-  pub led : Led p m last
+  pub led : Led p floor top m last
   pub rest : last ≡ record m { register = last.register; flags = last.flags; address = to; memory = last.memory }
   pub registers : (k : ℕ) → 4 ≤ k → last.register k ≡ m.register k
   pub memory : (k : ℕ) → (4 * k < 0xE000E010) ⊎ (0xE000E01C ≤ 4 * k) → last.memory k ≡ m.memory k
   pub words : HoldsWords last
 
 module _ (at : Outside) (img : Image) (places : List ℕ) (p : Program) (code : HasCode at img places p)
-    (port : p.port < 0xE0000000) (floor top : ℕ) (apart : IsApart p floor top) where
+    (port : (p.port < 0xE000E000) ⊎ (0xE000F000 ≤ p.port)) (floor top : ℕ) (apart : IsApart p floor top) where
+  is_no_register : (a : ℕ) → 0xE000E000 ≤ a → a < 0xE000F000 → a ≢ p.port
+  is_no_register a low high e =
+      ⊎_elim (λ (x : p.port < 0xE000E000). omega (arith, e, x, low)) (λ (x : 0xE000F000 ≤ p.port).
+      omega (arith, e, x, high)) port
+
   starts : (reload : Option ℕ) (m : Machine) (to : ℕ) → floor ≤ m.register 13 → m.register 13 ≤ top
-      → m.is_masked ≡ true → HoldsWords m → Spans p m.address (start_tick reload) to → Started p m to
+      → m.is_masked ≡ true → HoldsWords m → Spans p m.address (start_tick reload) to → Started p floor top m to
   unfolding start_tick
   starts None m to low high masked words span = record {
     last = m;
@@ -115,6 +120,9 @@ module _ (at : Outside) (img : Image) (places : List ℕ) (p : Program) (code : 
       let h = gets_number p floor top 0 reload m1 outer.middle refl inner.second in
       let m2 = moved m h.register h.flags outer.middle in
       let s1 : g.register 13 ≡ m.register 13 = g.others 13 (λ e. omega (arith, e)) (λ e. omega (arith, e)) in
+      let s2 : h.register 13 ≡ g.register 13 = h.others 13 (λ e. omega (arith, e)) (λ e. omega (arith, e)) in
+      let within1 : IsWithin floor top m1 = (omega (arith, low, s1), omega (arith, high, s1)) in
+      let within2 : IsWithin floor top m2 = (omega (arith, within1.0, s2), omega (arith, within1.1, s2)) in
       let w1 = words_run at img places p code floor top (address 1 SYSTICK) m m1 g.runs words in
       let w2 = words_run at img places p code floor top (number 0 reload) m1 m2 h.runs w1 in
       let r1 : h.register 1 ≡ SYSTICK = h.others 1 (λ e. omega (arith, e)) (λ e. omega (arith, e)) ∙ g.gets in
@@ -122,17 +130,17 @@ module _ (at : Outside) (img : Image) (places : List ℕ) (p : Program) (code : 
       let m3 = record m2 { memory = written m.memory 0xE000E014 v; address = outer.middle + 2 } in
       let d3 : effect p.port i1 m2 ≡ Some m3 =
       system_store p.port i1 0 (word (h.register 1 + 4)) 0xE000E014 m2 (ap (λ (x : ℕ). word (x + 4)) r1) refl
-      (λ e. omega (arith, e, port)) (omega arith) in
+      (is_no_register 0xE000E014 (omega arith) (omega arith)) (omega arith) in
       let m4 = record m3 { memory = written m3.memory 0xE000E018 v; address = outer.middle + 2 + 2 } in
       let d4 : effect p.port i2 m3 ≡ Some m4 =
       system_store p.port i2 0 (word (h.register 1 + 8)) 0xE000E018 m3 (ap (λ (x : ℕ). word (x + 8)) r1) refl
-      (λ e. omega (arith, e, port)) (omega arith) in
+      (is_no_register 0xE000E018 (omega arith) (omega arith)) (omega arith) in
       let m5 = stepped p i3 m4 in
       let m6 = record m5 { memory = written m4.memory 0xE000E010 7; address = to } in
       let arrives : outer.middle + 2 + 2 + 2 + 2 ≡ to = sym outer.second.1.1.1.1 in
       let d6 : effect p.port i4 m5 ≡ Some m6 =
       system_store p.port i4 0 (word (m5.register 1 + 0)) 0xE000E010 m5 (ap (λ (x : ℕ). word (x + 0)) r1) refl
-      (λ e. omega (arith, e, port)) (omega arith)
+      (is_no_register 0xE000E010 (omega arith) (omega arith)) (omega arith)
       ∙ ap (λ (a : ℕ). Some (record m6 { address = a })) arrives in
       let f = outer.second in
       let w3 = words_after at img places p code i1 m2 m3 (record { found = f.0; does = d3 }) tt w2 in
@@ -140,12 +148,13 @@ module _ (at : Outside) (img : Image) (places : List ℕ) (p : Program) (code : 
       let w5 = words_after at img places p code i3 m4 m5 (record { found = f.1.1.0; does = refl }) tt w4 in
       record {
         last = m6;
-        led = led_on p m m1 m6 (led_privately p floor top apart (address 1 SYSTICK) m m1 low high masked g.runs)
-            (led_on p m1 m2 m6 (led_privately p floor top apart (number 0 reload) m1 m2 (omega (arith, low, s1))
-            (omega (arith, high, s1)) masked h.runs)
-            (led_on p m2 m3 m6 (led_one p i1 m2 m3 masked f.0 d3)
-            (led_on p m3 m4 m6 (led_one p i2 m3 m4 masked f.1.0 d4)
-            (led_on p m4 m5 m6 (led_one p i3 m4 m5 masked f.1.1.0 refl) (led_one p i4 m5 m6 masked f.1.1.1.0 d6)))));
+        led = led_on p floor top m m1 m6 (led_privately p floor top apart (address 1 SYSTICK) m m1 (low, high) masked
+            g.runs)
+            (led_on p floor top m1 m2 m6 (led_privately p floor top apart (number 0 reload) m1 m2 within1 masked h.runs)
+            (led_on p floor top m2 m3 m6 (led_one p floor top i1 m2 m3 within2 masked f.0 d3)
+            (led_on p floor top m3 m4 m6 (led_one p floor top i2 m3 m4 within2 masked f.1.0 d4)
+            (led_on p floor top m4 m5 m6 (led_one p floor top i3 m4 m5 within2 masked f.1.1.0 refl)
+            (led_one p floor top i4 m5 m6 within2 masked f.1.1.1.0 d6)))));
         rest = refl;
         registers = λ k l.
             other k 0 _ _ (λ e. omega (arith, e, l)) ∙ (h.others k (λ e. omega (arith, e, l)) (λ e. omega (arith, e, l))
@@ -216,10 +225,13 @@ module _ (at : Outside) (bottom : ℕ) (reload : Option ℕ) (img : Image) (load
         (λ (y : at.time + 8 ≤ at.port). inr (omega (arith, y, x.has.port, x.laid.time))) x.laid.port_apart;
   }
 
+  within : (sp : ℕ) → sp ≡ top → (low ≤ sp) × (sp ≤ top)
+  within sp e = (omega (arith, e), omega (arith, e))
+
   -- the first values are copied
   pub record IsCopied : Type 0 where
     pub last : Machine
-    pub led : Led p m last
+    pub led : Led p low top m last
     pub rest : last ≡ record m {
       register = last.register;
       flags = last.flags;
@@ -260,15 +272,16 @@ module _ (at : Outside) (bottom : ℕ) (reload : Option ℕ) (img : Image) (load
       ∙ (g1.others 0 (λ e. omega (arith, e)) (λ e. omega (arith, e)) ∙ g0.gets) in
       let r1 : g2.register 1 ≡ at.cells = g2.others 1 (λ e. omega (arith, e)) (λ e. omega (arith, e)) ∙ g1.gets in
       let ends : to ≡ p3.middle + 18 = p3.second.1.1.1.1.1.1.1 ∙ omega arith in
-      let c = copies at img places p x.has count m2 load at.cells can r0 r1 (g2.gets ∙ limit_is) x.is_masked w2
+      let c = copies at img places p x.has low top count m2 load at.cells can r0 r1 (g2.gets ∙ limit_is) x.is_masked
+      (within (g2.register 13) s2) w2
       (subst (λ (a : ℕ). Spans p p3.middle loop a) ends p3.second)
       (x.has.low p3.middle (instruction.Operate operation.Compare 1 2) p3.second.0) in
-      let front = led_on p m m0 c.last (led_privately p low top apart a0 m m0 (omega (arith, x.stack))
-      (omega (arith, x.stack)) x.is_masked g0.runs)
-      (led_on p m0 m1 c.last (led_privately p low top apart a1 m0 m1 (omega (arith, s0)) (omega (arith, s0)) x.is_masked
-      g1.runs)
-      (led_on p m1 m2 c.last (led_privately p low top apart a2 m1 m2 (omega (arith, s1)) (omega (arith, s1)) x.is_masked
-      g2.runs) c.led)) in
+      let front = led_on p low top m m0 c.last (led_privately p low top apart a0 m m0 (within (m.register 13) x.stack)
+      x.is_masked g0.runs)
+      (led_on p low top m0 m1 c.last (led_privately p low top apart a1 m0 m1 (within (g0.register 13) s0)
+      x.is_masked g1.runs)
+      (led_on p low top m1 m2 c.last (led_privately p low top apart a2 m1 m2 (within (g1.register 13) s1)
+      x.is_masked g2.runs) c.led)) in
       let address_is : c.last.address ≡ p3.middle + 18 = ap (λ (y : Machine). y.address) c.rest in (
         record {
           last = c.last;
@@ -303,16 +316,13 @@ module _ (at : Outside) (bottom : ℕ) (reload : Option ℕ) (img : Image) (load
   besides a far =
       ⊎_elim (λ (y : a < 0xE000E010). inl (omega (arith, y))) (λ (y : 0xE000E01C ≤ a). inr (omega (arith, y))) far
 
-  low_port : p.port < 0xE0000000
-  low_port = omega (arith, x.port, x.has.port)
-
-  within : (sp : ℕ) → sp ≡ top → (low ≤ sp) × (sp ≤ top)
-  within sp e = (omega (arith, e), omega (arith, e))
+  no_register : (p.port < 0xE000E000) ⊎ (0xE000F000 ≤ p.port)
+  no_register = subst (λ (a : ℕ). (a < 0xE000E000) ⊎ (0xE000F000 ≤ a)) (sym x.has.port) x.port
 
   -- all of this part is done
   pub record IsBehind : Type 0 where
     pub last : Machine
-    pub led : Led p m last
+    pub led : Led p low top m last
     pub rest : last ≡ record m {
       register = last.register;
       flags = last.flags;
@@ -348,7 +358,7 @@ module _ (at : Outside) (bottom : ℕ) (reload : Option ℕ) (img : Image) (load
       let m1 = k1.last in
       let masked1 : m1.is_masked ≡ true = ap (λ (y : Machine). y.is_masked) k1.rest ∙ x.is_masked in
       let in1 = within (m1.register 13) k1.stack in
-      let k2 = starts at img places p x.has low_port low top apart reload m1 p2.middle in1.0 in1.1 masked1 k1.words
+      let k2 = starts at img places p x.has no_register low top apart reload m1 p2.middle in1.0 in1.1 masked1 k1.words
       (subst (λ (a : ℕ). Spans p a s p2.middle) (sym done.1) p1.second) in
       let m2 = k2.last in
       let masked2 : m2.is_masked ≡ true = ap (λ (y : Machine). y.is_masked) k2.rest ∙ masked1 in
@@ -358,6 +368,7 @@ module _ (at : Outside) (bottom : ℕ) (reload : Option ℕ) (img : Image) (load
       let g = opens p low top img.thread_words m2 low p3.middle (sum ∙ sym stack2) least in2.1 apart.memory
       (subst (λ (a : ℕ). Spans p a o p3.middle) (sym at2) p2.second) in
       let m3 = shifted m2 g.register p3.middle in
+      let in3 : IsWithin low top m3 = (omega (arith, g.sp), omega (arith, g.sp)) in
       let m4 = stepped p d m3 in
       let m5 = record m4 { is_unsettled = false; address = end } in
       let arrives : p3.middle + 4 + 4 ≡ end = sym p3.second.1.1 in
@@ -367,10 +378,10 @@ module _ (at : Outside) (bottom : ℕ) (reload : Option ℕ) (img : Image) (load
       let w5 = words_after at img places p x.has j m4 m5 (record { found = p3.second.1.0; does = d5 }) tt w4 in
       record {
         last = m5;
-        led = led_on p m m1 m5 k1.led (led_on p m1 m2 m5 k2.led
-            (led_on p m2 m3 m5 (led_privately p low top apart o m2 m3 in2.0 in2.1 masked2 g.runs)
-            (led_on p m3 m4 m5 (led_one p d m3 m4 masked2 p3.second.0 refl)
-            (led_one p j m4 m5 masked2 p3.second.1.0 d5))));
+        led = led_on p low top m m1 m5 k1.led (led_on p low top m1 m2 m5 k2.led
+            (led_on p low top m2 m3 m5 (led_privately p low top apart o m2 m3 in2 masked2 g.runs)
+            (led_on p low top m3 m4 m5 (led_one p low top d m3 m4 in3 masked2 p3.second.0 refl)
+            (led_one p low top j m4 m5 in3 masked2 p3.second.1.0 d5))));
         rest = ap (λ (y : Machine). record y {
           register = g.register;
           address = end;
@@ -439,7 +450,8 @@ module _ (at : Outside) (bottom : ℕ) (reload : Option ℕ) (img : Image) (load
     result = record {
       executed = b.led.executed;
       last = b.last;
-      leads = λ events e. nothing_disturbs p b.led.executed events m b.last b.led.run e;
+      leads = λ events e. nothing_disturbs p b.led.executed events m b.last
+          (at_top p low top b.led.executed m b.last b.led.run) e;
       slots = slots;
       long = long;
       thread = record {

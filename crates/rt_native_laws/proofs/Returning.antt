@@ -15,6 +15,7 @@ use Rattle.rt_core.specs.Priority.{pick}
 use Rattle.rt_core.specs.Stepping.{attempt, go_on, run, step, with_note}
 use Rattle.rt_core.specs.Transfer.{exception_return, outcome_of_return}
 use Rattle.rt_native.specs.Layout.{outside, places, stack_top}
+use Rattle.rt_native.specs.Service.{timer_irq}
 use Rattle.rt_native.specs.Target.{Target}
 use Rattle.rt_native.specs.declared.outside.Outside.{Outside}
 use Rattle.rt_native.specs.declared.target.Input.{Input}
@@ -26,22 +27,26 @@ use Rattle.rt_thumb.specs.declared.instruction.Instruction.{Instruction}
 use Rattle.rt_trace.specs.Label.{Stepped}
 use Rattle.rt_trace.specs.declared.item.What.{What}
 use Rattle.rt_trace.specs.declared.item.What.TheVariants as what
+use Rattle.rt_native_laws.specs.Alike.{SetsNoAlarm}
 use Rattle.rt_native_laws.specs.Behaving.{IsAsTaken, ReturnsWell, StaysGood}
 use Rattle.rt_native_laws.specs.Going.{StepsBy}
+use Rattle.rt_native_laws.specs.InTail.{Debt, paid}
 use Rattle.rt_native_laws.specs.Leaving.{Resumes}
 use Rattle.rt_native_laws.specs.Moments.{Comes, Happening, Moment, Taking, after_instruction, after_return, after_step}
-use Rattle.rt_native_laws.specs.Moments.{instruction_at, moment_after}
+use Rattle.rt_native_laws.specs.Moments.{instruction_at, moment_after, with_core}
 use Rattle.rt_native_laws.specs.Own.{Executes}
+use Rattle.rt_native_laws.specs.Phases.{tail_of}
 use Rattle.rt_native_laws.specs.Relating.{AreEvenBelow, IsAlarmOf, IsInPlace, IsWhere, LeadsOn, lowest}
 use Rattle.rt_native_laws.specs.Standing.{HoldsWords, IsLaidOut}
-use Rattle.rt_native_laws.specs.Simulating.{seen_of_label}
-use Rattle.rt_native_laws.specs.Waiting.{Shows, Waiting}
+use Rattle.rt_native_laws.specs.Simulating.{compared, seen_of_label}
+use Rattle.rt_native_laws.specs.Waiting.{Shows, Waiting, others_tail}
 use Rattle.rt_native_laws.proofs.EachKind.{HasContext, return_context}
 use Rattle.rt_native_laws.proofs.Even.{goes_to_even}
 use Rattle.rt_native_laws.proofs.Leaving.{return_pops, return_resumes}
 use Rattle.rt_native_laws.proofs.Marking.{marks_are_done, step_seen}
 use Rattle.rt_native_laws.proofs.Relating.{loaded_still, tick_still}
 use Rattle.rt_native_laws.proofs.Showing.{phases_show}
+use Rattle.rt_native_laws.proofs.Unpaid.{IsQuiet, moment_same, paid_same, parts_same, step_same}
 
 -- words that a return gives back are words
 word_by : (a b c d : Bool) (s t u v w : ℕ) → s < 2 ^ 32 → t < 2 ^ 32 → u < 2 ^ 32 → v < 2 ^ 32 → w < 2 ^ 32
@@ -93,9 +98,11 @@ returning_is img c d said x below st free waits =
 
 module _ (img : Image) (target : Target) (p : Program) (there : IsInPlace img target p) (ceiling : ℕ)
     (fits : List Happening → Bool) (s : Moment) (m n : Machine)
-    (stays : StaysGood img target.inputs ceiling fits s) (w : IsWhere img target p s m) (executed : Instruction)
+    (stays : StaysGood img target.inputs ceiling fits s) (w : IsWhere img target p ceiling s m) (executed : Instruction)
     (exec : Executes p executed m n)
-    (st : StepsBy img instr.Ret s.core (step img s.core).0 (step img s.core).1) (well : ReturnsWell img s)
+    (own : tail_of (outside img target) (lowest img target p) img (places img target) p w.unpaid w.top m w.phase ≡ None)
+    (st : StepsBy img instr.Ret w.unpaid (step img w.unpaid).0 (step img w.unpaid).1)
+    (well : ReturnsWell img (with_core s w.unpaid))
     (stack : m.register 13 ≡ w.top) (goes : returned (m.register 14) m ≡ Some n) where
   abbrev at : Outside
   at = outside img target
@@ -113,7 +120,7 @@ module _ (img : Image) (target : Target) (p : Program) (there : IsInPlace img ta
   inputs = target.inputs
 
   abbrev c : Core
-  c = s.core
+  c = w.unpaid
 
   abbrev d : Core
   d = (step img c).0
@@ -136,17 +143,25 @@ module _ (img : Image) (target : Target) (p : Program) (there : IsInPlace img ta
   at_ret : instruction_at img c ≡ Some instr.Ret
   at_ret = ap (option_map (λ l. l.0)) st.line
 
-  next_is : moment_after img s (Comes Step) ≡ after_return d s.takings
-  next_is = ap (after_step img s d) st.takes_none ∙ ap (after_instruction img s d) at_ret
+  -- a return sets no alarm
+  quiet : IsQuiet img target p ceiling s m w
+  quiet t e none = subst SetsNoAlarm (sym at_ret) tt
+
+  next_is : moment_after img s (Comes Step)
+      ≡ with_core (after_return d s.takings) (paid w.tail (after_return d s.takings).core)
+  next_is =
+      moment_same img target p ceiling s m w quiet
+      ∙ ap (λ (z : Moment). with_core z (paid w.tail z.core))
+      (ap (after_step img (with_core s c) d) st.takes_none ∙ ap (after_instruction img (with_core s c) d) at_ret)
 
   -- the job that waited last
   module _ (taking : Taking) (takings : List Taking) (taken : s.takings ≡ taking ∷ takings)
       (same_base : c.processor.basepri ≡ taking.base_priority)
-      (jobs : Waiting at bottom highest inputs img pl p (taking ∷ takings)
+      (jobs : Waiting at bottom highest ceiling inputs img pl p w.tail (taking ∷ takings)
       (found.context ∷ found.others) c w.top m) where
-    resumes : Resumes at bottom highest inputs img pl p taking.last takings found.others d n
+    resumes : Resumes at bottom highest ceiling inputs img pl p w.tail taking.last takings found.others d n
     resumes =
-        return_resumes at bottom highest inputs img pl p taking takings found.context found.others c d
+        return_resumes at bottom highest ceiling inputs img pl p w.tail taking takings found.context found.others c d
         (step img c).1 w.top m n
         st found.below found.free same_base well.primask (shown.base_priority ∙ same_base)
         (shown.is_masked ∙ well.primask) stack goes jobs
@@ -163,12 +178,17 @@ module _ (img : Image) (target : Target) (p : Program) (there : IsInPlace img ta
     below_is : d.below ≡ found.others
     below_is = ap (λ (y : Core). y.below) returning.core
 
-    where_then : IsWhere img target p (record { core = d; last = taking.last; takings = takings }) n
+    where_then : IsWhere img target p ceiling (record { core = paid w.tail d; last = taking.last; takings = takings }) n
     where_then = record {
+      tail = w.tail;
+      of_timer = w.of_timer;
+      unpaid = d;
+      owed = refl;
       top = resumes.top;
       phase = resumes.phase;
       fresh = resumes.fresh;
-      waiting = subst (λ (b : List Context). Waiting at bottom highest inputs img pl p takings b d resumes.top n)
+      waiting = subst (λ (b : List Context). Waiting at bottom highest ceiling inputs img pl p
+          (others_tail (tail_of at bottom img pl p d resumes.top n resumes.phase) w.tail) takings b d resumes.top n)
           (sym below_is) resumes.others;
       agrees = returns_keep_agreeing img c d (Some (what.Ret found.context.irq)) m n (m.register 14) w.agrees
           (runs ∙ sym (ap exception_number found.below))
@@ -188,12 +208,13 @@ module _ (img : Image) (target : Target) (p : Program) (there : IsInPlace img ta
       frames = subst AreEvenBelow (sym below_is) (subst AreEvenBelow found.below w.frames).1;
     }
 
-    where_next : IsWhere img target p (moment_after img s (Comes Step)) n
+    where_next : IsWhere img target p ceiling (moment_after img s (Comes Step)) n
     where_next =
-        subst (λ (z : Moment). IsWhere img target p z n)
-        (sym (next_is ∙ ap (after_return d) taken)) where_then
+        subst (λ (z : Moment). IsWhere img target p ceiling z n)
+        (sym (next_is ∙ ap (λ (ts : List Taking). with_core (after_return d ts) (paid w.tail (after_return d ts).core))
+        taken)) where_then
 
-    leads : LeadsOn img target p fits s m n
+    leads : LeadsOn img target p ceiling fits s m n
     leads =
         let s1 = moment_after img s (Comes Step) in
         let marked = marks_are_done img target p there ceiling (λ more. fits (Comes Step ∷ more)) s1 n
@@ -202,27 +223,32 @@ module _ (img : Image) (target : Target) (p : Program) (there : IsInPlace img ta
           happened = Comes Step ∷ marked.happened;
           can = (tt, marked.can);
           arrivals = marked.arrivals;
-          seen = sym (ap (λ (x : Machine). x.seen) popped_is)
+          seen = ap (compared (timer_irq img.code)) (sym (ap (λ (x : Machine). x.seen) popped_is)
               ∙ (ap (λ (e : ℕ). Returned e ∷ m.seen) runs
               ∙ sym (ap (λ (xs : List Seen). reverse xs ++ m.seen)
               (step_seen img s marked.happened
-              ∙ (ap (λ (xs : List Seen). seen_of_label (Stepped (step img c).1) ++ xs) marked.seen
-              ∙ ap (λ (o : Option What). seen_of_label (Stepped o) ++ []) returning.item))));
+              ∙ (ap (λ (xs : List Seen). seen_of_label (Stepped (step img s.core).1) ++ xs) marked.seen
+              ∙ ap (λ (o : Option What). seen_of_label (Stepped o) ++ [])
+              (ap (λ (x : Core × Option What). x.1) (step_same img target p ceiling s m w quiet)
+              ∙ returning.item))))));
           ticks = sym (ap (λ (x : Machine). x.is_pending systick) popped_is);
-          time = marked.time ∙ (ap (λ (z : Moment). z.core.time) (next_is ∙ ap (after_return d) taken)
-              ∙ ap (λ (y : Core). y.time) returning.core);
+          time = marked.time ∙ (ap (λ (z : Moment). z.core.time) (next_is
+              ∙ ap (λ (ts : List Taking). with_core (after_return d ts) (paid w.tail (after_return d ts).core)) taken)
+              ∙ ((paid_same w.tail d).time ∙ (ap (λ (y : Core). y.time) returning.core
+              ∙ sym (parts_same img target p ceiling s m w).time)));
           here = marked.here;
           marks = marked.marks;
         }
 
   by_takings : (takings : List Taking) → s.takings ≡ takings → IsAsTaken c.processor.basepri takings
-      → Waiting at bottom highest inputs img pl p takings (found.context ∷ found.others) c w.top m
-      → LeadsOn img target p fits s m n
+      → Waiting at bottom highest ceiling inputs img pl p w.tail takings (found.context ∷ found.others) c w.top m
+      → LeadsOn img target p ceiling fits s m n
   by_takings [] e same jobs = absurd same
   by_takings (taking ∷ takings) e same jobs = leads taking takings e same jobs
 
-  pub return_leads_on : LeadsOn img target p fits s m n
+  pub return_leads_on : LeadsOn img target p ceiling fits s m n
   return_leads_on =
       by_takings s.takings refl well.base_priority
-      (subst (λ (b : List Context). Waiting at bottom highest inputs img pl p s.takings b c w.top m) found.below
-      w.waiting)
+      (subst (λ (b : List Context). Waiting at bottom highest ceiling inputs img pl p w.tail s.takings b c w.top m)
+      found.below (subst (λ (o : Option Debt). Waiting at bottom highest ceiling inputs img pl p (others_tail o w.tail)
+      s.takings c.below c w.top m) own w.waiting))

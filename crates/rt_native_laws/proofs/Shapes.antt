@@ -13,7 +13,8 @@ use Rattle.rt_native.specs.Pieces.{number, address, close_frame, far_slot, read_
 use Rattle.rt_native.specs.Service.{stub, opening}
 use Rattle.rt_native.specs.Sequences.{sequence, calculation, shifting, comparing, set_slot, copy_slot, calculate}
 use Rattle.rt_native.specs.Sequences.{load_word, store_word, load_word_at, store_word_at, branch, branch_if_zero, pend}
-use Rattle.rt_native.specs.Sequences.{no_alarm, raise, restore, mask, serve, wait, back, ret, cell, STIR, RETURN_SLOT}
+use Rattle.rt_native.specs.Sequences.{no_alarm, raise, restore, mask, serve, set_alarm, wait, back, ret, cell, STIR}
+use Rattle.rt_native.specs.Sequences.{RETURN_SLOT}
 use Rattle.rt_native.specs.declared.outside.Outside.{Outside}
 use Rattle.rt_ids.specs.Operation.{wrapped_number as word}
 use Rattle.rt_thumb.specs.declared.instruction.Instruction.{Instruction}
@@ -199,6 +200,12 @@ back_has_first words =
 pub ret_has_first : (words : ℕ) → (x : Instruction) × (xs : List Instruction) × (ret words ≡ x ∷ xs)
 unfolding ret
 ret_has_first words = first_of (ret words) (one_behind (close_frame words) (instruction.BranchExchange 14) [])
+
+pub alarm_has_first : (at : Outside) (s irq : ℕ)
+    → (x : Instruction) × (xs : List Instruction) × (set_alarm at s irq ≡ x ∷ xs)
+unfolding set_alarm
+alarm_has_first at s irq =
+    first_of (set_alarm at s irq) (one_behind (read_slot 0 s ++ address 1 at.time) (instruction.Store 0 1 4) _)
 
 module _ (at : Outside) (img : Image) (places : List ℕ) (n : ℕ) where
   is_there : (i : Instr) → IsPlain i → IsThere (sequence at img places n i)

@@ -1,24 +1,31 @@
 -- What runs shows the core's masks, cells, time, alarm and requests.
 use Rattle.std.proofs.Common.{◌≡◌, ◌∙◌, ℕ, ◌+◌, ◌*◌, ◌/◌, ◌%◌, ◌≤◌, inr}
-use Rattle.std.proofs.Common.{List, Option, Some, IfSome, refl, sym, ap, subst, arith, length}
+use Rattle.std.proofs.Common.{List, Option, Some, None, IfSome, refl, sym, ap, subst, arith, length}
+use Rattle.std.specs.Prelude.{if◌then◌else◌}
 use Rattle.rt_code.specs.Image.{Image}
 use Rattle.rt_core.specs.Core.{Core}
+use Rattle.rt_core.specs.Priority.{execution}
 use Rattle.rt_native.specs.declared.outside.Outside.{Outside}
 use Rattle.rt_native.specs.declared.target.Input.{Input}
 use Rattle.rt_thumb.specs.Exceptions.{external}
 use Rattle.rt_thumb.specs.Machine.{Machine, word_at}
 use Rattle.rt_thumb.specs.Step.{Program}
+use Rattle.rt_native_laws.specs.InTail.{Debt, IsInTail, rung}
 use Rattle.rt_native_laws.specs.Moments.{Began, Last, settled_words}
 use Rattle.rt_native_laws.specs.Own.{ChangesItsOwn}
 use Rattle.rt_native_laws.specs.Phases.{IsToCome, IsDone, IsEntering, IsCalling, OthersRan, Phase, ToCome, AlreadyDone}
-use Rattle.rt_native_laws.specs.Phases.{Entering, Calling, Reads, kept_words, reads_from}
+use Rattle.rt_native_laws.specs.Phases.{Entering, Calling, Reads, Tails, kept_words, reads_from, tail_of}
 use Rattle.rt_native_laws.specs.Reading.{IsReading}
 use Rattle.rt_native_laws.specs.Standing.{IsLaidOut, StandsFor}
-use Rattle.rt_native_laws.specs.Waiting.{Shows, PhasesShow, IsFresh}
+use Rattle.rt_native_laws.specs.Tail.{Meanwhile}
+use Rattle.rt_native_laws.specs.Waiting.{Shows, PhasesShow, IsFresh, KeepsTail, others_tail}
 use Rattle.rt_native_laws.proofs.Kept.{entering_is_kept, calling_is_kept_so}
+use Rattle.rt_native_laws.proofs.Meanwhile.{tail_is_kept}
 use Rattle.rt_native_laws.proofs.Phases.{apart_of, to_come_is_kept, done_is_kept}
+use Rattle.rt_native_laws.proofs.Prefixes.{same_some}
 use Rattle.rt_native_laws.proofs.Private.{private_is_unseen}
 use Rattle.rt_native_laws.proofs.Reading.{reading_is_kept}
+use Rattle.rt_native_laws.proofs.Tails.{debt, debt_is, holds_then, only_tail, others_keep, some_is_none, tail_then}
 
 -- Others leave a job in its phase, whichever it is, and as many words of its frame the core's.
 module _ (at : Outside) (bottom : ℕ) (img : Image) (places : List ℕ) (p : Program) (c d : Core) (top : ℕ)
@@ -27,33 +34,85 @@ module _ (at : Outside) (bottom : ℕ) (img : Image) (places : List ℕ) (p : Pr
   same_frame : length d.processor.slots ≡ length c.processor.slots
   same_frame = ap (λ (y : Core). length y.processor.slots) o.core
 
-  pub phase_is_kept : (phase : Phase at bottom img places p c top m)
-      → (again : Phase at bottom img places p d top n) × (kept_words at bottom img places p c top m phase
+  same_priority : execution d ≡ execution c
+  same_priority = ap execution o.core
+
+  abbrev Then : Option Debt → (phase : Phase at bottom img places p c top m) → Type 0
+  Then now phase =
+      (again : Phase at bottom img places p d top n) × (kept_words at bottom img places p c top m phase
       ≤ kept_words at bottom img places p d top n again)
       × (reads_from at bottom img places p d top n again ≡ reads_from at bottom img places p c top m phase)
-  phase_is_kept (ToCome x) =
-      (ToCome (to_come_is_kept at bottom img places p c d top m n x o), omega (arith, same_frame), refl)
-  phase_is_kept (AlreadyDone x) =
-      (AlreadyDone (done_is_kept at bottom img places p c d top m n laid port x o), omega (arith, same_frame), refl)
-  phase_is_kept (Entering x) =
-      (Entering (entering_is_kept at bottom img places p c d top m n port x o), omega arith, refl)
-  phase_is_kept (Calling x) =
-      let again = calling_is_kept_so at bottom img places p c d top m n x o in
-      (Calling again.0, omega (arith, again.1), refl)
-  phase_is_kept (Reads x) =
-      let again = reading_is_kept at bottom img places p c d top m n x o in
-      (Reads again.0, omega arith, ap (λ (ds : List Input). Some ds) again.1)
+      × (tail_of at bottom img places p d top n again
+      ≡ tail_then (tail_of at bottom img places p c top m phase) now)
 
-  pub fresh_is_kept : (highest : ℕ) (inputs : List Input) (last : Last) (phase : Phase at bottom img places p c top m)
-      → IsFresh at bottom highest inputs img places p last c top m phase
-      → IsFresh at bottom highest inputs img places p last d top n (phase_is_kept phase).0
-  fresh_is_kept highest inputs last phase fresh =
-      let more = (phase_is_kept phase).1 in
-      let kept = fresh.0 in (
-        subst (λ (w : ℕ). settled_words last w ≤ kept_words at bottom img places p d top n (phase_is_kept phase).0)
-            (sym same_frame) (omega (arith, kept, more)),
-        subst (λ (o : Option (List Input)). IfSome o (λ declared. (last ≡ Began) × (declared ≡ inputs)))
-            (sym (phase_is_kept phase).2) fresh.1,
+  -- a tail
+  tail_again : (tail now : Option Debt) → KeepsTail tail now c d → (core : Core)
+      → (x : IsInTail at bottom img places p core top m) → (same : x.unpaid ≡ c)
+      → tail ≡ Some (debt x.irq x.instant x.owes) → Then now (Tails core x same)
+  tail_again None now keeps core x same is = absurd (some_is_none (debt x.irq x.instant x.owes) (sym is))
+  tail_again (Some tail) None keeps core x same is = absurd keeps
+  tail_again (Some tail) (Some now) keeps core x same is =
+      let own : tail ≡ debt x.irq x.instant x.owes = same_some tail (debt x.irq x.instant x.owes) is in
+      let meanwhile : Meanwhile x.irq x.instant x.owes now.owes x.unpaid d =
+      subst (λ (k : Core). Meanwhile x.irq x.instant x.owes now.owes k d) (sym same)
+      (subst (λ (t : Debt). Meanwhile t.irq t.instant t.owes now.owes c d) own keeps.2) in
+      let settled : Core = if now.owes then rung x.irq d else d in
+      let again = tail_is_kept at bottom img places p core settled d now.owes top m n x
+      (subst (λ (k : Core). OthersRan at (m.register 13) top k d m n) (sym same) o) meanwhile refl in (
+        Tails settled again.0 again.4,
+        omega (arith, same_frame),
+        refl,
+        ap (λ (t : Debt). Some t) (debt_is (debt again.0.irq again.0.instant again.0.owes) now
+            (again.1 ∙ (sym (ap (λ (t : Debt). t.irq) own) ∙ sym keeps.0))
+            (again.2 ∙ (sym (ap (λ (t : Debt). t.instant) own) ∙ sym keeps.1)) again.3),
+      )
+
+  pub phase_is_kept : (ceiling : ℕ) (tail now : Option Debt) → KeepsTail tail now c d
+      → (phase : Phase at bottom img places p c top m)
+      → IfSome (tail_of at bottom img places p c top m phase) (λ own. (tail ≡ Some own) × (execution c ≤ ceiling))
+      → Then now phase
+  phase_is_kept ceiling tail now keeps (ToCome x) own =
+      (ToCome (to_come_is_kept at bottom img places p c d top m n x o), omega (arith, same_frame), refl, refl)
+  phase_is_kept ceiling tail now keeps (AlreadyDone x) own = (
+    AlreadyDone (done_is_kept at bottom img places p c d top m n laid port x o),
+    omega (arith, same_frame),
+    refl,
+    refl,
+  )
+  phase_is_kept ceiling tail now keeps (Entering x) own =
+      (Entering (entering_is_kept at bottom img places p c d top m n port x o), omega arith, refl, refl)
+  phase_is_kept ceiling tail now keeps (Calling x) own =
+      let again = calling_is_kept_so at bottom img places p c d top m n x o in
+      (Calling again.0, omega (arith, again.1), refl, refl)
+  phase_is_kept ceiling tail now keeps (Reads x) own =
+      let again = reading_is_kept at bottom img places p c d top m n x o in
+      (Reads again.0, omega arith, ap (λ (ds : List Input). Some ds) again.1, refl)
+  phase_is_kept ceiling tail now keeps (Tails core x same) own = tail_again tail now keeps core x same own.0
+
+  -- the job, with its frame as new, and the tail in which others are
+  pub job_is_kept : (highest ceiling : ℕ) (inputs : List Input) (tail now : Option Debt) (last : Last)
+      → KeepsTail tail now c d → (phase : Phase at bottom img places p c top m)
+      → IsFresh at bottom highest ceiling inputs img places p tail last c top m phase
+      → (again : Phase at bottom img places p d top n)
+      × IsFresh at bottom highest ceiling inputs img places p now last d top n again
+      × KeepsTail (others_tail (tail_of at bottom img places p c top m phase) tail)
+      (others_tail (tail_of at bottom img places p d top n again) now) c d
+  job_is_kept highest ceiling inputs tail now last keeps phase fresh =
+      let own = tail_of at bottom img places p c top m phase in
+      let job = phase_is_kept ceiling tail now keeps phase fresh.2 in
+      let kept = fresh.0 in
+      let more = job.1 in (
+        job.0,
+        (
+          subst (λ (w : ℕ). settled_words last w ≤ kept_words at bottom img places p d top n job.0)
+              (sym same_frame) (omega (arith, kept, more)),
+          subst (λ (r : Option (List Input)). IfSome r (λ declared. (last ≡ Began) × (declared ≡ inputs)))
+              (sym job.2) fresh.1,
+          subst (λ (t : Option Debt). IfSome t (λ own. (now ≡ Some own) × (execution d ≤ ceiling))) (sym job.3)
+              (holds_then own tail now c d (execution c) (execution d) ceiling same_priority keeps fresh.2),
+        ),
+        subst (λ (t : Option Debt). KeepsTail (others_tail own tail) (others_tail t now) c d) (sym job.3)
+            (others_keep own tail now c d (only_tail own tail (execution c) ceiling fresh.2) keeps),
       )
 
 module _ (at : Outside) (bottom : ℕ) (places : List ℕ) (c : Core) where
@@ -180,12 +239,25 @@ module _ (at : Outside) (bottom : ℕ) (img : Image) (places : List ℕ) (p : Pr
         pending = st.pending;
       }
 
+  tail_shows : (core : Core) (x : IsInTail at bottom img places p core top m) → x.unpaid ≡ c → Shows at c m
+  tail_shows core x same =
+      let st = x.stands in
+      subst (λ (y : Core). Shows at y m) same (record {
+        base_priority = st.base_priority;
+        is_masked = st.is_masked;
+        cells = st.cells;
+        time = st.time;
+        alarm = st.alarm;
+        pending = st.pending;
+      })
+
   shows : IsLaidOut at bottom (length c.processor.cells) → Phase at bottom img places p c top m → Shows at c m
   shows laid (ToCome x) = to_come_shows x
   shows laid (AlreadyDone x) = done_shows laid x
   shows laid (Entering x) = entering_shows x
   shows laid (Calling x) = calling_shows x
   shows laid (Reads x) = reading_shows x
+  shows laid (Tails core x same) = tail_shows core x same
 
 pub phases_show : PhasesShow
 phases_show at bottom img places p c top m laid port phase = shows at bottom img places p c top m port laid phase

@@ -19,16 +19,20 @@ use Rattle.rt_thumb.specs.Machine.{Machine}
 use Rattle.rt_thumb.specs.Step.{Program}
 use Rattle.rt_thumb.specs.declared.instruction.Instruction.{Instruction}
 use Rattle.rt_thumb.specs.declared.instruction.Instruction.TheVariants as instruction
+use Rattle.rt_trace.specs.Label.{Stepped}
 use Rattle.rt_trace.specs.declared.item.What.{What}
 use Rattle.rt_trace.specs.declared.item.What.TheVariants as what
-use Rattle.rt_native_laws.specs.Doing.{IsAt, UnlessTrapped, machine_code}
-use Rattle.rt_native_laws.specs.Going.{HasCode, IsNothing, LeavesOthers}
+use Rattle.rt_native_laws.specs.Doing.{IsAt, UnlessTrapped, machine_code, seen_of}
+use Rattle.rt_native_laws.specs.Going.{HasCode, IsNothing, LeavesOthers, StepsBy}
 use Rattle.rt_native_laws.specs.Own.{AreSteady, Executes, RunsPrivately, Spans, StepsPrivately, is_steady}
-use Rattle.rt_native_laws.specs.Phases.{IsSameAbove}
+use Rattle.rt_native_laws.specs.Phases.{IsSameAbove, IsToCome}
+use Rattle.rt_native_laws.specs.Simulating.{seen_of_label}
 use Rattle.rt_native_laws.specs.Standing.{HoldsWords, StandsFor, frames_end}
-use Rattle.rt_native_laws.specs.Tail.{AlarmIsStored, AtTime, IsInTail, alarm_tail, rung}
+use Rattle.rt_native_laws.specs.InTail.{AtTime, IsInTail, alarm_tail, rung}
+use Rattle.rt_native_laws.specs.Tail.{AlarmIsStored}
 use Rattle.rt_native_laws.proofs.Accesses.{Prepared, prepare, runs_within}
 use Rattle.rt_native_laws.proofs.Ending.{unless, first_there}
+use Rattle.rt_native_laws.proofs.Items.{IsShownAsSaid, step_is_shown}
 use Rattle.rt_native_laws.proofs.Keeping.{written}
 use Rattle.rt_native_laws.proofs.Pieces.{moved, storing_is, other}
 use Rattle.rt_native_laws.proofs.Prefixes.{same_some, same_next, same_run, rest_of, compare, Place, Before}
@@ -39,7 +43,7 @@ use Rattle.rt_native_laws.proofs.Shapes.{slot_with_address}
 use Rattle.rt_native_laws.proofs.Silent.{goes_silently, own_apart, same_state}
 use Rattle.rt_native_laws.proofs.Steady.{stack_run, words_after, words_run}
 use Rattle.rt_native_laws.proofs.Tail.{not_alarm}
-use Rattle.rt_native_laws.proofs.Stepping.{after_step}
+use Rattle.rt_native_laws.proofs.Stepping.{after_step, outcome_is}
 use Rattle.rt_native_laws.proofs.Tests.{at_most, is_less, not_at_most}
 
 -- an outcome by a test
@@ -114,31 +118,40 @@ module _ (at : Outside) (bottom : ℕ) (img : Image) (places : List ℕ) (p : Pr
   ready_words = words_run at img places p code floor top front first ready to_ready here.words
 
   -- behind the store the job is in the tail
+  abbrev set_for : ℕ → Core
+  set_for v = record c { processor = next c.processor; alarm = Some (record { instant = v; irq = irq }) }
+
+  abbrev IsBehind : Core → Machine → Type 0
+  IsBehind d y = (x : IsInTail at bottom img places p d top y) × (x.irq ≡ irq) × (x.unpaid ≡ set_for x.instant)
+
   in_tail : (owes : Bool) (d : Core) → nat_le instant c.time ≡ owes → d ≡ (if owes then rung irq unpaid else unpaid)
-      → d.processor.address ≡ suc c.processor.address → IsInTail at bottom img places p d top stored
+      → d.processor.address ≡ suc c.processor.address → IsBehind d stored
   in_tail owes d told debt address =
       let r = prepared.0 in
       let b = alarm_stands at bottom img places p i c first here (Some (record { instant = instant; irq = irq }))
       instant refl r.register (written first.memory a instant) r.flags end refl r.others (λ k. refl) in
-      let to : end ≡ slice_index places d.processor.address = ap (slice_index places) (sym address) in
-      record {
-        irq = irq;
-        small = small;
-        instant = instant;
-        stage = AtTime;
-        code = subst (λ (y : ℕ). Spans p (r.middle + 2) (alarm_tail irq) y) to prepared.1.1;
-        unpaid = unpaid;
-        owes = owes;
-        debt = debt;
-        has_come = λ e h. absurd (omega (arith, h, not_at_most instant c.time (told ∙ e)));
-        set = inl refl;
-        knows = (r.slot, r.address, λ e. at_most instant c.time (told ∙ e));
-        laid = here.laid;
-        stands = subst (λ (y : ℕ). StandsFor at bottom places unpaid (record stored { address = y })) to b.stands;
-        ends = omega (arith, stack_there, ends);
-        settled = settled;
-        words = words_after at img places p code commit ready stored stores tt ready_words;
-      }
+      let to : end ≡ slice_index places d.processor.address = ap (slice_index places) (sym address) in (
+        record {
+          irq = irq;
+          small = small;
+          instant = instant;
+          stage = AtTime;
+          code = subst (λ (y : ℕ). Spans p (r.middle + 2) (alarm_tail irq) y) to prepared.1.1;
+          unpaid = unpaid;
+          owes = owes;
+          debt = debt;
+          has_come = λ e h. absurd (omega (arith, h, not_at_most instant c.time (told ∙ e)));
+          set = inl refl;
+          knows = (r.slot, r.address, λ e. at_most instant c.time (told ∙ e));
+          laid = here.laid;
+          stands = subst (λ (y : ℕ). StandsFor at bottom places unpaid (record stored { address = y })) to b.stands;
+          ends = omega (arith, stack_there, ends);
+          settled = settled;
+          words = words_after at img places p code commit ready stored stores tt ready_words;
+        },
+        refl,
+        refl,
+      )
 
   leaves : LeavesOthers at top None ready stored
   leaves = record {
@@ -166,6 +179,41 @@ module _ (at : Outside) (bottom : ℕ) (img : Image) (places : List ℕ) (p : Pr
         here.laid.in_memory,
       )
 
+  -- up to it there is a next one
+  next_is : (passed : List Instruction) (next : Instruction) (left : List Instruction)
+      → machine_code at bottom img places p i c ≡ passed ++ next ∷ left → (reached m : Machine)
+      → RunsPrivately p floor top passed first reached → IsSameAbove floor reached m
+      → (n : Machine) × Executes p next m n
+  next_is passed next left parts reached m prepares now =
+      by_place (compare passed next left front commit (alarm_tail irq) (sym parts ∙ text_is))
+    where
+      same_then : AreSteady passed → m ≡ reached
+      same_then steady =
+          same_state floor reached m now
+          (stack_run at img places p code floor top passed first reached steady prepares) here.stands.aligned
+
+      by_place : Place passed next left front commit (alarm_tail irq) → (n : Machine) × Executes p next m n
+      by_place (Before rest f g) =
+          let steady = all_front (λ j. is_steady j ≡ true) passed (next ∷ rest)
+          (subst AreSteady f (slot_with_address s at.time)) in
+          let t = rest_of p floor top passed (next ∷ rest) first reached ready
+          (subst (λ (zs : List Instruction). RunsPrivately p floor top zs first ready) f to_ready) prepares in
+          (t.0, subst (λ (k : Machine). Executes p next k t.0) (sym (same_then steady)) t.1.executes)
+      by_place (There f g h) =
+          let e : ready ≡ reached = same_run p floor top passed first ready reached
+          (subst (λ (zs : List Instruction). RunsPrivately p floor top zs first ready) (sym f) to_ready) prepares in
+          let here_now : m ≡ ready =
+          same_then (subst AreSteady (sym f) (slot_with_address s at.time)) ∙ sym e in (
+            stored,
+            subst (λ (j : Instruction). Executes p j m stored) (sym g)
+                (subst (λ (k : Machine). Executes p commit k stored) (sym here_now) stores),
+          )
+      by_place (Past more f g) =
+          let t = rest_of p floor top front (commit ∷ more) first ready reached
+          (subst (λ (zs : List Instruction). RunsPrivately p floor top zs first reached) f prepares) to_ready in
+          let e = same_next p commit commit ready t.0 stored t.1.executes stores in
+          absurd (not_private (subst (λ (k : Machine). StepsPrivately p floor top commit ready k) e t.1))
+
   module _ (owes : Bool) (d : Core) (told : nat_le instant c.time ≡ owes)
       (debt : d ≡ (if owes then rung irq unpaid else unpaid))
       (address : d.processor.address ≡ suc c.processor.address) (passed : List Instruction) (next : Instruction)
@@ -176,7 +224,9 @@ module _ (at : Outside) (bottom : ℕ) (img : Image) (places : List ℕ) (p : Pr
     Silent = IsNothing at bottom img places p c top m n (length c.processor.slots)
 
     abbrev Stored : Type 0
-    Stored = IsInTail at bottom img places p d top n × LeavesOthers at top None m n
+    Stored =
+        (x : IsInTail at bottom img places p d top n) × (x.irq ≡ irq) × (x.unpaid ≡ set_for x.instant)
+        × LeavesOthers at top None m n
 
     same_there : AreSteady passed → m ≡ reached
     same_there steady =
@@ -214,8 +264,11 @@ module _ (at : Outside) (bottom : ℕ) (img : Image) (places : List ℕ) (p : Pr
         let here_now : m ≡ ready =
         same_there (subst AreSteady (sym f) (slot_with_address s at.time)) ∙ sym e in
         let to : stored ≡ n = same_next p commit executed ready stored n stores
-        (subst (λ (k : Machine). Executes p executed k n) here_now exec) in (
-          subst (λ (k : Machine). IsInTail at bottom img places p d top k) to (in_tail owes d told debt address),
+        (subst (λ (k : Machine). Executes p executed k n) here_now exec) in
+        let x : IsBehind d n = subst (IsBehind d) to (in_tail owes d told debt address) in (
+          x.0,
+          x.1,
+          x.2,
           subst (λ (k : Machine). LeavesOthers at top None k n) (sym here_now)
               (subst (λ (k : Machine). LeavesOthers at top None ready k) to leaves),
         )
@@ -243,7 +296,10 @@ alarm_is_stored at bottom img places p s irq c d said top m n executed code smal
     ap (λ (j : Instr). machine_code at bottom img places p j c) (sym e) ∙ x.parts in
     let Holds : Core → Option What → Type 0 = λ k own.
     IsNothing at bottom img places p c top m n (length c.processor.slots)
-    ⊎ (IsInTail at bottom img places p k top n × LeavesOthers at top None m n) in
+    ⊎ ((x : IsInTail at bottom img places p k top n) × (x.irq ≡ irq) × (x.unpaid ≡ record c {
+      processor = next c.processor;
+      alarm = Some (record { instant = x.instant; irq = irq });
+    }) × LeavesOthers at top None m n) in
     after_step img i c d said st Holds (unless img c i Holds (λ cells slots.
     let there = (first_there s [] c.processor.slots slots).0 in
     let instant = slice_index c.processor.slots s in
@@ -253,3 +309,40 @@ alarm_is_stored at bottom img places p s irq c d said top m n executed code smal
     (rung irq unpaid) due refl refl x.passed x.next x.left parts x.reached m n x.prepares x.now executed exec)
     (λ due. goes at bottom img places p code s irq small c st.note st.line top x.first here x.ends x.settled there false
     unpaid due refl refl x.passed x.next x.left parts x.reached m n x.prepares x.now executed exec)))
+
+-- an alarm that is to come goes on
+pub alarm_has_next : (at : Outside) (bottom : ℕ) (img : Image) (places : List ℕ) (p : Program)
+    → HasCode at img places p → (s irq : ℕ) → irq < 2 ^ 9 → (c d : Core) (said : Option What)
+    → StepsBy img (instr.Alarm s irq) c d said → (top : ℕ) (m : Machine) → IsToCome at bottom img places p c top m
+    → (executed : Instruction) × (n : Machine) × Executes p executed m n
+alarm_has_next at bottom img places p code s irq small c d said st top m x =
+    let i = instr.Alarm s irq in
+    let e : x.instruction ≡ i =
+    ap (λ (y : Instr × Option Note). y.0) (same_some (x.instruction, x.note) (i, st.note) (sym x.line ∙ st.line)) in
+    let here : IsAt at bottom img places p i c x.first =
+    subst (λ (j : Instr). IsAt at bottom img places p j c x.first) e x.stands in
+    let parts : machine_code at bottom img places p i c ≡ x.passed ++ x.next ∷ x.left =
+    ap (λ (j : Instr). machine_code at bottom img places p j c) (sym e) ∙ x.parts in
+    let Holds : Core → Option What → Type 0 = λ k own. s < length c.processor.slots in
+    let there : s < length c.processor.slots =
+    after_step img i c d said st Holds (unless img c i Holds (λ cells slots.
+    let there = (first_there s [] c.processor.slots slots).0 in
+    by_test (nat_le (slice_index c.processor.slots s) c.time) _ _ _ _ Holds (λ due. there) (λ due. there))) in
+    let y = next_is at bottom img places p code s irq small c st.note st.line top x.first here x.ends x.settled there
+    x.passed x.next x.left parts x.reached m x.prepares x.now in
+    (x.next, y.0, y.1)
+
+-- of an alarm others see nothing at its step
+pub alarm_is_unseen : (img : Image) (s irq : ℕ) (c d : Core) (said : Option What)
+    → StepsBy img (instr.Alarm s irq) c d said → seen_of_label (Stepped said) ≡ []
+alarm_is_unseen img s irq c d said st =
+    let i = instr.Alarm s irq in
+    let shown : IsShownAsSaid said = step_is_shown img i c d said st
+    (unless img c i (λ k w. IsShownAsSaid w) (λ cells slots.
+    by_test (nat_le (slice_index c.processor.slots s) c.time) _ _ (Some what.Alarm) (Some what.AlarmSet)
+    (λ k w. IsShownAsSaid w) (λ due. refl) (λ due. refl))) in
+    let own : seen_of (outcome_is img i c d said st).own ≡ [] =
+    after_step img i c d said st (λ k w. seen_of w ≡ []) (unless img c i (λ k w. seen_of w ≡ []) (λ cells slots.
+    by_test (nat_le (slice_index c.processor.slots s) c.time) _ _ (Some what.Alarm) (Some what.AlarmSet)
+    (λ k w. seen_of w ≡ []) (λ due. refl) (λ due. refl))) in
+    shown ∙ (sym (outcome_is img i c d said st).same ∙ own)

@@ -26,9 +26,11 @@ use Rattle.rt_native_laws.specs.Going.{HasCode}
 use Rattle.rt_native_laws.specs.Laws.{IsNoReturn}
 use Rattle.rt_native_laws.specs.Own.{Executes, Spans}
 use Rattle.rt_native_laws.specs.Standing.{IsLaidOut, StandsFor, LieFrom, HoldsWords, IsBeside, frames_end, caller_words}
-use Rattle.rt_native_laws.specs.Tail.{IsInTail, Knows, Stage, AtTime, AtCompare, AtBranch, AtNone, AtStore, AtNumber}
-use Rattle.rt_native_laws.specs.Tail.{AtLow, AtTop, AtRequest, TailGoes, TailGoesOn, alarm_tail}
-use Rattle.rt_native_laws.specs.Tail.{TailsAreNoFault, passed, rung}
+use Rattle.rt_native_laws.specs.InTail.{IsInTail, Knows, Stage, AtTime, AtCompare, AtBranch, AtNone, AtStore, AtNumber}
+use Rattle.rt_native_laws.specs.InTail.{AtLow, AtTop, AtRequest, alarm_tail}
+use Rattle.rt_native_laws.specs.Tail.{IsOwing, TailGoes, TailGoesOn}
+use Rattle.rt_native_laws.specs.InTail.{passed, rung}
+use Rattle.rt_native_laws.specs.Tail.{TailsAreNoFault}
 use Rattle.rt_native_laws.proofs.Accesses.{caller_length}
 use Rattle.rt_native_laws.proofs.Alarm.{later}
 use Rattle.rt_native_laws.proofs.Keeping.{written, words_kept, word_kept}
@@ -191,6 +193,9 @@ module _ (at : Outside) (bottom : ℕ) (img : Image) (places : List ℕ) (p : Pr
     },
   )
 
+-- what is so of the core in a tail
+module _ (at : Outside) (bottom : ℕ) (img : Image) (places : List ℕ) (p : Program) (c : Core) (top : ℕ) (m : Machine)
+    (x : IsInTail at bottom img places p c top m) where
   -- what is owed is due
   due_by : (stage : Stage) → Knows at x.irq x.instant x.owes x.unpaid m stage → x.owes ≡ true
       → x.instant ≤ x.unpaid.time
@@ -204,8 +209,8 @@ module _ (at : Outside) (bottom : ℕ) (img : Image) (places : List ℕ) (p : Pr
   due_by AtTop (r0, r1, come, none) e = come
   due_by AtRequest (r0, r1, come, none) e = come
 
-  pub owed_is_due : x.owes ≡ true → x.instant ≤ x.unpaid.time
-  owed_is_due e = due_by x.stage x.knows e
+  pub tail_owes : IsOwing x.irq x.instant x.owes x.unpaid
+  tail_owes = record { due = λ e. due_by x.stage x.knows e; has_come = x.has_come; set = x.set }
 
 pub tails_are_no_fault : TailsAreNoFault
 tails_are_no_fault at bottom img places p c top m code x =

@@ -2,15 +2,15 @@
 use Rattle.std.proofs.Common.{◌≡◌, ◌≢◌, ◌∙◌, ℕ, suc, ◌+◌, ◌-◌, ◌*◌, ◌/◌, ◌%◌, ◌^◌, ◌<◌, ◌≤◌, ◌⊎◌, inl, inr, Bool}
 use Rattle.std.proofs.Common.{true, false}
 use Rattle.std.proofs.Common.{List, [], ◌∷◌, ◌++◌, Option, Some, None, refl, sym, ap, subst, arith, length}
-use Rattle.std.proofs.Common.{flat_map, ⊎_elim}
+use Rattle.std.proofs.Common.{flat_map, IfSome, ⊎_elim}
 use Rattle.std.proofs.lemmas.Bool.{cases_eq, cases_lt}
 use Rattle.std.proofs.lemmas.List.{length-set}
 use Rattle.std.specs.List.{AllByRecursion}
-use Rattle.std.specs.Prelude.{if◌then◌else◌, ◌==◌, nat_le, not}
+use Rattle.std.specs.Prelude.{if◌then◌else◌, nat_le}
 use mathlib.Core.Path.{fun_ext}
 use Rattle.rt_ids.specs.Event.{Tick}
-use Rattle.rt_ids.specs.Lists.{is_some_and}
 use Rattle.rt_code.specs.Image.{Image}
+use Rattle.rt_code.specs.Processor.{Processor}
 use Rattle.rt_core.specs.Core.{Core}
 use Rattle.rt_core.specs.Trace.{happen, ring, tick}
 use Rattle.rt_core.specs.Transfer.{core_after_pend}
@@ -29,21 +29,25 @@ use Rattle.rt_thumb.specs.Step.{Program}
 use Rattle.rt_trace.specs.Label.{Label, Rang}
 use Rattle.rt_native_laws.specs.Behaving.{HasEvenFrames, IsGood}
 use Rattle.rt_native_laws.specs.Deep.{IsWithinFrames}
-use Rattle.rt_native_laws.specs.Moments.{Comes, Happening, Moment, moment_after, shown}
-use Rattle.rt_native_laws.specs.Phases.{OthersRan}
-use Rattle.rt_native_laws.specs.Relating.{IsAlarmOf, IsInPlace, IsWhere, lowest}
+use Rattle.rt_native_laws.specs.InTail.{Debt, paid}
+use Rattle.rt_native_laws.specs.Moments.{Comes, Happening, Moment, moment_after, shown, with_core}
+use Rattle.rt_native_laws.specs.Phases.{OthersRan, tail_of}
+use Rattle.rt_native_laws.specs.Relating.{IsAlarmOf, IsEvenFrame, IsInPlace, IsOfTimer, IsWhere, lowest}
 use Rattle.rt_native_laws.specs.Saving.{CanBeInterrupted}
-use Rattle.rt_native_laws.specs.Simulating.{HasNoAlarms, compared, seen_of_label}
+use Rattle.rt_native_laws.specs.Simulating.{compared, seen_of_label}
 use Rattle.rt_native_laws.specs.Standing.{HoldsWords, IsLaidOut, LieFrom}
-use Rattle.rt_native_laws.specs.Waiting.{Shows}
+use Rattle.rt_native_laws.specs.Waiting.{KeepsTail, Shows, others_tail}
 use Rattle.rt_native_laws.proofs.Above.{tick_leaves, ticks_keep_above}
 use Rattle.rt_native_laws.proofs.Deep.{phases_are_within_frames}
 use Rattle.rt_native_laws.proofs.Eights.{phase_is_eight}
 use Rattle.rt_native_laws.proofs.Interrupting.{exception_is, top_is_eight}
+use Rattle.rt_native_laws.proofs.Owing.{ticks_in_tails}
 use Rattle.rt_native_laws.proofs.Relating.{KeepsOutside, is_where_on}
 use Rattle.rt_native_laws.proofs.Saving.{entry_pushes_below, stack_is as pushed_stack}
-use Rattle.rt_native_laws.proofs.Showing.{fresh_is_kept, phase_is_kept, phases_show}
-use Rattle.rt_native_laws.proofs.Tests.{same_number}
+use Rattle.rt_native_laws.proofs.Showing.{job_is_kept, phases_show}
+use Rattle.rt_native_laws.proofs.Tailing.{posted_unseen}
+use Rattle.rt_native_laws.proofs.Tails.{IsOwingSo, debt}
+use Rattle.rt_native_laws.proofs.Unpaid.{IsSameButAlarm, owing, parts_same}
 use Rattle.rt_native_laws.proofs.Waiting.{pushed_words, status_small}
 
 -- what a tick leaves of the core; and nobody else sees what is shown of it
@@ -88,10 +92,7 @@ pending_unseen img time (Some a) h seen = by_due (nat_le a.instant time)
         → compared (timer_irq img.code) ((if b then Posted a.irq ∷ [] else []) ++ Entered systick ∷ seen)
         ≡ compared (timer_irq img.code) seen
     by_due false = refl
-    by_due true =
-        let rest = compared (timer_irq img.code) seen in
-        ap (λ (timer : Option ℕ). if not (is_some_and (λ t. t == a.irq) timer) then Posted a.irq ∷ rest else rest) h.1
-        ∙ ap (λ (b : Bool). if not b then Posted a.irq ∷ rest else rest) (same_number a.irq a.irq refl)
+    by_due true = posted_unseen (timer_irq img.code) a.irq h.1 (Entered systick ∷ seen)
 
 -- what an entry pushes are words
 entry_words_small : (e : ℕ) (m : Machine) → HoldsWords m → m.address < 2 ^ 32 → m.exception < 2 ^ 9 → (k : ℕ)
@@ -109,8 +110,8 @@ entry_words_small e m words low small k =
     (words.registers 0, (words.registers 1, most)) words.memory k
 
 module _ (img : Image) (target : Target) (p : Program) (ceiling : ℕ) (fits : List Happening → Bool) (s : Moment)
-    (m : Machine) (there : IsInPlace img target p) (no_alarms : HasNoAlarms img) (even_frames : HasEvenFrames img)
-    (good : IsGood img ceiling s) (w : IsWhere img target p s m)
+    (m : Machine) (there : IsInPlace img target p) (even_frames : HasEvenFrames img)
+    (good : IsGood img ceiling s) (w : IsWhere img target p ceiling s m)
     (fits_in : s.core.time + 2 < 2 ^ 32) (ticks : taken m ≡ Some systick) where
   abbrev at : Outside
   at = outside img target
@@ -128,7 +129,10 @@ module _ (img : Image) (target : Target) (p : Program) (ceiling : ℕ) (fits : L
   inputs = target.inputs
 
   abbrev c : Core
-  c = s.core
+  c = w.unpaid
+
+  abbrev others : Option Debt
+  others = others_tail (tail_of at bottom img pl p c w.top m w.phase) w.tail
 
   abbrev d : Core
   d = (tick c).0
@@ -142,13 +146,23 @@ module _ (img : Image) (target : Target) (p : Program) (ceiling : ℕ) (fits : L
   shows : Shows at c m
   shows = phases_show at bottom img pl p c w.top m laid there.has.port w.phase
 
+  same : IsSameButAlarm s.core c
+  same = parts_same img target p ceiling s m w
+
+  even_here : IsEvenFrame c.caller c.processor.slots
+  even_here =
+      subst (λ (o : Option (List ℕ)). IsEvenFrame o c.processor.slots) same.caller
+      (subst (λ (q : Processor). IsEvenFrame s.core.caller q.slots) same.processor good.frames)
+
   highest_eight : highest % 8 ≡ 0
   highest_eight = omega (arith, there.image.ram.0)
 
   eights : m.register 13 % 8 ≡ 0
   eights =
-      phase_is_eight at bottom img pl p there.has even_frames no_alarms c w.top m
-      (top_is_eight at bottom highest inputs img pl p c w.top m s.takings c.below w.waiting highest_eight) good.frames
+      phase_is_eight at bottom img pl p there.has even_frames c w.top m
+      (top_is_eight at bottom highest ceiling inputs img pl p others c w.top m s.takings c.below w.waiting
+      highest_eight)
+      even_here
       w.phase
 
   room : 40 ≤ m.register 13
@@ -163,8 +177,24 @@ module _ (img : Image) (target : Target) (p : Program) (ceiling : ℕ) (fits : L
   core_is : d ≡ record c { time = suc c.time; alarm = d.alarm; pending = d.pending }
   core_is = shape.core
 
-  pub time_is : d.time ≡ suc c.time
-  time_is = ap (λ (y : Core). y.time) core_is
+  time_here : d.time ≡ suc c.time
+  time_here = ap (λ (y : Core). y.time) core_is
+
+  pub time_is : (tick s.core).0.time ≡ suc s.core.time
+  time_is = ap (λ (y : Core). y.time) (tick_shape s.core).core
+
+  -- the tail in which a job is then, and what is paid of it
+  ticked : (tail : Option Debt) → IsOwingSo tail c → IfSome tail (IsOfTimer img ceiling)
+      → (now : Option Debt) × IfSome now (IsOfTimer img ceiling) × KeepsTail tail now c d
+      × ((tick (paid tail c)).0 ≡ paid now d)
+  ticked None owing of_timer = (None, tt, tt, refl)
+  ticked (Some t) owing of_timer =
+      let x = ticks_in_tails t.irq t.instant t.owes c owing (omega (arith, of_timer.2, w.requests)) in
+      (Some (debt t.irq t.instant x.0), of_timer, (refl, refl, x.1), x.2)
+
+  after : (now : Option Debt) × IfSome now (IsOfTimer img ceiling) × KeepsTail w.tail now c d
+      × ((tick (paid w.tail c)).0 ≡ paid now d)
+  after = ticked w.tail (owing img target p ceiling s m w) w.of_timer
 
   alarm_then : IsAlarmOf img d.alarm
   alarm_then =
@@ -176,7 +206,7 @@ module _ (img : Image) (target : Target) (p : Program) (ceiling : ℕ) (fits : L
       ticks_are_one_event p img at (timer_irq img.code) c m w.agrees w.requests (record {
         taken = ticks;
         highest = w.tick;
-        exception = exception_is at bottom highest inputs img pl p c w.top m s.takings c.below w.waiting;
+        exception = exception_is at bottom highest ceiling inputs img pl p others c w.top m s.takings c.below w.waiting;
         address = w.placed.0;
         aligned = omega (arith, eights);
         room = omega (arith, room);
@@ -197,7 +227,7 @@ module _ (img : Image) (target : Target) (p : Program) (ceiling : ℕ) (fits : L
             (λ (x : at.time + 8 ≤ at.port). inr (omega (arith, x, there.has.port))) there.laid.port_apart;
         port_is_no_request = λ e. there.laid.port_is_no_request (sym there.has.port ∙ e);
       }) (record { time = shows.time; alarm = shows.alarm }) (record {
-        time = fits_in;
+        time = omega (arith, fits_in, same.time);
         alarm = w.alarm;
       })
 
@@ -216,7 +246,7 @@ module _ (img : Image) (target : Target) (p : Program) (ceiling : ℕ) (fits : L
     room = omega (arith, room);
     address = w.placed.0;
     exception = subst (λ (x : ℕ). x < 2 ^ 9)
-        (sym (exception_is at bottom highest inputs img pl p c w.top m s.takings c.below w.waiting))
+        (sym (exception_is at bottom highest ceiling inputs img pl p others c w.top m s.takings c.below w.waiting))
         (number_is_small m c.below w.agrees.values);
   }
 
@@ -247,8 +277,8 @@ module _ (img : Image) (target : Target) (p : Program) (ceiling : ℕ) (fits : L
   word_small k =
       ⊎_elim
       (λ (e : k ≡ at.time / 4).
-      subst (λ (x : ℕ). x < 2 ^ 32) (sym (ap last.memory e ∙ (t.tells.time ∙ time_is)))
-      (omega (arith, fits_in)))
+      subst (λ (x : ℕ). x < 2 ^ 32) (sym (ap last.memory e ∙ (t.tells.time ∙ time_here)))
+      (omega (arith, fits_in, same.time)))
       (λ (e : k ≢ at.time / 4).
       ⊎_elim
       (λ (f : k ≡ (at.time + 4) / 4).
@@ -343,14 +373,17 @@ module _ (img : Image) (target : Target) (p : Program) (ceiling : ℕ) (fits : L
     words = words_last;
   }
 
-  pub where_last : IsWhere img target p (record { core = d; last = s.last; takings = s.takings }) last
+  pub where_last : IsWhere img target p ceiling
+      (record { core = (tick s.core).0; last = s.last; takings = s.takings }) last
   where_last =
-      is_where_on img target p there s m last w d s.last
-      (phase_is_kept at bottom img pl p c d w.top m last laid there.has.port ran w.phase).0
-      (fresh_is_kept at bottom img pl p c d w.top m last laid there.has.port ran highest inputs s.last w.phase w.fresh)
+      let job = job_is_kept at bottom img pl p c d w.top m last laid there.has.port ran highest ceiling inputs w.tail
+      after.0 s.last after.2 w.phase w.fresh in
+      subst (λ (k : Core). IsWhere img target p ceiling (with_core s k) last)
+      (sym (ap (λ (k : Core). (tick k).0) w.owed ∙ after.3))
+      (is_where_on img target p there ceiling s m last w after.0 after.1 d s.last job.0 job.1 job.2
       (ticks_keep_above at img w.top c m last cells_below within.high w.agrees t) keeps words_last
       (subst (λ (a : ℕ). (a % 2 ≡ 0) × (a < 2 ^ 32)) (sym t.address) w.placed) (tick_leaves c) ran.as_many
-      shape.requests (ap (λ (y : Core). y.stopped) core_is) shape.alarm
+      shape.requests (ap (λ (y : Core). y.stopped) core_is) alarm_then)
 
   pub frame_deep : last.register 13 ≤ (entered systick m).register 13 + 32
   frame_deep = omega (arith, t.registers 13, pushed_stack systick m can, can.room)

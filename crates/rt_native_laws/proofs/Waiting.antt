@@ -5,11 +5,12 @@ use Rattle.std.proofs.lemmas.Bool.{cases_eq}
 use Rattle.std.proofs.lemmas.Bool.Decides.{nat_tests}
 use Rattle.std.proofs.lemmas.List.{length-set, length-replicate, get_or-set_same, get_or-set_other}
 use Rattle.std.specs.List.{AllByRecursion, filter}
-use Rattle.std.specs.Prelude.{if◌then◌else◌, ◌==◌, nat_lt, nat_eq, slice_index_or, slice_set, Some}
+use Rattle.std.specs.Prelude.{if◌then◌else◌, ◌==◌, min, nat_lt, nat_eq, slice_index_or, slice_set, Option, Some}
 use mathlib.Core.Path.{fun_ext}
 use Rattle.rt_code.specs.Image.{Image}
 use Rattle.rt_code.specs.declared.image.Handler.{Handler}
 use Rattle.rt_core.specs.Core.{Core, Context}
+use Rattle.rt_core.specs.Priority.{base_value, execution, mask_value, running_value}
 use Rattle.rt_core.specs.Transfer.{core_after_entry}
 use Rattle.rt_ids.specs.Operation.{number_of}
 use Rattle.rt_native.specs.Service.{stub}
@@ -20,19 +21,21 @@ use Rattle.rt_thumb.specs.Exceptions.{return_to_thread, return_to_handler}
 use Rattle.rt_thumb.specs.Machine.{Machine, Flags, word_at, with_word, with_register}
 use Rattle.rt_thumb.specs.Step.{Program}
 use Rattle.rt_native_laws.specs.Going.{HasCode}
+use Rattle.rt_native_laws.specs.InTail.{Debt}
 use Rattle.rt_native_laws.specs.Moments.{Last, Taking}
 use Rattle.rt_native_laws.specs.Own.{Spans}
-use Rattle.rt_native_laws.specs.Phases.{OthersRan, Phase, Entering}
+use Rattle.rt_native_laws.specs.Phases.{OthersRan, Phase, Entering, tail_of}
 use Rattle.rt_native_laws.specs.Saving.{CanBeInterrupted, HasAgain}
 use Rattle.rt_native_laws.specs.Standing.{IsLaidOut, HoldsWords}
 use Rattle.rt_native_laws.specs.Waiting.{Shows, KeepsAbove, Waiting, WaitingIsKept, EntryAddsAJob, EntryBegins, resumed}
-use Rattle.rt_native_laws.specs.Waiting.{return_value, IsFresh}
-use Rattle.rt_native_laws.specs.Waiting.{interrupted_core, context_of}
+use Rattle.rt_native_laws.specs.Waiting.{return_value, IsFresh, KeepsTail}
+use Rattle.rt_native_laws.specs.Waiting.{interrupted_core, context_of, others_tail}
 use Rattle.rt_native_laws.proofs.Pieces.{other}
 use Rattle.rt_native_laws.proofs.Private.{equals}
 use Rattle.rt_native_laws.proofs.Saving.{entry_is_undone, entry_pushes_below, stack_is as pushed_stack}
 use Rattle.rt_native_laws.proofs.Shapes.{stub_has_first}
-use Rattle.rt_native_laws.proofs.Showing.{fresh_is_kept, phase_is_kept, phases_show}
+use Rattle.rt_native_laws.proofs.Showing.{job_is_kept, phases_show}
+use Rattle.rt_native_laws.proofs.Tails.{keeps_entered, keeps_in, none_then}
 use Rattle.rt_native_laws.proofs.Tests.{is_less, not_less, not_equal, same_number}
 use Rattle.rt_native_laws.proofs.Unopened.{IsUnopened}
 
@@ -149,11 +152,11 @@ module _ (at : Outside) (priority top : ℕ) (m n : Machine) (keeps : KeepsAbove
   }
 
 -- Jobs that wait are kept.
-module _ (at : Outside) (bottom highest : ℕ) (inputs : List Input) (img : Image) (places : List ℕ) (p : Program)
-    (port : p.port ≡ at.port)
+module _ (at : Outside) (bottom highest ceiling : ℕ) (inputs : List Input) (img : Image) (places : List ℕ)
+    (p : Program) (port : p.port ≡ at.port)
   where
-    abbrev Jobs : List Taking → List Context → Core → ℕ → Machine → Type 0
-    Jobs takings below c top m = Waiting at bottom highest inputs img places p takings below c top m
+    abbrev Jobs : Option Debt → List Taking → List Context → Core → ℕ → Machine → Type 0
+    Jobs tail takings below c top m = Waiting at bottom highest ceiling inputs img places p tail takings below c top m
 
     -- the next one
     module _ (priority : ℕ) (x : Context) (below : List Context) (c d : Core) (top : ℕ) (m n : Machine)
@@ -203,17 +206,17 @@ module _ (at : Outside) (bottom highest : ℕ) (inputs : List Input) (img : Imag
         words = words_now;
       }
 
-    kept : (takings : List Taking) (below : List Context) (c d : Core) (top : ℕ) (m n : Machine)
-        → IsLaidOut at bottom (length c.processor.cells)
+    kept : (tail now : Option Debt) (takings : List Taking) (below : List Context) (c d : Core) (top : ℕ)
+        (m n : Machine) → IsLaidOut at bottom (length c.processor.cells)
         → length d.processor.cells ≡ length c.processor.cells → d.stopped ≡ c.stopped
-        → KeepsAbove at top m n → Shows at d n → HoldsWords n → Jobs takings below c top m
-        → Jobs takings below d top n
-    kept [] [] c d top m n laid as_many stopped keeps shown words jobs =
-        (jobs.0, keeps.exception ∙ jobs.1, keeps.active ∙ jobs.2)
-    kept [] (x ∷ below) c d top m n laid as_many stopped keeps shown words jobs = absurd jobs
-    kept (taking ∷ takings) [] c d top m n laid as_many stopped keeps shown words jobs = absurd jobs
-    kept (taking ∷ takings) (x ∷ below) c d top m n laid as_many stopped keeps shown words
-        (aligned, small, runs, active, link, up, next, within, fits, phase, more) =
+        → KeepsAbove at top m n → Shows at d n → HoldsWords n → KeepsTail tail now c d
+        → Jobs tail takings below c top m → Jobs now takings below d top n
+    kept tail now [] [] c d top m n laid as_many stopped keeps shown words meanwhile jobs =
+        (jobs.0, keeps.exception ∙ jobs.1, keeps.active ∙ jobs.2, none_then tail now c d meanwhile jobs.3)
+    kept tail now [] (x ∷ below) c d top m n laid as_many stopped keeps shown words meanwhile jobs = absurd jobs
+    kept tail now (taking ∷ takings) [] c d top m n laid as_many stopped keeps shown words meanwhile jobs = absurd jobs
+    kept tail now (taking ∷ takings) (x ∷ below) c d top m n laid as_many stopped keeps shown words meanwhile
+        (aligned, small, runs, active, link, up, next, within, fits, higher, phase, fresh, more) =
         let priority = taking.base_priority in
         let back = resumed priority top m in
         let back_now = resumed priority top n in
@@ -223,7 +226,9 @@ module _ (at : Outside) (bottom highest : ℕ) (inputs : List Input) (img : Imag
         let stack = register_same at priority top m n keeps aligned room 13 in
         let ran = others priority x below c d top m n laid as_many stopped keeps shown words aligned small next up
         within fits in
-        let above = above_kept at priority top m n keeps aligned room next (omega (arith, up, fits)) in (
+        let above = above_kept at priority top m n keeps aligned room next (omega (arith, up, fits)) in
+        let job = job_is_kept at bottom img places p there there_now next back back_now laid port ran highest ceiling
+        inputs tail now taking.last (keeps_in priority x below c d tail now meanwhile) phase fresh in (
           aligned,
           small,
           keeps.exception ∙ runs,
@@ -235,24 +240,22 @@ module _ (at : Outside) (bottom highest : ℕ) (inputs : List Input) (img : Imag
           next,
           within,
           subst (λ (y : ℕ). y ≤ next) (sym stack) fits,
-          (
-            (phase_is_kept at bottom img places p there there_now next back back_now laid port ran phase.0).0,
-            fresh_is_kept at bottom img places p there there_now next back back_now laid port ran highest inputs
-                taking.last
-                phase.0 phase.1,
-          ),
-          kept takings below there there_now next back back_now laid as_many stopped above
+          higher,
+          job.0,
+          job.1,
+          kept (others_tail (tail_of at bottom img places p there next back phase) tail)
+              (others_tail (tail_of at bottom img places p there_now next back_now job.0) now) takings below there
+              there_now next back back_now laid as_many stopped above
               (shown_now priority x below c d top m n laid as_many stopped keeps shown words aligned small next up
-              within fits)
-              ran.words more,
+              within fits) ran.words job.2 more,
         )
 
 pub waiting_is_kept : WaitingIsKept
-waiting_is_kept at bottom highest inputs img places p takings below c d top m n laid port as_many stopped keeps shown
-    words
-    jobs =
-    kept at bottom highest inputs img places p port takings below c d top m n laid as_many stopped keeps shown words
-    jobs
+waiting_is_kept at bottom highest ceiling inputs img places p tail now takings below c d top m n laid port as_many
+    stopped keeps shown words meanwhile jobs =
+    kept at bottom highest ceiling inputs img places p port tail now takings below c d top m n laid as_many stopped
+    keeps
+    shown words meanwhile jobs
 
 -- An entry. No other exception that is active has its number.
 all_stay : (e : ℕ) (es : List ℕ) → AllByRecursion (λ x. x ≢ e) es → filter (λ x. not (nat_eq x e)) es ≡ es
@@ -453,30 +456,36 @@ module _ (at : Outside) (bottom : ℕ) (img : Image) (places : List ℕ) (p : Pr
     active = active_is;
   }
 
-  pub added : (highest : ℕ) (inputs : List Input) (takings : List Taking) (last : Last)
-      → IsFresh at bottom highest inputs img places p last c top m phase
-      → Waiting at bottom highest inputs img places p takings c.below c top m
-      → Waiting at bottom highest inputs img places p (record { base_priority = priority; last = last } ∷ takings)
+  pub added : (highest ceiling : ℕ) (inputs : List Input) (tail : Option Debt) (takings : List Taking) (last : Last)
+      → h.value < execution c → KeepsTail tail tail c core_inside
+      → IsFresh at bottom highest ceiling inputs img places p tail last c top m phase
+      → Waiting at bottom highest ceiling inputs img places p
+      (others_tail (tail_of at bottom img places p c top m phase) tail) takings c.below c top m
+      → Waiting at bottom highest ceiling inputs img places p tail
+      (record { base_priority = priority; last = last } ∷ takings)
       (context_of c irq h ∷ c.below) core_inside frame inside
-  added highest inputs takings last fresh jobs = (
-    omega (arith, stack_is, can.stack),
-    subst (λ (x : ℕ). x < 2 ^ 8) shown.base_priority words.base_priority,
-    refl,
-    ap (λ (es : List ℕ). e ∷ es) (sym active_is),
-    ap return_value (sym has.exception),
-    registers_are 13 ∙ sym stack_is,
-    top,
-    within,
-    omega (arith, fits, registers_are 13),
-    (
-      (phase_is_kept at bottom img places p c core_then top m after_it laid port others_ran phase).0,
-      fresh_is_kept at bottom img places p c core_then top m after_it laid port others_ran highest inputs last phase
-          fresh,
-    ),
-    waiting_is_kept at bottom highest inputs img places p takings c.below c core_then top m after_it laid port refl
-        refl above
-        shown_then words_after jobs,
-  )
+  added highest ceiling inputs tail takings last higher meanwhile fresh jobs =
+      let job = job_is_kept at bottom img places p c core_then top m after_it laid port others_ran highest ceiling
+      inputs
+      tail tail last (keeps_entered priority irq h c tail tail meanwhile) phase fresh in (
+        omega (arith, stack_is, can.stack),
+        subst (λ (x : ℕ). x < 2 ^ 8) shown.base_priority words.base_priority,
+        refl,
+        ap (λ (es : List ℕ). e ∷ es) (sym active_is),
+        ap return_value (sym has.exception),
+        registers_are 13 ∙ sym stack_is,
+        top,
+        within,
+        omega (arith, fits, registers_are 13),
+        subst (λ (b : Bool). h.value < min (running_value c.below) (min (base_value priority) (mask_value b))) unmasked
+            higher,
+        job.0,
+        job.1,
+        waiting_is_kept at bottom highest ceiling inputs img places p
+            (others_tail (tail_of at bottom img places p c top m phase) tail)
+            (others_tail (tail_of at bottom img places p core_then top after_it job.0) tail) takings c.below c core_then
+            top m after_it laid port refl refl above shown_then words_after job.2 jobs,
+      )
 
   -- what runs then is a handler
   registers_inside : (k : ℕ) → inside.register k < 2 ^ 32
@@ -561,8 +570,7 @@ entry_begins at bottom img places p to irq h c top m code laid can low inactive 
     to below room lies
 
 pub entry_adds_a_job : EntryAddsAJob
-entry_adds_a_job at bottom highest inputs img places p takings last irq h c top m laid port can low inactive unmasked
-    words
-    fits within phase fresh jobs =
+entry_adds_a_job at bottom highest ceiling inputs img places p tail takings last irq h c top m laid port can low
+    inactive unmasked words fits within higher meanwhile phase fresh jobs =
     added at bottom img places p irq h c top m laid port can low inactive unmasked words fits within phase highest
-    inputs takings last fresh jobs
+    ceiling inputs tail takings last higher meanwhile fresh jobs

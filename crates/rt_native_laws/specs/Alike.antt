@@ -11,7 +11,7 @@ use Rattle.rt_core.specs.Core.{Core}
 use Rattle.rt_core.specs.Priority.{execution, pick, value_or_none}
 use Rattle.rt_core.specs.Stepping.{step}
 use Rattle.rt_native_laws.specs.Moments.{instruction_at}
-use Rattle.rt_native_laws.specs.Tail.{rung}
+use Rattle.rt_native_laws.specs.InTail.{rung}
 
 -- it does not set the alarm
 abbrev pub SetsNoAlarm : Option Instr → Type 0

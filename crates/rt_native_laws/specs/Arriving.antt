@@ -5,7 +5,7 @@ use Rattle.rt_code.specs.Image.{Image}
 use Rattle.rt_core.specs.Core.{Core}
 use Rattle.rt_core.specs.Transfer.{core_after_pend}
 use Rattle.rt_native.specs.declared.outside.Outside.{Outside}
-use Rattle.rt_native_laws.specs.Phases.{AlreadyDone, Phase, kept_words, reads_from}
+use Rattle.rt_native_laws.specs.Phases.{AlreadyDone, Phase, kept_words, reads_from, tail_of}
 use Rattle.rt_thumb.specs.Exceptions.{external, systick}
 use Rattle.rt_thumb.specs.Machine.{Machine}
 use Rattle.rt_thumb.specs.Step.{Program, pended}
@@ -24,8 +24,10 @@ IsAsFresh at bottom img places p c d top m n phase =
     × (kept_words at bottom img places p c top m phase ≤ kept_words at bottom img places p d top n again)
     × (is_done at bottom img places p d top n again ≡ is_done at bottom img places p c top m phase)
     × (reads_from at bottom img places p d top n again ≡ reads_from at bottom img places p c top m phase)
+    × (tail_of at bottom img places p d top n again ≡ tail_of at bottom img places p c top m phase)
 
--- As an interrupt arrives, a job's phase stays what it was: as fresh, as far done, with as much read.
+-- As an interrupt arrives, a job's phase stays what it was: as fresh, as far done, with as much read, and in the same
+-- tail.
 abbrev pub ArrivalsKeepPhases : Type 0
 ArrivalsKeepPhases =
     (at : Outside) (bottom : ℕ) (img : Image) (places : List ℕ) (p : Program) (c : Core) (top irq : ℕ) (m : Machine)

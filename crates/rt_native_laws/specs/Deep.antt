@@ -1,10 +1,11 @@
 -- How deep the stack is: no deeper than the model's, at any machine instruction. The model counts what exception entry
 -- pushes, and the frames of all jobs, at least as high as they are.
-use Rattle.std.specs.Prelude.{◌≡◌, ℕ, ◌+◌, ◌≤◌, List, length}
+use Rattle.std.specs.Prelude.{◌≡◌, ℕ, ◌+◌, ◌≤◌, List, length, Option}
 use Rattle.rt_code.specs.Image.{Image}
 use Rattle.rt_core.specs.Core.{Core, depth}
 use Rattle.rt_native.specs.declared.outside.Outside.{Outside}
 use Rattle.rt_native.specs.declared.target.Input.{Input}
+use Rattle.rt_native_laws.specs.InTail.{Debt}
 use Rattle.rt_native_laws.specs.Moments.{Taking}
 use Rattle.rt_native_laws.specs.Phases.{Phase}
 use Rattle.rt_native_laws.specs.Standing.{IsLaidOut, frame_bytes}
@@ -30,8 +31,9 @@ PhasesAreWithinFrames =
 -- From where the stack begins it is no deeper than the core's.
 abbrev pub StackIsNoDeeper : Type 0
 StackIsNoDeeper =
-    (at : Outside) (bottom highest : ℕ) (inputs : List Input) (img : Image) (places : List ℕ) (p : Program)
-    (takings : List Taking) (c : Core)
-    (top : ℕ) (m : Machine) → IsLaidOut at bottom (length c.processor.cells) → p.port ≡ at.port
-    → Phase at bottom img places p c top m → Waiting at bottom highest inputs img places p takings c.below c top m
+    (at : Outside) (bottom highest ceiling : ℕ) (inputs : List Input) (img : Image) (places : List ℕ) (p : Program)
+    (tail : Option Debt) (takings : List Taking) (c : Core) (top : ℕ) (m : Machine)
+    → IsLaidOut at bottom (length c.processor.cells) → p.port ≡ at.port
+    → Phase at bottom img places p c top m
+    → Waiting at bottom highest ceiling inputs img places p tail takings c.below c top m
     → highest ≤ m.register 13 + depth img c

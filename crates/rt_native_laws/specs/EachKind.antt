@@ -1,6 +1,6 @@
 -- One machine instruction of the job that runs, whatever its phase and its instruction, but for `alarm`, whose code has
--- a tail, and for `mark`, which has no code; and but for the reading of inputs (Inputs.antt). It is no fault; and to
--- the core it is nothing, or a step, or the exception return of its `ret`.
+-- a tail (Tail.antt), and for `mark`, which has no code; and but for the reading of inputs (Inputs.antt). It is no
+-- fault; and to the core it is nothing, or a step, or the exception return of its `ret`.
 use Rattle.std.specs.Prelude.{◌≡◌, ℕ, ◌+◌, ◌%◌, List, length, Option, Some, ⊤}
 use Rattle.rt_code.specs.Image.{Image}
 use Rattle.rt_code.specs.declared.instr.Instr.{Instr}
@@ -10,9 +10,10 @@ use Rattle.rt_native.specs.declared.outside.Outside.{Outside}
 use Rattle.rt_native.specs.declared.target.Input.{Input}
 use Rattle.rt_native_laws.specs.Behaving.{GoesWell}
 use Rattle.rt_native_laws.specs.Going.{HasCode, IsNothing, IsOneStep, StepsBy}
+use Rattle.rt_native_laws.specs.InTail.{Debt}
 use Rattle.rt_native_laws.specs.Moments.{Moment, instruction_at, last_after, settled_words}
 use Rattle.rt_native_laws.specs.Own.{Executes}
-use Rattle.rt_native_laws.specs.Phases.{IsButForWords, IsNoReading, Phase, kept_words}
+use Rattle.rt_native_laws.specs.Phases.{IsButForWords, IsOrdinary, Phase, kept_words}
 use Rattle.rt_native_laws.specs.Standing.{HoldsWords, IsLaidOut}
 use Rattle.rt_native_laws.specs.Waiting.{Waiting}
 use Rattle.rt_thumb.specs.Exceptions.{returned}
@@ -45,11 +46,11 @@ module _ (at : Outside) (bottom : ℕ) (img : Image) (places : List ℕ) (p : Pr
 abbrev pub EachKindGoesOn : Type 0
 EachKindGoesOn =
     (at : Outside) (bottom highest ceiling : ℕ) (inputs : List Input) (img : Image) (places : List ℕ) (p : Program)
-    (i : Instr) (s : Moment)
-    (d : Core) (said : Option What) (top : ℕ) (m : Machine) → HasCode at img places p
+    (i : Instr) (tail : Option Debt) (s : Moment) (d : Core) (said : Option What) (top : ℕ) (m : Machine)
+    → HasCode at img places p
     → IsLaidOut at bottom (length s.core.processor.cells) → highest ≡ bottom + img.stack_bytes
     → img.stack_bytes % 4 ≡ 0 → HasOneCommit i → StepsBy img i s.core d said → GoesWell img ceiling s i → HoldsWords m
-    → (phase : Phase at bottom img places p s.core top m) → IsNoReading at bottom img places p s.core top m phase
-    → Waiting at bottom highest inputs img places p s.takings s.core.below s.core top m
+    → (phase : Phase at bottom img places p s.core top m) → IsOrdinary at bottom img places p s.core top m phase
+    → Waiting at bottom highest ceiling inputs img places p tail s.takings s.core.below s.core top m
     → (executed : Instruction) × (n : Machine) × Executes p executed m n
     × EachGoes at bottom img places p s.core top m n (kept_words at bottom img places p s.core top m phase) d said

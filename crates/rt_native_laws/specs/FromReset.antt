@@ -1,6 +1,6 @@
--- From reset on: the processor as reset leaves it, with an image's program in flash, comes by the code of reset to where
--- native code does what its image does, whatever interrupts arrive meanwhile. Those are pending until the image lets
--- them in, as in the image's own first part.
+-- From reset on: the processor as reset leaves it, with an image's program in flash, comes by the code of reset to
+-- where native code does what its image does, whatever interrupts arrive meanwhile. Those are pending until the image
+-- lets them in, as in the image's own first part.
 use Rattle.std.specs.Prelude.{◌≡◌, ℕ, ◌+◌, ◌-◌, ◌%◌, ◌^◌, ◌<◌, ◌≤◌, ◌⊎◌, Bool, false, List, [], ◌∷◌, ◌++◌}
 use Rattle.std.specs.Prelude.{length, flat_map, Some, ⊤}
 use Rattle.rt_ids.specs.declared.limits.TheConstants.{IRQ_NUMBERS}
@@ -9,9 +9,10 @@ use Rattle.rt_native.specs.Layout.{flash_end, load_at, outside}
 use Rattle.rt_native.specs.Program.{first_values}
 use Rattle.rt_native.specs.Target.{Target}
 use Rattle.rt_native_laws.specs.Behaving.{BehavesWell}
+use Rattle.rt_native_laws.specs.InReset.{IsInReset}
 use Rattle.rt_native_laws.specs.Loading.{IsExecuted}
 use Rattle.rt_native_laws.specs.Moments.{AllCanHappen, Happening, at_reset, moment_after_all, shown}
-use Rattle.rt_native_laws.specs.Simulating.{HasNoAlarms, IsBehindReset, IsImageFor, StaysBeside, arrivals_at}
+use Rattle.rt_native_laws.specs.Simulating.{IsBehindReset, IsImageFor, StaysBeside, arrivals_at}
 use Rattle.rt_native_laws.specs.Simulating.{arrivals_of, seen_of_label, stack_bottom, ticks}
 use Rattle.rt_native_laws.specs.Standing.{HoldsWords, IsLaidOut, LieFrom}
 use Rattle.rt_priorities.specs.Setting.{IsReset}
@@ -58,16 +59,16 @@ module _ (img : Image) (target : Target) (p : Program) where
     pub tick : priority_of m systick ≡ 0
     pub words : HoldsWords m
 
-  -- Memory of a target has room for what native code touches: flash and RAM are apart, and the port is in memory too
-  -- (section B3.1, table B3-1: from 0xE0000000 on lies the system's part).
+  -- Memory of a target has room for what native code touches: flash and RAM are apart, and the port is none of the
+  -- registers of the core (section B3.2.1: the system control space).
   pub record IsMapped : Type 0 where
     pub laid : IsLaidOut (outside img target) (stack_bottom img target p) (length img.cells)
     pub apart : (flash_end img target ≤ target.ram.address)
         ⊎ ((outside img target).time + 8 ≤ target.flash.address)
-    pub port : target.port < 0xE0000000
+    pub port : (target.port < 0xE000E000) ⊎ (0xE000F000 ≤ target.port)
 
-  -- By so many instructions the processor comes to a state behind reset, in which what came meanwhile is pending. Others
-  -- have seen nothing of it.
+  -- By so many instructions the processor comes to a state behind reset, in which what came meanwhile is pending.
+  -- Others have seen nothing of it.
   pub record ComesBehindReset (m : Machine) : Type 0 where
     pub count : ℕ
     pub last : Machine
@@ -77,6 +78,9 @@ module _ (img : Image) (target : Target) (p : Program) where
     pub behind : IsBehindReset img target p words last
     pub no_tick : last.is_pending systick ≡ false
     pub seen : last.seen ≡ m.seen
+    -- and so it is up to there
+    pub meanwhile : (events : List Event) → goings events ≤ count → HasNoTickAtFirst events
+        → IsInReset img target p m events
 
   -- Some events lead from reset to a state, without a fault, and others see nothing of them; to the image the same
   -- interrupts arrive; and from there on native code does what the image does, event after event.
@@ -91,9 +95,12 @@ module _ (img : Image) (target : Target) (p : Program) where
     pub follows : StaysBeside img target p (λ more. fits (first ++ more)) (moment_after_all img (at_reset img) first)
         next events
 
-  -- The code of reset takes so many instructions, and then it is so, whatever came meanwhile and comes then.
+  -- The code of reset takes so many instructions, and then it is so, whatever came meanwhile and comes then. Events
+  -- that end sooner lead to a state within it.
   pub record SimulatesFromReset (fits : List Happening → Bool) (m : Machine) : Type 0 where
     pub count : ℕ
+    pub meanwhile : (events : List Event) → goings events ≤ count → HasNoTickAtFirst events
+        → IsInReset img target p m events
     pub follows : (before events : List Event) → goings before ≡ count → HasNoTickAtFirst before → AreNumbered before
         → ticks events + 3 < 2 ^ 32 → IsFollowed fits m before events
 
@@ -103,10 +110,9 @@ ResetLeadsBehind =
     (img : Image) (target : Target) (p : Program) (m : Machine) → IsImageFor img target p → IsMapped img target p
     → IsAtReset img target p m → ComesBehindReset img target p m
 
--- From reset on native code does what its image does, whatever comes, where the image behaves well. It is said of images
--- without alarms.
+-- From reset on native code does what its image does, whatever comes, where the image behaves well.
 abbrev pub NativeSimulatesFromReset : Type 0
 NativeSimulatesFromReset =
     (img : Image) (target : Target) (p : Program) (fits : List Happening → Bool) (m : Machine)
     → IsImageFor img target p → IsMapped img target p → BehavesWell img target.inputs fits
-    → IsAtReset img target p m → HasNoAlarms img → SimulatesFromReset img target p fits m
+    → IsAtReset img target p m → SimulatesFromReset img target p fits m

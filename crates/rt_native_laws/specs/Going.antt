@@ -15,7 +15,7 @@ use Rattle.rt_native.specs.declared.outside.Outside.{Outside}
 use Rattle.rt_native_laws.specs.Doing.{RaisesOnly, seen_of}
 use Rattle.rt_native_laws.specs.Moments.{instruction_at, last_after, settled_words}
 use Rattle.rt_native_laws.specs.Own.{ChangesItsOwn, Executes, Spans}
-use Rattle.rt_native_laws.specs.Phases.{Phase, IsDone, IsButForWords, IsNew, IsNoReading, kept_words}
+use Rattle.rt_native_laws.specs.Phases.{Phase, IsDone, IsButForWords, IsNew, IsOrdinary, kept_words}
 use Rattle.rt_native_laws.specs.Standing.{IsLaidOut, IsBeside}
 use Rattle.rt_thumb.specs.Exceptions.{systick}
 use Rattle.rt_thumb.specs.Instruction.{IsEncodable}
@@ -98,14 +98,14 @@ module _ (at : Outside) (bottom : ℕ) (img : Image) (places : List ℕ) (p : Pr
     OneStep : IsOneStep d said → IsOneStepOrNone kept d said
 
 -- A machine instruction of a job, in whatever phase the job is, is nothing to the core or the step that it takes; but
--- where a handler reads inputs a word comes into a cell, of which Inputs.antt tells.
+-- where a handler reads inputs a word comes into a cell, of which Inputs.antt tells, and of tails Tail.antt does.
 abbrev pub OneEventIsOneStepOrNone : Type 0
 OneEventIsOneStepOrNone =
     (at : Outside) (bottom : ℕ) (img : Image) (places : List ℕ) (p : Program) (i : Instr) (c d : Core)
     (said : Option What) (top : ℕ) (m n : Machine) (executed : Instruction)
     → HasCode at img places p → IsLaidOut at bottom (length c.processor.cells) → IsPlain i
     → StepsBy img i c d said → (phase : Phase at bottom img places p c top m)
-    → IsNoReading at bottom img places p c top m phase → Executes p executed m n
+    → IsOrdinary at bottom img places p c top m phase → Executes p executed m n
     → IsOneStepOrNone at bottom img places p c top m n (kept_words at bottom img places p c top m phase) d said
 
 -- `mark` has no code: where the core steps over one, the job is at its phase as before.

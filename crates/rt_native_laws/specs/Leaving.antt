@@ -10,11 +10,12 @@ use Rattle.rt_native.specs.declared.outside.Outside.{Outside}
 use Rattle.rt_native.specs.declared.target.Input.{Input}
 use Rattle.rt_native_laws.specs.Doing.{CanCall, IsBody, with_slots}
 use Rattle.rt_native_laws.specs.Going.{HasCode, IsNothing, IsOneStep, IsOneStepOrNone, StepsBy}
+use Rattle.rt_native_laws.specs.InTail.{Debt}
 use Rattle.rt_native_laws.specs.Moments.{Last, Taking}
 use Rattle.rt_native_laws.specs.Own.{Executes}
-use Rattle.rt_native_laws.specs.Phases.{Phase, IsToCome, IsDone}
+use Rattle.rt_native_laws.specs.Phases.{Phase, IsToCome, IsDone, tail_of}
 use Rattle.rt_native_laws.specs.Standing.{IsLaidOut, HoldsWords, caller_words}
-use Rattle.rt_native_laws.specs.Waiting.{Waiting, IsFresh}
+use Rattle.rt_native_laws.specs.Waiting.{Waiting, IsFresh, others_tail}
 use Rattle.rt_thumb.specs.Exceptions.{returned}
 use Rattle.rt_thumb.specs.Machine.{Machine}
 use Rattle.rt_thumb.specs.Step.{Program}
@@ -57,23 +58,24 @@ CallBegins =
 
 -- An exception return, where the masks are as they were when its handler was entered: what waited last runs on, in the
 -- phase in which it was, and the others wait as before; the core after its own return is at the same.
-pub record Resumes (at : Outside) (bottom highest : ℕ) (inputs : List Input) (img : Image) (places : List ℕ)
-    (p : Program)
-    (last : Last) (takings : List Taking) (below : List Context) (d : Core) (n : Machine) : Type 0 where
+pub record Resumes (at : Outside) (bottom highest ceiling : ℕ) (inputs : List Input) (img : Image) (places : List ℕ)
+    (p : Program) (tail : Option Debt) (last : Last) (takings : List Taking) (below : List Context) (d : Core)
+    (n : Machine) : Type 0 where
   pub top : ℕ
   pub phase : Phase at bottom img places p d top n
-  pub fresh : IsFresh at bottom highest inputs img places p last d top n phase
-  pub others : Waiting at bottom highest inputs img places p takings below d top n
+  pub fresh : IsFresh at bottom highest ceiling inputs img places p tail last d top n phase
+  pub others : Waiting at bottom highest ceiling inputs img places p
+      (others_tail (tail_of at bottom img places p d top n phase) tail) takings below d top n
 
 abbrev pub ReturnResumes : Type 0
 ReturnResumes =
-    (at : Outside) (bottom highest : ℕ) (inputs : List Input) (img : Image) (places : List ℕ) (p : Program)
-    (taking : Taking)
-    (takings : List Taking) (x : Context) (below : List Context) (c d : Core) (said : Option What) (top : ℕ)
+    (at : Outside) (bottom highest ceiling : ℕ) (inputs : List Input) (img : Image) (places : List ℕ) (p : Program)
+    (tail : Option Debt) (taking : Taking) (takings : List Taking) (x : Context) (below : List Context) (c d : Core)
+    (said : Option What) (top : ℕ)
     (m n : Machine)
     → StepsBy img instr.Ret c d said → c.below ≡ x ∷ below → c.caller ≡ None
     → c.processor.basepri ≡ taking.base_priority → c.processor.primask ≡ false
     → m.base_priority ≡ taking.base_priority → m.is_masked ≡ false → m.register 13 ≡ top
     → returned (m.register 14) m ≡ Some n
-    → Waiting at bottom highest inputs img places p (taking ∷ takings) (x ∷ below) c top m
-    → Resumes at bottom highest inputs img places p taking.last takings below d n
+    → Waiting at bottom highest ceiling inputs img places p tail (taking ∷ takings) (x ∷ below) c top m
+    → Resumes at bottom highest ceiling inputs img places p tail taking.last takings below d n

@@ -7,6 +7,7 @@ pub mod Saving
 pub mod Ticking
 pub mod Laws
 pub mod Reading
+pub mod InTail
 pub mod Phases
 pub mod Going
 pub mod Waiting
@@ -25,4 +26,6 @@ pub mod Arriving
 pub mod Relating
 pub mod Alike
 pub mod Owing
+pub mod InReset
 pub mod FromReset
+pub mod Throughout

@@ -1,8 +1,7 @@
 -- While the tail of an `alarm` owes its coming, the processor stands for a core without it. What happens meanwhile
--- leads
--- the image's moment and one with that core on alike, and a tick pays. For the job in the tail holds others off: they
--- run above the alarm's ceiling, set none, and do not take its interrupt (Baker, Stack-Based Scheduling of Realtime
--- Processes, 1991).
+-- leads the image's moment and one with that core on alike, and a tick pays. For the job in the tail holds others off:
+-- they run above the alarm's ceiling, set none, and do not take its interrupt (Baker, Stack-Based Scheduling of
+-- Realtime Processes, 1991).
 use Rattle.std.specs.Prelude.{◌≡◌, ℕ, suc, ◌<◌, ◌≤◌, Bool, if◌then◌else◌, List, length, Some, None, ⊤}
 use Rattle.rt_ids.specs.Event.{Tick}
 use Rattle.rt_code.specs.Image.{Image}
@@ -15,9 +14,9 @@ use Rattle.rt_thumb.specs.Machine.{Machine}
 use Rattle.rt_thumb.specs.Step.{Program}
 use Rattle.rt_native_laws.specs.Alike.{IsNotTaken, SetsNoAlarm}
 use Rattle.rt_native_laws.specs.Behaving.{IsGood, IsHeldOff}
-use Rattle.rt_native_laws.specs.Going.{HasCode}
 use Rattle.rt_native_laws.specs.Moments.{Comes, Happening, Moment, instruction_at, moment_after, shown_of, with_core}
-use Rattle.rt_native_laws.specs.Tail.{IsInTail, Meanwhile, rung}
+use Rattle.rt_native_laws.specs.InTail.{IsInTail, rung}
+use Rattle.rt_native_laws.specs.Tail.{IsOwing, Meanwhile}
 
 -- the moment with its alarm come
 abbrev pub rung_moment : ℕ → Moment → Moment
@@ -56,11 +55,16 @@ TicksPay =
 abbrev pub TicksLeaveOwed : Type 0
 TicksLeaveOwed = (irq : ℕ) (c : Core) → c.alarm ≡ None → (tick (rung irq c)).0 ≡ rung irq (tick c).0
 
+-- What a tail says of the core for which the processor stands.
+abbrev pub TailsOweSo : Type 0
+TailsOweSo =
+    (at : Outside) (bottom : ℕ) (img : Image) (places : List ℕ) (p : Program) (c : Core) (top : ℕ) (m : Machine)
+    (x : IsInTail at bottom img places p c top m) → IsOwing x.irq x.instant x.owes x.unpaid
+
 -- A tick while a job is in a tail: it pays, or what was owed is so still; and the core is as before that for which the
 -- processor stands, or that one with its alarm come.
 abbrev pub TicksInTails : Type 0
 TicksInTails =
-    (at : Outside) (bottom : ℕ) (img : Image) (places : List ℕ) (p : Program) (c : Core) (top : ℕ) (m : Machine)
-    → HasCode at img places p → (x : IsInTail at bottom img places p c top m) → x.irq < length x.unpaid.pending
-    → (owes : Bool) × Meanwhile x.irq x.instant x.owes owes x.unpaid (tick x.unpaid).0
-    × ((tick c).0 ≡ (if owes then rung x.irq (tick x.unpaid).0 else (tick x.unpaid).0))
+    (irq instant : ℕ) (owed : Bool) (u : Core) → IsOwing irq instant owed u → irq < length u.pending
+    → (owes : Bool) × Meanwhile irq instant owed owes u (tick u).0
+    × ((tick (if owed then rung irq u else u)).0 ≡ (if owes then rung irq (tick u).0 else (tick u).0))

@@ -18,6 +18,7 @@ use Rattle.rt_native.specs.Service.{stub}
 use Rattle.rt_native.specs.declared.outside.Outside.{Outside}
 use Rattle.rt_native.specs.declared.target.Input.{Input}
 use Rattle.rt_native_laws.specs.Doing.{IsAt, CanCall, machine_code}
+use Rattle.rt_native_laws.specs.InTail.{Debt, IsInTail}
 use Rattle.rt_native_laws.specs.Opening.{IsAtOpening}
 use Rattle.rt_native_laws.specs.Own.{IsDisturbed, RunsPrivately, AreSteady}
 use Rattle.rt_priorities.specs.Ticking.{alarm_word}
@@ -146,13 +147,15 @@ module _ (at : Outside) (bottom : ℕ) (img : Image) (places : List ℕ) (p : Pr
     pub begun : HasBegun p top (machine_code at bottom img places p (instr.Call row slot) before) first m
     pub deep : first.register 13 ≤ m.register 13 + 4 * body.frame
 
-  -- the phases
+  -- The phases. In the tail of an `alarm` the core is the one for which the processor stands, before what is owed is
+  -- paid.
   pub data Phase : Type 0 where
     ToCome : IsToCome → Phase
     AlreadyDone : IsDone → Phase
     Entering : IsEntering → Phase
     Calling : IsCalling → Phase
     Reads : IsReading at bottom img places p c top m → Phase
+    Tails : (core : Core) → (x : IsInTail at bottom img places p core top m) → x.unpaid ≡ c → Phase
 
   -- how many words of the frame are the core's, whatever the processor has there
   abbrev pub kept_words : Phase → ℕ
@@ -166,13 +169,21 @@ module _ (at : Outside) (bottom : ℕ) (img : Image) (places : List ℕ) (p : Pr
   reads_from (Reads x) = Some x.declared
   reads_from phase = None
 
-  abbrev pub IsNoReading : Phase → Type 0
-  IsNoReading (Reads x) = ⊥
-  IsNoReading phase = ⊤
+  -- the alarm in whose tail it is, where it is in one
+  abbrev pub tail_of : Phase → Option Debt
+  tail_of (Tails core x same) = Some (record { irq = x.irq; instant = x.instant; owes = x.owes })
+  tail_of phase = None
 
-  -- so many words are the core's, and no input is read
+  -- it reads no input, and is in no tail
+  abbrev pub IsOrdinary : Phase → Type 0
+  IsOrdinary (Reads x) = ⊥
+  IsOrdinary (Tails core x same) = ⊥
+  IsOrdinary phase = ⊤
+
+  -- so many words are the core's, and it is ordinary
   abbrev pub IsNew : ℕ → Phase → Type 0
   IsNew kept (Reads x) = ⊥
+  IsNew kept (Tails core x same) = ⊥
   IsNew kept phase = kept ≤ kept_words phase
 
 -- An instruction that was still to come is so after others have run.

@@ -18,14 +18,15 @@ use Rattle.rt_native.specs.Layout.{TICK_BYTES, outside, places, stack_top, stub_
 use Rattle.rt_native.specs.Program.{vectors}
 use Rattle.rt_native.specs.Service.{timer_irq}
 use Rattle.rt_native.specs.Target.{Target}
-use Rattle.rt_native_laws.specs.Behaving.{HasEvenFrames, StaysGood}
+use Rattle.rt_native_laws.specs.Behaving.{HasEvenFrames, IsHeldOff, StaysGood}
 use Rattle.rt_native_laws.specs.Going.{HasCode}
+use Rattle.rt_native_laws.specs.InTail.{Debt, paid}
 use Rattle.rt_native_laws.specs.Moments.{AllCanHappen, Comes, Happening, Moment, instruction_at, moment_after}
 use Rattle.rt_native_laws.specs.Moments.{moment_after_all, shown}
-use Rattle.rt_native_laws.specs.Phases.{AlreadyDone, Phase}
-use Rattle.rt_native_laws.specs.Simulating.{HasNoAlarms, IsImageFor, arrivals_of, seen_of_label, stack_bottom}
+use Rattle.rt_native_laws.specs.Phases.{AlreadyDone, Phase, tail_of}
+use Rattle.rt_native_laws.specs.Simulating.{IsImageFor, arrivals_of, compared, seen_of_label, stack_bottom}
 use Rattle.rt_native_laws.specs.Standing.{HoldsWords, IsLaidOut}
-use Rattle.rt_native_laws.specs.Waiting.{IsFresh, Waiting}
+use Rattle.rt_native_laws.specs.Waiting.{IsFresh, Waiting, others_tail}
 use Rattle.rt_priorities.specs.Agreeing.{AgreesWith}
 use Rattle.rt_priorities.specs.Vectors.{IsLoaded}
 use Rattle.rt_thumb.specs.Exceptions.{entered, external, priority_of, systick}
@@ -40,6 +41,11 @@ IsEvenFrame caller slots = (length slots + length (words_of caller)) % 2 ≡ 0
 abbrev pub IsAlarmOf : Image → Option Alarm → Type 0
 IsAlarmOf img alarm =
     IfSome alarm (λ a. (a.instant < 2 ^ 32) × (timer_irq img.code ≡ Some a.irq) × (a.irq < IRQ_NUMBERS))
+
+-- an alarm is of that interrupt, and a ceiling holds it off
+abbrev pub IsOfTimer : Image → ℕ → Debt → Type 0
+IsOfTimer img ceiling t =
+    IsHeldOff ceiling t.irq img.irqs × (timer_irq img.code ≡ Some t.irq) × (t.irq < IRQ_NUMBERS)
 
 abbrev pub AreEvenBelow : List Context → Type 0
 AreEvenBelow below = AllByRecursion (λ x. IsEvenFrame x.caller x.slots) below
@@ -59,25 +65,31 @@ module _ (img : Image) (target : Target) (p : Program) where
         → (target.flash.address + 4 * k + 4 + TICK_BYTES ≤ lowest)
         ⊎ ((outside img target).time + 8 ≤ target.flash.address + 4 * k)
 
-  -- the processor is where a moment of the image is
-  pub record IsWhere (s : Moment) (m : Machine) : Type 0 where
+  -- The processor is where a moment of the image is. It stands for the moment's core; or, while a job is in the tail of
+  -- an alarm, for one before what is owed is paid. That alarm's interrupt is the one that alarms pend, and its ceiling
+  -- holds it off.
+  pub record IsWhere (ceiling : ℕ) (s : Moment) (m : Machine) : Type 0 where
+    pub tail : Option Debt
+    pub of_timer : IfSome tail (IsOfTimer img ceiling)
+    pub unpaid : Core
+    pub owed : s.core ≡ paid tail unpaid
     pub top : ℕ
-    pub phase : Phase (outside img target) lowest img (places img target) p s.core top m
-    pub fresh : IsFresh (outside img target) lowest (stack_top img target) target.inputs img
-        (places img target) p s.last s.core top m
-        phase
-    pub waiting : Waiting (outside img target) lowest (stack_top img target) target.inputs img
-        (places img target) p s.takings
-        s.core.below s.core top m
-    pub agrees : AgreesWith img s.core m
+    pub phase : Phase (outside img target) lowest img (places img target) p unpaid top m
+    pub fresh : IsFresh (outside img target) lowest (stack_top img target) ceiling target.inputs img
+        (places img target) p tail s.last unpaid top m phase
+    pub waiting : Waiting (outside img target) lowest (stack_top img target) ceiling target.inputs img
+        (places img target) p
+        (others_tail (tail_of (outside img target) lowest img (places img target) p unpaid top m phase) tail) s.takings
+        unpaid.below unpaid top m
+    pub agrees : AgreesWith img unpaid m
     pub words : HoldsWords m
     pub placed : (m.address % 2 ≡ 0) × (m.address < 2 ^ 32)
     pub loaded : IsLoaded img target p m
     pub tick : priority_of m systick ≡ 0
-    pub requests : length s.core.pending ≡ IRQ_NUMBERS
-    pub alarm : IsAlarmOf img s.core.alarm
-    pub cells : length s.core.processor.cells ≡ length img.cells
-    pub frames : AreEvenBelow s.core.below
+    pub requests : length unpaid.pending ≡ IRQ_NUMBERS
+    pub alarm : IsAlarmOf img unpaid.alarm
+    pub cells : length unpaid.processor.cells ≡ length img.cells
+    pub frames : AreEvenBelow unpaid.below
 
   -- Marks have no code, so none is next where the code of the instruction before it is done: the image does a mark as
   -- soon as it comes to it, but for an interrupt that is taken first.
@@ -86,56 +98,56 @@ module _ (img : Image) (target : Target) (p : Program) where
   IsPastMarks c top m (AlreadyDone x) = pick img c ≡ None → instruction_at img c ≡ Some instr.Mark → ⊥
   IsPastMarks c top m phase = ⊤
 
-  pub record Related (s : Moment) (m : Machine) : Type 0 where
-    pub here : IsWhere s m
-    pub marks : IsPastMarks s.core here.top m here.phase
+  pub record Related (ceiling : ℕ) (s : Moment) (m : Machine) : Type 0 where
+    pub here : IsWhere ceiling s m
+    pub marks : IsPastMarks here.unpaid here.top m here.phase
 
   -- Things happen to the image, none of which a device asks for: what others see of it the processor has shown, and
   -- then it is where the image is, with its marks done.
-  pub record LeadsOn (fits : List Happening → Bool) (s : Moment) (m n : Machine) : Type 0 where
+  pub record LeadsOn (ceiling : ℕ) (fits : List Happening → Bool) (s : Moment) (m n : Machine) : Type 0 where
     pub happened : List Happening
     pub can : AllCanHappen img target.inputs s happened
     pub arrivals : flat_map arrivals_of happened ≡ []
-    pub seen : n.seen ≡ reverse (flat_map seen_of_label (shown img s happened)) ++ m.seen
+    pub seen : compared (timer_irq img.code) n.seen
+        ≡ compared (timer_irq img.code) (reverse (flat_map seen_of_label (shown img s happened)) ++ m.seen)
     pub ticks : n.is_pending systick ≡ m.is_pending systick
     pub time : (moment_after_all img s happened).core.time ≡ s.core.time
-    pub here : IsWhere (moment_after_all img s happened) n
-    pub marks : fits happened ≡ true → IsPastMarks (moment_after_all img s happened).core here.top n here.phase
+    pub here : IsWhere ceiling (moment_after_all img s happened) n
+    pub marks : fits happened ≡ true → IsPastMarks here.unpaid here.top n here.phase
 
--- A machine instruction of an image without alarms, where no exception is taken before it, is no fault, and it leads
--- on.
+-- A machine instruction, where no exception is taken before it, is no fault, and it leads on.
 abbrev pub InstructionsLeadOn : Type 0
 InstructionsLeadOn =
     (img : Image) (target : Target) (p : Program) (ceiling : ℕ) (fits : List Happening → Bool) (s : Moment)
-    (m : Machine) → IsInPlace img target p → HasNoAlarms img → StaysGood img target.inputs ceiling fits s
-    → fits [] ≡ true → Related img target p s m → pick img s.core ≡ None
-    → (n : Machine) × (executed p m ≡ Some n) × LeadsOn img target p fits s m n
+    (m : Machine) → IsInPlace img target p → StaysGood img target.inputs ceiling fits s → fits [] ≡ true
+    → Related img target p ceiling s m → pick img s.core ≡ None
+    → (n : Machine) × (executed p m ≡ Some n) × LeadsOn img target p ceiling fits s m n
 
--- An interrupt is taken, of an image without alarms: it leads on.
+-- An interrupt is taken: it leads on.
 abbrev pub EntriesLeadOn : Type 0
 EntriesLeadOn =
     (img : Image) (target : Target) (p : Program) (ceiling : ℕ) (fits : List Happening → Bool) (s : Moment)
-    (m : Machine) (row : IrqRow) (h : Handler) → IsInPlace img target p → HasNoAlarms img → HasEvenFrames img
+    (m : Machine) (row : IrqRow) (h : Handler) → IsInPlace img target p → HasEvenFrames img
     → StaysGood img target.inputs ceiling fits s → fits [] ≡ true
-    → Related img target p s m → pick img s.core ≡ Some row → row.handler ≡ Some h
-    → LeadsOn img target p fits s m (entered (external row.number) m)
+    → Related img target p ceiling s m → pick img s.core ≡ Some row → row.handler ≡ Some h
+    → LeadsOn img target p ceiling fits s m (entered (external row.number) m)
 
 -- An instruction that is executed late leads on.
 abbrev pub LateInstructionsLeadOn : Type 0
 LateInstructionsLeadOn =
     (img : Image) (target : Target) (p : Program) (ceiling : ℕ) (fits : List Happening → Bool) (s : Moment)
     (m : Machine) → IsInPlace img target p → StaysGood img target.inputs ceiling fits s → fits [] ≡ true
-    → Related img target p s m → m.is_unsettled ≡ true
-    → (n : Machine) × (executed p m ≡ Some n) × LeadsOn img target p fits s m n
+    → Related img target p ceiling s m → m.is_unsettled ≡ true
+    → (n : Machine) × (executed p m ≡ Some n) × LeadsOn img target p ceiling fits s m n
 
 -- A request that a device makes, or SysTick, comes to both.
 abbrev pub RequestsLeadOn : Type 0
 RequestsLeadOn =
-    (img : Image) (target : Target) (p : Program) (s : Moment) (m : Machine) (irq : ℕ) → IsInPlace img target p
-    → Related img target p s m → irq < IRQ_NUMBERS
-    → Related img target p (moment_after img s (Comes (Arrive irq))) (pended (external irq) m)
+    (img : Image) (target : Target) (p : Program) (ceiling : ℕ) (s : Moment) (m : Machine) (irq : ℕ)
+    → IsInPlace img target p → Related img target p ceiling s m → irq < IRQ_NUMBERS
+    → Related img target p ceiling (moment_after img s (Comes (Arrive irq))) (pended (external irq) m)
 
 abbrev pub PendingTicksLeadOn : Type 0
 PendingTicksLeadOn =
-    (img : Image) (target : Target) (p : Program) (s : Moment) (m : Machine) → IsInPlace img target p
-    → Related img target p s m → Related img target p s (pended systick m)
+    (img : Image) (target : Target) (p : Program) (ceiling : ℕ) (s : Moment) (m : Machine) → IsInPlace img target p
+    → Related img target p ceiling s m → Related img target p ceiling s (pended systick m)

@@ -39,11 +39,12 @@ ResetHasTwoParts =
 module _ (at : Outside) (bottom : ℕ) (reload : Option ℕ) (img : Image) (load : ℕ) (places : List ℕ) (p : Program)
   where
     -- The processor is at this part, behind which the image's code begins. Interrupts are masked, and none is pending;
-    -- SP is where the stack ends; and first values lie in memory, apart from where they go.
+    -- SP is where the stack ends; first values lie in memory, apart from where they go; and the port is none of the
+    -- registers of the core (section B3.2.1).
     pub record IsAtSecondPart (m : Machine) : Type 0 where
       pub laid : IsLaidOut at bottom (length img.cells)
       pub has : HasCode at img places p
-      pub port : at.port < 0xE0000000
+      pub port : (at.port < 0xE000E000) ⊎ (0xE000F000 ≤ at.port)
       pub code : Spans p m.address (second_part at reload img load) (slice_index places 0)
       pub is_masked : m.is_masked ≡ true
       pub base_priority : m.base_priority ≡ 0

@@ -3,7 +3,7 @@
 -- 1989). Interrupts may come between any two machine instructions, and an exception may be taken late where the
 -- architecture leaves it open (ARMv7-M Architecture Reference Manual, section B1.5.4).
 use Rattle.std.specs.Prelude.{◌≡◌, ℕ, suc, ◌+◌, ◌-◌, ◌^◌, ◌<◌, ◌≤◌, ◌⊎◌, ◌==◌, Bool, true, not}
-use Rattle.std.specs.Prelude.{List, [], ◌∷◌, ◌++◌, length, reverse, flat_map, slice_get, slice_index, Option, Some}
+use Rattle.std.specs.Prelude.{List, [], ◌∷◌, ◌++◌, length, reverse, flat_map, slice_index, Option, Some}
 use Rattle.std.specs.Prelude.{⊤}
 use Rattle.std.specs.List.{AllByRecursion, filter}
 use Rattle.rt_ids.specs.Event.{Arrive}
@@ -11,8 +11,6 @@ use Rattle.rt_ids.specs.Lists.{is_some_and}
 use Rattle.rt_ids.specs.declared.limits.TheConstants.{IRQ_NUMBERS}
 use Rattle.rt_code.specs.Image.{Image}
 use Rattle.rt_code.specs.Runnable.{IsRunnable}
-use Rattle.rt_code.specs.declared.instr.Instr.TheVariants as instr
-use Rattle.rt_code.specs.declared.instr.Note.{Note}
 use Rattle.rt_core.specs.Core.{reset, depth}
 use Rattle.rt_native.specs.Fitting.{Fits, IsRegion}
 use Rattle.rt_native.specs.Layout.{TICK_BYTES, flash_end, outside, places, stack_top}
@@ -140,17 +138,11 @@ module _ (img : Image) (target : Target) (p : Program) where
     pub inputs : AllByRecursion (IsInput (length img.cells)) target.inputs
     pub no_functions : target.calls ≡ []
 
--- none of the instructions of an image sets an alarm
-abbrev pub HasNoAlarms : Image → Type 0
-HasNoAlarms img = (n slot irq : ℕ) (note : Option Note) → slice_get img.code n ≡ Some (instr.Alarm slot irq, note) → ⊥
-
 -- Behind reset native code does what its image does, whatever comes, where the image behaves well: at each event what
 -- others see of the processor is what the image shows, no fault comes, and the stack is no deeper than the image's, but
--- for a tick's frame. The time does not come to the word that stands for no alarm; one tick may be pending at first. It
--- is said of images without alarms.
-abbrev pub NativeSimulatesWithoutAlarms : Type 0
-NativeSimulatesWithoutAlarms =
+-- for a tick's frame. The time does not come to the word that stands for no alarm; one tick may be pending at first.
+abbrev pub NativeSimulates : Type 0
+NativeSimulates =
     (img : Image) (target : Target) (p : Program) (fits : List Happening → Bool) (words : List ℕ) (m : Machine)
     (events : List processor.Event) → IsImageFor img target p → BehavesWell img target.inputs fits
-    → IsBehindReset img target p words m → HasNoAlarms img → ticks events + 3 < 2 ^ 32
-    → Simulates img target p fits m events
+    → IsBehindReset img target p words m → ticks events + 3 < 2 ^ 32 → Simulates img target p fits m events

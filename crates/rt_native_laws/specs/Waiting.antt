@@ -2,22 +2,25 @@
 -- on, which exception entry saved and exception return gives back (ARMv7-M Architecture Reference Manual, sections
 -- B1.5.6 and B1.5.8). What the job above them does leaves them so, and so does an entry.
 use Rattle.std.specs.Prelude.{◌≡◌, ◌≢◌, ℕ, ◌+◌, ◌*◌, ◌%◌, ◌^◌, ◌<◌, ◌≤◌, ◌==◌, false, if◌then◌else◌, List, [], ◌∷◌}
-use Rattle.std.specs.Prelude.{length, slice_index_or, Some, IfSome}
+use Rattle.std.specs.Prelude.{length, slice_index_or, Option, Some, None, IfSome, ⊤}
 use Rattle.std.specs.List.{AllByRecursion}
 use Rattle.rt_code.specs.Image.{Image}
 use Rattle.rt_code.specs.declared.image.Handler.{Handler}
 use Rattle.rt_core.specs.Core.{Core, Context}
 use Rattle.rt_core.specs.Leading.{in_context}
+use Rattle.rt_core.specs.Priority.{execution}
 use Rattle.rt_core.specs.Transfer.{core_after_entry}
 use Rattle.rt_native.specs.Service.{stub}
 use Rattle.rt_native.specs.declared.outside.Outside.{Outside}
 use Rattle.rt_native.specs.declared.target.Input.{Input}
 use Rattle.rt_native_laws.specs.Going.{HasCode}
+use Rattle.rt_native_laws.specs.InTail.{Debt}
 use Rattle.rt_native_laws.specs.Own.{Spans}
 use Rattle.rt_native_laws.specs.Moments.{Began, Last, Taking, settled_words}
-use Rattle.rt_native_laws.specs.Phases.{Phase, kept_words, reads_from}
+use Rattle.rt_native_laws.specs.Phases.{Phase, kept_words, reads_from, tail_of}
 use Rattle.rt_native_laws.specs.Saving.{CanBeInterrupted}
 use Rattle.rt_native_laws.specs.Standing.{IsLaidOut, LieFrom, HoldsWords}
+use Rattle.rt_native_laws.specs.Tail.{Meanwhile}
 use Rattle.rt_priorities.specs.Ticking.{alarm_word}
 use Rattle.rt_thumb.specs.Exceptions.{external, entered, popped, return_to_thread, return_to_handler}
 use Rattle.rt_thumb.specs.Machine.{Machine, word_at, with_register}
@@ -61,30 +64,48 @@ pub record KeepsAbove (at : Outside) (top : ℕ) (m n : Machine) : Type 0 where
   pub exception : n.exception ≡ m.exception
   pub active : n.active ≡ m.active
 
--- what lies outside, the lowest address of the stack and the one behind it, an image, the places of its code, and a
--- program
-module _ (at : Outside) (bottom highest : ℕ) (inputs : List Input) (img : Image) (places : List ℕ) (p : Program) where
-  -- The frame of a job is as new as what the job did last: no word is settled that is not the core's. And a job that
-  -- reads inputs has done nothing yet, and reads those that there are.
-  abbrev pub IsFresh : Last → (c : Core) (top : ℕ) (m : Machine) → Phase at bottom img places p c top m → Type 0
-  IsFresh last c top m phase =
+-- The tail in which others are, where one job at most is in the tail of an alarm: none, where this job is in it.
+abbrev pub others_tail : Option Debt → Option Debt → Option Debt
+others_tail (Some own) tail = None
+others_tail None tail = tail
+
+-- From one core to another what happens leaves a tail its alarm, but that it may come.
+abbrev pub KeepsTail : Option Debt → Option Debt → Core → Core → Type 0
+KeepsTail None None c d = ⊤
+KeepsTail (Some tail) (Some now) c d =
+    (now.irq ≡ tail.irq) × (now.instant ≡ tail.instant)
+    × Meanwhile tail.irq tail.instant tail.owes now.owes c d
+KeepsTail tail now c d = ⊥
+
+-- what lies outside, the lowest address of the stack and the one behind it, the ceiling of the alarm, an image, the
+-- places of its code, and a program
+module _ (at : Outside) (bottom highest ceiling : ℕ) (inputs : List Input) (img : Image) (places : List ℕ)
+    (p : Program) where
+  -- The frame of a job is as new as what the job did last: no word is settled that is not the core's. A job that reads
+  -- inputs has done nothing yet, and reads those that there are. And a job that is in the tail of an alarm is at the
+  -- ceiling.
+  abbrev pub IsFresh : Option Debt → Last → (c : Core) (top : ℕ) (m : Machine)
+      → Phase at bottom img places p c top m → Type 0
+  IsFresh tail last c top m phase =
       (settled_words last (length c.processor.slots) ≤ kept_words at bottom img places p c top m phase)
       × IfSome (reads_from at bottom img places p c top m phase) (λ declared. (last ≡ Began) × (declared ≡ inputs))
+      × IfSome (tail_of at bottom img places p c top m phase) (λ own. (tail ≡ Some own) × (execution c ≤ ceiling))
 
-  -- The jobs that were interrupted, the last one first, each with the taking that interrupted it. At the end of the
-  -- frames of what runs lie the eight words that exception entry pushed, and LR has EXC_RETURN. The thread's frames end
-  -- where the stack ends.
-  abbrev pub Waiting : List Taking → List Context → Core → ℕ → Machine → Type 0
-  Waiting [] [] c top m = (top ≡ highest) × (m.exception ≡ 0) × (m.active ≡ [])
-  Waiting (taking ∷ takings) (x ∷ below) c top m =
+  -- The jobs that were interrupted, the last one first, each with the taking that interrupted it, whose priority was
+  -- higher than theirs. At the end of the frames of what runs lie the eight words that exception entry pushed, and LR
+  -- has EXC_RETURN. The thread's frames end where the stack ends. Where there is a tail one job is in it.
+  abbrev pub Waiting : Option Debt → List Taking → List Context → Core → ℕ → Machine → Type 0
+  Waiting tail [] [] c top m = (top ≡ highest) × (m.exception ≡ 0) × (m.active ≡ []) × (tail ≡ None)
+  Waiting tail (taking ∷ takings) (x ∷ below) c top m =
       let back = resumed taking.base_priority top m in
       let there = interrupted_core taking.base_priority c x below in
       (top % 8 ≡ 0) × (taking.base_priority < 2 ^ 8) × (m.exception ≡ external x.irq)
       × (m.active ≡ external x.irq ∷ back.active) × (m.register 14 ≡ return_value back.exception)
       × (back.register 13 ≡ top + 32) × (next : ℕ) × (next ≤ at.cells) × (back.register 13 ≤ next)
-      × ((phase : Phase at bottom img places p there next back) × IsFresh taking.last there next back phase)
-      × Waiting takings below there next back
-  Waiting takings below c top m = ⊥
+      × (x.value < execution there)
+      × (phase : Phase at bottom img places p there next back) × IsFresh tail taking.last there next back phase
+      × Waiting (others_tail (tail_of at bottom img places p there next back phase) tail) takings below there next back
+  Waiting tail takings below c top m = ⊥
 
 -- What runs shows the core's masks, cells, time, alarm and requests, whatever phase it is in.
 abbrev pub PhasesShow : Type 0
@@ -93,32 +114,33 @@ PhasesShow =
     → IsLaidOut at bottom (length c.processor.cells) → p.port ≡ at.port
     → Phase at bottom img places p c top m → Shows at c m
 
--- What runs above interrupted jobs leaves each of them in its phase, whatever the core does meanwhile.
+-- What runs above interrupted jobs leaves each of them in its phase, whatever the core does meanwhile that keeps a tail
+-- in which one of them is.
 abbrev pub WaitingIsKept : Type 0
 WaitingIsKept =
-    (at : Outside) (bottom highest : ℕ) (inputs : List Input) (img : Image) (places : List ℕ) (p : Program)
-    (takings : List Taking)
-    (below : List Context) (c d : Core) (top : ℕ) (m n : Machine)
+    (at : Outside) (bottom highest ceiling : ℕ) (inputs : List Input) (img : Image) (places : List ℕ) (p : Program)
+    (tail now : Option Debt) (takings : List Taking) (below : List Context) (c d : Core) (top : ℕ) (m n : Machine)
     → IsLaidOut at bottom (length c.processor.cells) → p.port ≡ at.port
     → length d.processor.cells ≡ length c.processor.cells → d.stopped ≡ c.stopped
-    → KeepsAbove at top m n → Shows at d n → HoldsWords n
-    → Waiting at bottom highest inputs img places p takings below c top m
-    → Waiting at bottom highest inputs img places p takings below d top n
+    → KeepsAbove at top m n → Shows at d n → HoldsWords n → KeepsTail tail now c d
+    → Waiting at bottom highest ceiling inputs img places p tail takings below c top m
+    → Waiting at bottom highest ceiling inputs img places p now takings below d top n
 
--- An interrupt is taken: what it interrupts is a job more that waits, in the phase in which it was, as the core has it
--- after its own entry.
+-- An interrupt is taken, of a higher priority: what it interrupts is a job more that waits, in the phase in which it
+-- was, as the core has it after its own entry.
 abbrev pub EntryAddsAJob : Type 0
 EntryAddsAJob =
-    (at : Outside) (bottom highest : ℕ) (inputs : List Input) (img : Image) (places : List ℕ) (p : Program)
-    (takings : List Taking)
-    (last : Last) (irq : ℕ) (h : Handler) (c : Core) (top : ℕ) (m : Machine)
+    (at : Outside) (bottom highest ceiling : ℕ) (inputs : List Input) (img : Image) (places : List ℕ) (p : Program)
+    (tail : Option Debt) (takings : List Taking) (last : Last) (irq : ℕ) (h : Handler) (c : Core) (top : ℕ)
+    (m : Machine)
     → IsLaidOut at bottom (length c.processor.cells) → p.port ≡ at.port → CanBeInterrupted m → m.address < 2 ^ 32
     → AllByRecursion (λ e. e ≢ external irq) m.active → c.processor.primask ≡ false → HoldsWords m
-    → m.register 13 ≤ top → top ≤ at.cells
+    → m.register 13 ≤ top → top ≤ at.cells → h.value < execution c → KeepsTail tail tail c (core_after_entry c irq h)
     → (phase : Phase at bottom img places p c top m)
-    → IsFresh at bottom highest inputs img places p last c top m phase
-    → Waiting at bottom highest inputs img places p takings c.below c top m
-    → Waiting at bottom highest inputs img places p
+    → IsFresh at bottom highest ceiling inputs img places p tail last c top m phase
+    → Waiting at bottom highest ceiling inputs img places p
+    (others_tail (tail_of at bottom img places p c top m phase) tail) takings c.below c top m
+    → Waiting at bottom highest ceiling inputs img places p tail
     (record { base_priority = c.processor.basepri; last = last } ∷ takings) (context_of c irq h ∷ c.below)
     (core_after_entry c irq h) ((entered (external irq) m).register 13) (entered (external irq) m)
 

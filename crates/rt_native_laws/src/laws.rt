@@ -19,14 +19,15 @@ ghost use Rattle.rt_native_laws.specs.Leaving.{BackGoesOn, CallBegins, RetGoesOn
 ghost use Rattle.rt_native_laws.specs.Loading.{LoadedCodeIsThere, LoadedEntriesLead};
 ghost use Rattle.rt_native_laws.specs.Opening.{OpeningIsDone};
 ghost use Rattle.rt_native_laws.specs.Owing.{CeilingsHoldOff, HappeningsAreAlike, NoneAboveSetsAlarms};
-ghost use Rattle.rt_native_laws.specs.Owing.{TicksInTails, TicksLeaveOwed, TicksPay};
+ghost use Rattle.rt_native_laws.specs.Owing.{TailsOweSo, TicksInTails, TicksLeaveOwed, TicksPay};
 ghost use Rattle.rt_native_laws.specs.Phases.{ToComeIsKept, DoneIsKept, EnteringIsKept, CallingIsKept};
 ghost use Rattle.rt_native_laws.specs.Relating.{EntriesLeadOn, InstructionsLeadOn, LateInstructionsLeadOn};
 ghost use Rattle.rt_native_laws.specs.Relating.{PendingTicksLeadOn, RequestsLeadOn};
 ghost use Rattle.rt_native_laws.specs.Resetting.{ResetHasTwoParts, ResetLeads};
 ghost use Rattle.rt_native_laws.specs.Saving.{EntryPushesBelow, EntryIsUndone};
-ghost use Rattle.rt_native_laws.specs.Simulating.{NativeSimulatesWithoutAlarms};
+ghost use Rattle.rt_native_laws.specs.Simulating.{NativeSimulates};
 ghost use Rattle.rt_native_laws.specs.Tail.{AlarmIsStored, TailGoesOn, TailIsKept, TailsAreNoFault};
+ghost use Rattle.rt_native_laws.specs.Throughout.{EveryListIsSimulated};
 ghost use Rattle.rt_native_laws.specs.Ticking.{TickIsServed};
 ghost use Rattle.rt_native_laws.specs.Waiting.{PhasesShow, WaitingIsKept, EntryAddsAJob, EntryBegins};
 
@@ -124,7 +125,8 @@ pub fn phases_are_kept()
 {}
 
 /// A machine instruction of the job that runs, where no exception is taken before it, is one step of the core or
-/// nothing to it, but for the reading of inputs; where one might have been taken already it is nothing.
+/// nothing to it, but for the reading of inputs and the tail of an `alarm`; where one might have been taken already it
+/// is nothing.
 pub fn events_are_steps()
     ensures one { OneEventIsOneStepOrNone }
     ensures mark { MarkIsNoEvent }
@@ -204,8 +206,8 @@ pub fn requests_come()
     ensures ticks { PendingTicksKeepPhases }
 {}
 
-/// A machine instruction of an image without alarms, where no exception is taken before it, is no fault; and behind it
-/// the processor is where the image is, as it was before.
+/// A machine instruction, where no exception is taken before it, is no fault; and behind it the processor is where the
+/// image is, as it was before.
 pub fn instructions_lead_on()
     ensures next { InstructionsLeadOn }
     ensures late { LateInstructionsLeadOn }
@@ -217,14 +219,14 @@ pub fn requests_lead_on()
     ensures ticks { PendingTicksLeadOn }
 {}
 
-/// An interrupt is taken, of an image without alarms, and the processor is where the image is then.
+/// An interrupt is taken, and the processor is where the image is then.
 pub fn entries_lead_on()
     ensures { EntriesLeadOn }
 {}
 
-/// Behind reset native code does what its image does, event after event, where there are no alarms.
+/// Behind reset native code does what its image does, event after event.
 pub fn native_simulates()
-    ensures { NativeSimulatesWithoutAlarms }
+    ensures { NativeSimulates }
 {}
 
 /// An alarm that has come changes no step of others, who set none and do not take its interrupt.
@@ -240,12 +242,19 @@ pub fn alarms_are_owed()
     ensures alike { HappeningsAreAlike }
     ensures pay { TicksPay }
     ensures owed { TicksLeaveOwed }
+    ensures so { TailsOweSo }
     ensures ticks { TicksInTails }
 {}
 
-/// From reset on, whatever interrupts arrive, the code of reset leads to where native code does what its image does; and
-/// from there on it does, where there are no alarms.
+/// From reset on, whatever interrupts arrive, the code of reset leads to where native code does what its image does;
+/// and from there on it does.
 pub fn native_simulates_from_reset()
     ensures leads { ResetLeadsBehind }
     ensures simulates { NativeSimulatesFromReset }
+{}
+
+/// From reset on, whatever list of events comes: as long as the code of reset runs there is no fault, others see
+/// nothing, and the stack is within the thread's frame; and behind it native code does what its image does.
+pub fn every_list_is_simulated()
+    ensures { EveryListIsSimulated }
 {}
