@@ -12,7 +12,7 @@ UNIT = re.compile(r"([0-9]+)(K|M|KB|MB|KiB|MiB)", re.I)
 # what each line takes, for a number that is out of range
 RANGES = {
     "flash": "flash begins at a multiple of 1,024, has a byte or more, and ends at 0xE0000000 at the latest",
-    "ram": "RAM begins at a multiple of 8, has a byte or more, and ends at 0xE0000000 at the latest",
+    "ram": "RAM begins at a multiple of 8 above 0, has a byte or more, and ends at 0xE0000000 at the latest",
     "port": "the port is at a multiple of 4, and not from 0xE000E000 to 0xE000EFFF, where the core's own registers are",
     "tick": "the number is one less than the cycles of a tick, and 1 to 16,777,215",
     "bits": "a core has 3 to 8 priority bits",

@@ -78,7 +78,7 @@ BOARDS = (
      "an interrupt of a similar name is `UART0`"),
     ("word received 0x40000000\ninput rx received", "1 9 unknown input", "no line before names an input `received`"),
     ("ram 4 8", "1 10 out of range",
-     "RAM begins at a multiple of 8, has a byte or more, and ends at 0xE0000000 at the latest"),
+     "RAM begins at a multiple of 8 above 0, has a byte or more, and ends at 0xE0000000 at the latest"),
     ("flash 0 0x400\nport 0x3fc", "2 11 overlap", "this line and line 1 share a byte"),
     ("bits 3", "1 12 too few bits",
      "the application has 4 priority bits, and this core has fewer: two of its priorities would be one"),

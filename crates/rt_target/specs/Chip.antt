@@ -45,15 +45,20 @@ abbrev pub is_memory_at : ℕ → ℕ → ℕ → Bool
 is_memory_at alignment address size =
     (address % alignment == 0) && nat_lt 0 size && nat_le (address + size) SYSTEM
 
--- The numbers are those of a chip. A word is at a multiple of 4; `emit` writes no register of the core; SYST_RVR has 24
--- bits, and 0 stops SysTick (section B3.3.4); a core implements 3 to 8 priority bits (section B1.5.4).
+-- the address of a word: it has 32 bits, and is a multiple of 4 (section A3.2.1)
+abbrev pub is_address : ℕ → Bool
+is_address a = nat_lt a (2 ^ 32) && (a % 4 == 0)
+
+-- The numbers are those of a chip. RAM does not begin at 0, so that what is pushed below the stack lies in no other
+-- memory; a word has an address; `emit` writes no register of the core; SYST_RVR has 24 bits, and 0 stops SysTick
+-- (section B3.3.4); a core implements 3 to 8 priority bits (section B1.5.4).
 abbrev pub is_in_range : Fact → Bool
 is_in_range (Flash a n) = is_memory_at TABLE a n
-is_in_range (Ram a n) = is_memory_at STACK a n
-is_in_range (Port a) = (a % 4 == 0) && not (is_control a)
+is_in_range (Ram a n) = nat_lt 0 a && is_memory_at STACK a n
+is_in_range (Port a) = is_address a && not (is_control a)
 is_in_range (Tick n) = nat_le 1 n && nat_lt n (2 ^ 24)
 is_in_range (Bits n) = nat_le 3 n && nat_le n 8
-is_in_range (Word r a) = a % 4 == 0
+is_in_range (Word r a) = is_address a
 is_in_range (Call irq) = true
 
 -- the address at which the bytes of a fact begin, and the first behind them; both 0 where it has none

@@ -60,19 +60,26 @@ fn is_memory_at(alignment: u32, address: u32, size: u32) -> bool
     address % alignment == 0 && size > 0 && end <= SYSTEM
 }
 
+/// Whether it is the address of a word.
+fn is_address(address: u32) -> bool
+    ensures { result ≡ spec.is_address address }
+{
+    address % 4 == 0
+}
+
 /// Whether the numbers are those of a chip.
 pub(crate) fn is_in_range(fact: &Fact) -> bool
     ensures { result ≡ spec.is_in_range fact.now }
 {
     match fact {
         Fact::Flash(address, size) => is_memory_at(TABLE, *address, *size),
-        Fact::Ram(address, size) => is_memory_at(STACK, *address, *size),
+        Fact::Ram(address, size) => *address > 0 && is_memory_at(STACK, *address, *size),
         Fact::Port(address) => {
-            address % 4 == 0 && !(CONTROL <= *address && *address < BEHIND_CONTROL)
+            is_address(*address) && !(CONTROL <= *address && *address < BEHIND_CONTROL)
         }
         Fact::Tick(reload) => 1 <= *reload && *reload < 1 << 24,
         Fact::Bits(bits) => 3 <= *bits && *bits <= 8,
-        Fact::Word(_, address) => address % 4 == 0,
+        Fact::Word(_, address) => is_address(*address),
         Fact::Call(_) => true,
     }
 }
