@@ -1,8 +1,8 @@
 -- The parts of an image that `build` makes, apart from one another: each has its addresses, and the others begin before
 -- them or behind them.
 use Rattle.std.proofs.Common.{◌≡◌, ◌⊎◌, ℕ, ◌+◌, ◌<◌, ◌≤◌, Bool, true, false, not, List, [], ◌∷◌, ◌++◌, length, map}
-use Rattle.std.proofs.Common.{slice_get, Contains, Option, Some, None, IsSome, refl, sym, ap, subst, ◌∙◌, arith, inl, inr}
-use Rattle.std.proofs.Common.{append_assoc, if◌then◌else◌}
+use Rattle.std.proofs.Common.{slice_get, Contains, Option, Some, None, IsSome, refl, sym, ap, subst, ◌∙◌, arith, inl}
+use Rattle.std.proofs.Common.{inr, append_assoc, if◌then◌else◌}
 use Rattle.std.specs.List.{AllByRecursion}
 use Rattle.std.proofs.lemmas.Option.{none-some}
 use Rattle.rt_lemmas.proofs.Indices.{at_either}
@@ -68,13 +68,15 @@ module _ (app : App) (at : Entries) where
     pub apart : AllByRecursion (IsApart part from (from + length own)) all
 
   -- parts begin behind those before them
-  pub begin_behind : (from : ℕ) (parts : List CodePart) (lines : List Line) → AreAbutting (IsPartAt app at) from parts lines
+  pub begin_behind : (from : ℕ) (parts : List CodePart) (lines : List Line)
+      → AreAbutting (IsPartAt app at) from parts lines
       → AllByRecursion (λ q. from ≤ begin_of at q) parts
   begin_behind from [] lines abut = tt
   begin_behind from (part ∷ parts) lines (own, more, is, here, rest) =
       let first = here.begins in (
         omega (arith, first),
-        all_weaker (λ q. from + length own ≤ begin_of at q) (λ q. from ≤ begin_of at q) (λ q later. omega (arith, later))
+        all_weaker (λ q. from + length own ≤ begin_of at q) (λ q. from ≤ begin_of at q)
+            (λ q later. omega (arith, later))
             parts (begin_behind (from + length own) parts more rest),
       )
 

@@ -1,4 +1,5 @@
--- BASEPRI as jobs have left it, read off Baker's machine: which sections raised it follows from priorities and ceilings.
+-- BASEPRI as jobs have left it, read off Baker's machine: which sections raised it follows from priorities and
+-- ceilings.
 use Rattle.std.proofs.Common.{◌≡◌, ℕ, ◌^◌, ◌<◌, ◌≤◌, ◌&&◌, nat_lt, max, Bool, true, false}
 use Rattle.std.proofs.Common.{if◌then◌else◌, List, [], ◌∷◌, map, refl, sym, ap, subst, ◌∙◌, arith, lt-ltb, le-ltb}
 use Rattle.std.specs.List.{AllByRecursion}

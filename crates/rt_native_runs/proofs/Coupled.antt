@@ -1,5 +1,5 @@
--- A core is coupled: it is that of a coupling of which rt_sim's invariant holds, where Baker's machine is well, counts
--- are within a bound, and each interrupted job's BASEPRI is the one that was then.
+-- A core is coupled with a state of Baker's machine: both are those of a coupling of which rt_sim's invariant holds,
+-- where the machine is well, counts are within a bound, and each interrupted job's BASEPRI is the one that was then.
 use Rattle.std.proofs.Common.{◌≡◌, ℕ, suc, ◌+◌, ◌≤◌, ◌⊎◌, inl, inr, true}
 use Rattle.std.proofs.Common.{List, [], ◌∷◌, length, map, drop, slice_set, Option, refl, sym, ap}
 use Rattle.std.proofs.Common.{subst, ◌∙◌, arith, length-set}
@@ -20,6 +20,7 @@ use Rattle.rt_trace.specs.declared.item.What.{What}
 use Rattle.rt_laws.specs.Allowed.{May, after}
 use Rattle.rt_laws.specs.ByItems.{after_all}
 use Rattle.rt_laws.specs.Observer.{Observer, sees, sees_all}
+use Rattle.rt_laws.specs.Run.{RunsOn}
 use Rattle.rt_laws.specs.Services.{is_declared}
 use Rattle.rt_laws.specs.State.{Job, State}
 use Rattle.rt_laws.specs.DeviceWords.{ones, after_moves}
@@ -59,7 +60,8 @@ module _ (app : App) where
             absurd (let long = ap length jobs in omega (arith, long, same))
         by (ByStep shown one stepper take return) = moved one.led.moves
           where
-            moved : Changes app one.job one.seen one.others one.seens shown t.jobs u.jobs → drop 1 t.jobs ≡ drop 1 s.jobs
+            moved : Changes app one.job one.seen one.others one.seens shown t.jobs u.jobs
+                → drop 1 t.jobs ≡ drop 1 s.jobs
             moved (GoesOn later seen jobs views role priority nearer) =
                 ap (drop 1) jobs ∙ sym (ap (drop 1) one.jobs_are)
             moved (Restarts later seen jobs views thread empty) = ap (drop 1) jobs ∙ sym (ap (drop 1) one.jobs_are)
@@ -87,10 +89,11 @@ module _ (app : App) where
             moved (ComesBack irq jobs views role given) = jobs ∙ sym (ap (drop 1) one.jobs_are)
 
 module _ (app : App) (img : Image) (accepted : IsAccepted app) (is_image : IsImageOf app img) where
-  pub record Coupled (n : ℕ) (bases : List ℕ) (c : Core) : Type 0 where
+  pub record Coupled (s : State) (n : ℕ) (bases : List ℕ) (c : Core) : Type 0 where
     pub coupling : Coupling
     pub seen : Observer
     pub is : c ≡ core_of app.bits coupling
+    pub state : s ≡ state_of coupling
     pub invariant : CouplingInvariant app img is_image.at.idle coupling
     pub well : StateWell app (state_of coupling) seen
     pub few : coupling.time + armings coupling.values ≤ n
@@ -112,13 +115,14 @@ module _ (app : App) (img : Image) (accepted : IsAccepted app) (is_image : IsIma
       (m.running ∷ m.below) (all_kinds m invariant)
 
   -- a request comes
-  pub coupled_arrive : (n : ℕ) (bases : List ℕ) (c : Core) (irq : ℕ) → is_declared app irq ≡ true → Coupled n bases c
-      → Coupled n bases (core_after_pend c irq)
-  coupled_arrive n bases c irq declared x =
+  pub coupled_arrive : (s : State) (n : ℕ) (bases : List ℕ) (c : Core) (irq : ℕ) → is_declared app irq ≡ true
+      → Coupled s n bases c → Coupled (after app s (Arrived irq)) n bases (core_after_pend c irq)
+  coupled_arrive s n bases c irq declared x =
       let m : Coupling = x.coupling in record {
         coupling = record m { pending = slice_set m.pending irq true };
         seen = sees app x.seen (Arrived irq);
         is = ap (λ d. core_after_pend d irq) x.is;
+        state = ap (λ t. after app t (Arrived irq)) x.state;
         invariant = pending_invariant app img is_image.at.idle m (slice_set m.pending irq true)
             (length-set m.pending irq true) x.invariant;
         well = next_well app accepted (state_of m) x.seen (Arrived irq) x.well (refl, declared);
@@ -127,42 +131,52 @@ module _ (app : App) (img : Image) (accepted : IsAccepted app) (is_image : IsIma
       }
 
   -- a tick does
-  pub coupled_tick : (n : ℕ) (bases : List ℕ) (c : Core) → Coupled n bases c → Coupled (suc n) bases (tick c).0
-  coupled_tick n bases c x =
+  pub record TicksCoupled (s : State) (n : ℕ) (bases : List ℕ) (c : Core) : Type 0 where
+    pub runs : RunsOn app s (Ticked ∷ (tick c).1)
+    pub behind : Coupled (after_all app s (Ticked ∷ (tick c).1)) (suc n) bases (tick c).0
+
+  pub coupled_tick : (s : State) (n : ℕ) (bases : List ℕ) (c : Core) → Coupled s n bases c → TicksCoupled s n bases c
+  coupled_tick s n bases c x =
       let m : Coupling = x.coupling in
       let one = ticks app img is_image.at.idle m x.invariant in
-      let s : State = after app (state_of m) Ticked in
-      let ticked : StateWell app s (sees app x.seen Ticked) =
+      let t : State = after app (state_of m) Ticked in
+      let ticked : StateWell app t (sees app x.seen Ticked) =
       next_well app accepted (state_of m) x.seen Ticked x.well refl in
-      let rung : StateWell app (after_all app s one.shown) (sees_all app (sees app x.seen Ticked) one.shown) =
-      subst (λ t. StateWell app t (sees_all app (sees app x.seen Ticked) one.shown)) (after_ones app one.shown s)
-      (subst (λ ls. StateWell app (after_moves app s (ones one.shown))
+      let rung : StateWell app (after_all app t one.shown) (sees_all app (sees app x.seen Ticked) one.shown) =
+      subst (λ u. StateWell app u (sees_all app (sees app x.seen Ticked) one.shown)) (after_ones app one.shown t)
+      (subst (λ ls. StateWell app (after_moves app t (ones one.shown))
       (sees_all app (sees app x.seen Ticked) ls)) (things_ones one.shown)
-      (well_after app accepted (ones one.shown) s (sees app x.seen Ticked) ticked
-      (runs_ones app one.shown s one.runs))) in
+      (well_after app accepted (ones one.shown) t (sees app x.seen Ticked) ticked
+      (runs_ones app one.shown t one.runs))) in
       let shown : ((tick (core_of app.bits m)).1 ≡ []) ⊎ ((tick (core_of app.bits m)).1 ≡ Rang ∷ []) =
       rings (record (core_of app.bits m) { time = suc m.time }) m.alarm in
       let given : (tick (core_of app.bits m)).1 ≡ one.shown =
       ap (λ (r : Core × List Label). r.1) one.is in
-      let jobs : (after_all app s one.shown).jobs ≡ (state_of m).jobs = elim shown [
-        | inl none ↦ ap (λ ls. (after_all app s ls).jobs) (sym given ∙ none)
-        | inr rang ↦ ap (λ ls. (after_all app s ls).jobs) (sym given ∙ rang)
+      let jobs : (after_all app t one.shown).jobs ≡ (state_of m).jobs = elim shown [
+        | inl none ↦ ap (λ ls. (after_all app t ls).jobs) (sym given ∙ none)
+        | inr rang ↦ ap (λ ls. (after_all app t ls).jobs) (sym given ∙ rang)
       ] in
       let tail : map job_of one.coupling.below ≡ map job_of m.below =
-      ap (λ (t : State). drop 1 t.jobs) (sym one.state) ∙ ap (drop 1) jobs in
+      ap (λ (u : State). drop 1 u.jobs) (sym one.state) ∙ ap (drop 1) jobs in
+      let labels : (tick c).1 ≡ one.shown = ap (λ (d : Core). (tick d).1) x.is ∙ given in
       record {
-        coupling = one.coupling;
-        seen = sees_all app (sees app x.seen Ticked) one.shown;
-        is = ap (λ (d : Core). (tick d).0) x.is ∙ ap (λ (r : Core × List Label). r.0) one.is;
-        invariant = one.invariant;
-        well = subst (λ t. StateWell app t (sees_all app (sees app x.seen Ticked) one.shown)) one.state rung;
-        few = let values = ap armings one.values in omega (arith, one.time, values, x.few);
-        left = x.left ∙ ap (bases_of app) (sym tail);
+        runs = subst (λ u. RunsOn app u (Ticked ∷ (tick c).1)) (sym x.state)
+            (refl, subst (RunsOn app t) (sym labels) one.runs);
+        behind = record {
+          coupling = one.coupling;
+          seen = sees_all app (sees app x.seen Ticked) one.shown;
+          is = ap (λ (d : Core). (tick d).0) x.is ∙ ap (λ (r : Core × List Label). r.0) one.is;
+          state = ap (λ u. after_all app u (Ticked ∷ (tick c).1)) x.state ∙ ap (after_all app t) labels ∙ one.state;
+          invariant = one.invariant;
+          well = subst (λ u. StateWell app u (sees_all app (sees app x.seen Ticked) one.shown)) one.state rung;
+          few = let values = ap armings one.values in omega (arith, one.time, values, x.few);
+          left = x.left ∙ ap (bases_of app) (sym tail);
+        };
       }
 
   -- a step does, to a coupling of which the invariant holds and whose state is that after what was shown
-  module _ (n : ℕ) (bases : List ℕ) (c : Core) (x : Coupled n bases c) (core : Core) (shown : Option What)
-      (is : step img (core_of app.bits x.coupling) ≡ (core, shown))
+  module _ (s : State) (n : ℕ) (bases : List ℕ) (c : Core) (x : Coupled s n bases c) (core : Core)
+      (shown : Option What) (is : step img (core_of app.bits x.coupling) ≡ (core, shown))
       (may : May app (state_of x.coupling) (Stepped shown)) (m : Coupling)
       (invariant : CouplingInvariant app img is_image.at.idle m)
       (state : after app (state_of x.coupling) (Stepped shown) ≡ state_of m)
@@ -170,6 +184,9 @@ module _ (app : App) (img : Image) (accepted : IsAccepted app) (is_image : IsIma
     pub happened : Happens app (state_of x.coupling) x.seen (Stepped shown)
         (after app (state_of x.coupling) (Stepped shown)) (sees app x.seen (Stepped shown))
     happened = happens app accepted (state_of x.coupling) x.seen x.well (Stepped shown) may
+
+    shown_is : (step img c).1 ≡ shown
+    shown_is = ap (λ (e : Core). (step img e).1) x.is ∙ ap (λ (r : Core × Option What). r.1) is
 
     jobs_are : (after app (state_of x.coupling) (Stepped shown)).jobs ≡ jobs_of m.running m.below
     jobs_are = ap (λ (t : State). t.jobs) state
@@ -182,16 +199,18 @@ module _ (app : App) (img : Image) (accepted : IsAccepted app) (is_image : IsIma
     before_long = ap suc (length-map x.coupling.below job_of)
 
     pub coupled_behind : (d : Core) → d ≡ core_of app.bits m → (others : List ℕ)
-        → others ≡ bases_of app (map job_of m.below) → Coupled (n + arming_in (step img c).1) others d
+        → others ≡ bases_of app (map job_of m.below)
+        → Coupled (after app s (Stepped (step img c).1)) (n + arming_in (step img c).1) others d
     coupled_behind d core_is others left = record {
       coupling = m;
       seen = sees app x.seen (Stepped shown);
       is = core_is;
+      state = ap (λ t. after app t (Stepped (step img c).1)) x.state
+          ∙ ap (λ o. after app (state_of x.coupling) (Stepped o)) shown_is ∙ state;
       invariant = invariant;
       well = subst (λ t. StateWell app t (sees app x.seen (Stepped shown))) state
           (next_well app accepted (state_of x.coupling) x.seen (Stepped shown) x.well may);
-      few = let given : arming_in (step img c).1 ≡ arming_in shown =
-          ap (λ (e : Core). arming_in (step img e).1) x.is ∙ ap (λ (r : Core × Option What). arming_in r.1) is in
+      few = let given : arming_in (step img c).1 ≡ arming_in shown = ap arming_in shown_is in
           let more = armings_shown app accepted (state_of x.coupling) x.seen x.well (Stepped shown) may in
           let values = ap (λ (t : State). armings t.values) state in
           omega (arith, given, more, values, timed, x.few);

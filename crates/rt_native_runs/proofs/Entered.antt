@@ -8,7 +8,8 @@ use Rattle.std.specs.List.{AllByRecursion}
 use Rattle.std.proofs.lemmas.Bool.{eqb-true}
 use Rattle.std.proofs.lemmas.Option.{none-some, same_Some}
 use Rattle.rt_lemmas.proofs.Indices.{there_is}
-use Rattle.rt_lemmas.proofs.Lists.{AreFrom, all_append, all_front, all_behind, all_from, first_from, mapped_at, rest_from}
+use Rattle.rt_lemmas.proofs.Lists.{AreFrom, all_append, all_front, all_behind, all_from, first_from, mapped_at}
+use Rattle.rt_lemmas.proofs.Lists.{rest_from}
 use Rattle.rt_lemmas.proofs.Membership.{all_at, contains_at, contains_cases, contains_here, contains_none}
 use Rattle.rt_ids.specs.declared.ids.BodyId.TheVariants as body
 use Rattle.rt_app.specs.declared.app.IrqDecl.{IrqDecl}

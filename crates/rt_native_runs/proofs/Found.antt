@@ -1,5 +1,5 @@
--- Which frame ends at an address, by the parts that begin before it: within the addresses of a part that is of a row, it
--- is the frame of that row; and where no part begins between two addresses, it is the same at both.
+-- Which frame ends at an address, by the parts that begin before it: within the addresses of a part that has a row it
+-- is the frame of that row, and where no part begins between two addresses it is the same at both.
 use Rattle.std.proofs.Common.{◌≡◌, ◌⊎◌, ℕ, zero, suc, ◌<◌, ◌≤◌, ◌&&◌, nat_le, Bool, true, false, List, [], ◌∷◌, fold}
 use Rattle.std.proofs.Common.{slice_get, Option, Some, None, IfSome, refl, sym, ap, subst, ◌∙◌, arith, inl, inr}
 use Rattle.std.proofs.Common.{if◌then◌else◌}
@@ -159,8 +159,10 @@ frame_of_row row = Some (record { entry = row.entry; words = row.frame })
 
 -- a translator's frames are these
 handlers_fold : (n : ℕ) (rows : List IrqRow) (entry words : ℕ)
-    → (fold (λ found row. native.later_handler n found row.handler) (record { entry = entry; words = words }) rows).words
-    ≡ (fold (step (λ (row : IrqRow). frame_of_handler row.handler) n) (record { entry = entry; words = words }) rows).words
+    → (fold (λ found row. native.later_handler n found row.handler) (record { entry = entry; words = words })
+    rows).words
+    ≡ (fold (step (λ (row : IrqRow). frame_of_handler row.handler) n) (record { entry = entry; words = words })
+    rows).words
 handlers_fold n [] entry words = refl
 handlers_fold n (row ∷ rows) entry words = go row.handler (λ entry words. handlers_fold n rows entry words)
   where
@@ -238,7 +240,8 @@ AreBodiesOnly from behind words rows =
     (λ row. (row.entry < from) ⊎ (((row.entry ≡ from) × (row.frame ≡ words)) ⊎ (behind ≤ row.entry))) rows
 
 module _ (rows : List IrqRow) where
-  seen : (P : Frame → Type 0) (Q : Handler → Type 0) → ((h : Handler) → Q h → P (record { entry = h.entry; words = h.frame }))
+  seen : (P : Frame → Type 0) (Q : Handler → Type 0)
+      → ((h : Handler) → Q h → P (record { entry = h.entry; words = h.frame }))
       → (xs : List IrqRow) → AllByRecursion (λ row. IfSome row.handler Q) xs
       → AllByRecursion (λ row. IfSome (frame_of_handler row.handler) P) xs
   seen P Q on [] all = tt
@@ -265,7 +268,8 @@ module _ (rows : List IrqRow) where
       ∙ found_fold (λ (row : IrqRow). frame_of_handler row.handler) n from behind words low high rows
       (seen (IsOnly from behind words)
       (λ h. (h.entry < from) ⊎ (((h.entry ≡ from) × (h.frame ≡ words)) ⊎ (behind ≤ h.entry))) (λ h has. has) rows only)
-      no_frame (omega arith) k row (record { entry = h.entry; words = h.frame }) there (ap frame_of_handler is) begins has
+      no_frame (omega arith) k row (record { entry = h.entry; words = h.frame }) there (ap frame_of_handler is)
+      begins has
 
 module _ (rows : List BodyRow) where
   pub same_body : (n m from behind : ℕ) → from ≤ n → n < behind → from ≤ m → m < behind

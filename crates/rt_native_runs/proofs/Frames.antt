@@ -44,7 +44,7 @@ use Rattle.rt_trace.specs.declared.item.What.TheVariants as what
 use Rattle.rt_laws.specs.Allowed.{after, state_after_start}
 use Rattle.rt_laws.specs.Observer.{first_sight}
 use Rattle.rt_laws.specs.Preemption.{candidate}
-use Rattle.rt_laws.specs.State.{reached_values}
+use Rattle.rt_laws.specs.State.{State, first, reached_values}
 use Rattle.rt_laws.proofs.Armings.{first_armings}
 use Rattle.rt_laws.proofs.Happens.{first_well}
 use Rattle.rt_native_laws.specs.Moments.{with_frame}
@@ -54,7 +54,8 @@ use Rattle.rt_sim.specs.Inside.PartInvariant.{who}
 use Rattle.rt_sim.specs.Inside.States.{contexts, contexts_of, core_of, state_of}
 use Rattle.rt_sim.proofs.Armed.{arming_in}
 use Rattle.rt_sim.proofs.Bodies.{init_respects, idle_respects, task_respects, dispatcher_respects, timer_respects}
-use Rattle.rt_sim.proofs.Calls.{agrees_back, callable_by, in_body, invariant_called, long_body, not_alone, room_for_body}
+use Rattle.rt_sim.proofs.Calls.{agrees_back, callable_by, in_body, invariant_called, long_body, not_alone}
+use Rattle.rt_sim.proofs.Calls.{room_for_body}
 use Rattle.rt_sim.proofs.Fitting.{Fits}
 use Rattle.rt_sim.proofs.Keepers.{keepers_apart, kept_is_held}
 use Rattle.rt_sim.proofs.Starting.{first_coupling, invariant_first, stands_first}
@@ -70,7 +71,7 @@ use Rattle.rt_native_runs.proofs.Words.{invariant_words, with_words}
 module _ (app : App) (img : Image) (accepted : IsAccepted app) (is_image : IsImageOf app img) where
   -- after reset, whatever the thread's frame holds
   pub coupled_reset : (words : List ℕ) → length words ≡ img.thread_words
-      → Coupled app img accepted is_image 0 [] (with_frame words (reset img))
+      → Coupled app img accepted is_image (first app) 0 [] (with_frame words (reset img))
   coupled_reset words long =
       let sound = accepted_are_sound app accepted in
       let respects = init_respects app accepted sound in
@@ -81,6 +82,7 @@ module _ (app : App) (img : Image) (accepted : IsAccepted app) (is_image : IsIma
             (first_coupling app img accepted sound is_image respects);
         seen = first_sight app;
         is = refl;
+        state = refl;
         invariant = invariant_words app img is_image.at.idle
             (first_coupling app img accepted sound is_image respects) words
             (invariant_first app img accepted sound is_image respects) refl
@@ -91,15 +93,17 @@ module _ (app : App) (img : Image) (accepted : IsAccepted app) (is_image : IsIma
         left = refl;
       }
 
-  module _ (n : ℕ) (bases : List ℕ) (c : Core) (x : Coupled app img accepted is_image n bases c) (fit : Fits app n) where
+  module _ (s : State) (n : ℕ) (bases : List ℕ) (c : Core) (x : Coupled app img accepted is_image s n bases c)
+      (fit : Fits app n) where
     -- an interrupt is taken
     pub record Took (row : IrqRow) : Type 0 where
       pub handler : Handler
       pub enabled : row.handler ≡ Some handler
       pub is : (step img c).0 ≡ core_after_entry c row.number handler
-      pub unarmed : arming_in (step img c).1 ≡ 0
+      pub shown : (step img c).1 ≡ Some (what.Take row.number (depth img (core_after_entry c row.number handler)))
       pub behind : (words : List ℕ) → length words ≡ handler.frame
-          → Coupled app img accepted is_image (n + arming_in (step img c).1) (c.processor.basepri ∷ bases)
+          → Coupled app img accepted is_image (after app s (Stepped (step img c).1)) (n + arming_in (step img c).1)
+          (c.processor.basepri ∷ bases)
           (with_frame words (core_after_entry c row.number handler))
 
     pub coupled_entry : (row : IrqRow) → pick img c ≡ Some row → Took row
@@ -122,11 +126,11 @@ module _ (app : App) (img : Image) (accepted : IsAccepted app) (is_image : IsIma
           core_after_entry c row.number h,
           Some (what.Take row.number (depth img (core_after_entry c row.number h))),
         ) =
-        steps_by_cause.entry img c row (runs app img accepted is_image n bases c x fit) picked
+        steps_by_cause.entry img c row (runs app img accepted is_image s n bases c x fit) picked
         ∙ ap (λ o. settle (exception_entry img c row.number o)) taking.handler
         ∙ ap (λ b. settle (if b then Done (core_after_entry c row.number h)
         (Some (what.Take row.number (depth img (core_after_entry c row.number h)))) else Trapped c trap.Stack)) room in
-        let all = both app img accepted is_image n bases c x fit in
+        let all = both app img accepted is_image s n bases c x fit in
         let shown : all.shown ≡ Some (what.Take row.number (depth img (core_after_entry c row.number h))) =
         ap (λ (r : Core × Option What). r.1) (sym all.is) ∙ ap (λ (d : Core). (step img d).1) (sym x.is)
         ∙ ap (λ (r : Core × Option What). r.1) stepped in
@@ -147,17 +151,17 @@ module _ (app : App) (img : Image) (accepted : IsAccepted app) (is_image : IsIma
           handler = h;
           enabled = taking.handler;
           is = ap (λ (r : Core × Option What). r.0) stepped;
-          unarmed = ap (λ (r : Core × Option What). arming_in r.1) stepped;
+          shown = ap (λ (r : Core × Option What). r.1) stepped;
           behind = λ words long.
               let stands = taking.has.code words m.cells m.queues m.values long x.invariant.memory
               (kept_represented app img is_image.at.idle is_image.at accepted.limits.least_bits
               accepted.limits.most_bits (keepers_apart app accepted sound) (kept_is_held app accepted sound)
               row.number v taking.serves taking.has m x.invariant taking.above) in
-              coupled_behind app img accepted is_image n bases c x all.core all.shown all.is all.may
+              coupled_behind app img accepted is_image s n bases c x all.core all.shown all.is all.may
               (with_words app img is_image.at.idle words start)
               (invariant_words app img is_image.at.idle start words strict refl
               (long ∙ sym (length-replicate h.frame 0)) stands) state
-              (time_stays app img accepted is_image n bases c x fit (with_words app img is_image.at.idle words start)
+              (time_stays app img accepted is_image s n bases c x fit (with_words app img is_image.at.idle words start)
               state)
               (with_frame words (core_after_entry c row.number h))
               (ap (λ (d : Core). with_frame words (core_after_entry d row.number h)) x.is)
@@ -177,9 +181,9 @@ module _ (app : App) (img : Image) (accepted : IsAccepted app) (is_image : IsIma
         (timer_respects app accepted sound) x.coupling x.invariant (ap (pick img) (sym x.is) ∙ picked)
 
     shown_is : (shown : Option What) → (step img c).1 ≡ shown
-        → (both app img accepted is_image n bases c x fit).shown ≡ shown
+        → (both app img accepted is_image s n bases c x fit).shown ≡ shown
     shown_is shown is =
-        ap (λ (r : Core × Option What). r.1) (sym (both app img accepted is_image n bases c x fit).is)
+        ap (λ (r : Core × Option What). r.1) (sym (both app img accepted is_image s n bases c x fit).is)
         ∙ ap (λ (d : Core). (step img d).1) (sym x.is) ∙ is
 
     -- a body is called
@@ -194,8 +198,8 @@ module _ (app : App) (img : Image) (accepted : IsAccepted app) (is_image : IsIma
       pub long : length (core_after_call c body from).processor.slots ≡ body.frame
       pub is : step img c ≡ (core_after_call c body from, None)
       pub behind : (words : List ℕ) → IsAlikeUpTo body.args (core_after_call c body from).processor.slots words
-          → Coupled app img accepted is_image (n + arming_in (step img c).1) bases
-          (with_frame words (core_after_call c body from))
+          → Coupled app img accepted is_image (after app s (Stepped (step img c).1)) (n + arming_in (step img c).1)
+          bases (with_frame words (core_after_call c body from))
 
     pub coupled_call : (row from : ℕ) (told : Option Note) → pick img c ≡ None
         → slice_get img.code c.processor.address ≡ Some (instr.Call row from, told) → Called row from
@@ -252,7 +256,7 @@ module _ (app : App) (img : Image) (accepted : IsAccepted app) (is_image : IsIma
 
         stepped : step img c ≡ (core_after_call c here.1.called from, None)
         stepped =
-            steps_by_cause.line img c (instr.Call row from, told) (runs app img accepted is_image n bases c x fit)
+            steps_by_cause.line img c (instr.Call row from, told) (runs app img accepted is_image s n bases c x fit)
             picked at
             ∙ ap (λ t. settle (go_on img c t (effect (instr.Call row from) c.time c.processor))) here.0
             ∙ ap (λ b. settle (if b then call_row img c (slice_get img.bodies row) from else Trapped c trap.Stack)) may
@@ -264,7 +268,7 @@ module _ (app : App) (img : Image) (accepted : IsAccepted app) (is_image : IsIma
         by : (bs : List Context) → c.below ≡ bs → Called row from
         by [] is = absurd (false≢true (sym deep ∙ ap is_empty is))
         by (first ∷ others) is =
-            let all = both app img accepted is_image n bases c x fit in
+            let all = both app img accepted is_image s n bases c x fit in
             let shown : all.shown ≡ None = shown_is None (ap (λ (r : Core × Option What). r.1) stepped) in
             record {
               body = here.1.called;
@@ -288,7 +292,7 @@ module _ (app : App) (img : Image) (accepted : IsAccepted app) (is_image : IsIma
                   here.1.called from) words =
                   subst (λ (d : Core). IsAlikeUpTo here.1.called.args
                   (core_after_call d here.1.called from).processor.slots words) x.is alike in
-                  coupled_behind app img accepted is_image n bases c x all.core all.shown all.is all.may
+                  coupled_behind app img accepted is_image s n bases c x all.core all.shown all.is all.may
                   (record x.coupling {
                     running = in_body app img is_image.at.idle x.coupling.running here.1.called
                         words line.steps;
@@ -329,9 +333,9 @@ module _ (app : App) (img : Image) (accepted : IsAccepted app) (is_image : IsIma
       pub others : List Context
       pub below : c.below ≡ first ∷ others
       pub is : (step img c).0 ≡ in_frame c frame
-      pub unarmed : arming_in (step img c).1 ≡ 0
       pub behind : (words : List ℕ) → IsAlikeUpTo (last_slot frame) frame words
-          → Coupled app img accepted is_image (n + arming_in (step img c).1) bases (with_frame words (in_frame c frame))
+          → Coupled app img accepted is_image (after app s (Stepped (step img c).1)) (n + arming_in (step img c).1)
+          bases (with_frame words (in_frame c frame))
 
     pub coupled_back : (told : Option Note) → pick img c ≡ None
         → slice_get img.code c.processor.address ≡ Some (instr.Back, told) → CameBackTo
@@ -352,10 +356,10 @@ module _ (app : App) (img : Image) (accepted : IsAccepted app) (is_image : IsIma
         line.steps (configuration_of x.coupling.cells x.coupling.queues x.coupling.running) line.stands in
         let caller : c.caller ≡ Some back.frame = ap (λ (d : Core). d.caller) x.is ∙ back.caller in
         let stepped : step img c ≡ (in_frame c back.frame, Some (what.End (body.Task t))) =
-        steps_by_cause.line img c (instr.Back, told) (runs app img accepted is_image n bases c x fit) picked at
+        steps_by_cause.line img c (instr.Back, told) (runs app img accepted is_image s n bases c x fit) picked at
         ∙ ap (λ n. settle (go_on img c n (effect instr.Back c.time c.processor))) here.1
         ∙ ap (λ o. settle (with_note img (Some (note.End (body.Task t))) (back_to c o))) caller in
-        let all = both app img accepted is_image n bases c x fit in
+        let all = both app img accepted is_image s n bases c x fit in
         let shown : all.shown ≡ Some (what.End (body.Task t)) =
         shown_is (Some (what.End (body.Task t))) (ap (λ (r : Core × Option What). r.1) stepped) in
         let deep = has_interrupted x.coupling.running x.coupling.below back.frame back.caller x.invariant.stack in
@@ -368,7 +372,6 @@ module _ (app : App) (img : Image) (accepted : IsAccepted app) (is_image : IsIma
           others = deep.1;
           below = interrupted ∙ deep.2;
           is = ap (λ (r : Core × Option What). r.0) stepped;
-          unarmed = ap (λ (r : Core × Option What). arming_in r.1) stepped;
           behind = λ words alike.
               let agrees = agrees_back app img is_image.at.idle accepted.limits.most_bits is_image.tables.fpu
               is_image.tables.stack x.coupling x.invariant line.works line.steps (quiet picked) left t back words
@@ -377,12 +380,12 @@ module _ (app : App) (img : Image) (accepted : IsAccepted app) (is_image : IsIma
               ap (λ o. after app (state_of x.coupling) (Stepped o)) shown ∙ agrees.state in
               let core : with_frame words (in_frame c back.frame) ≡ core_of app.bits agrees.coupling =
               ap (λ (d : Core). with_frame words (in_frame d back.frame)) x.is ∙ agrees.core in
-              let timed = time_stays app img accepted is_image n bases c x fit agrees.coupling state in
+              let timed = time_stays app img accepted is_image s n bases c x fit agrees.coupling state in
               let deep : length agrees.coupling.below ≡ length x.coupling.below =
               sym (ap (λ (d : Core). length d.below) core ∙ contexts_long app.bits agrees.coupling.below _ _)
               ∙ ap (λ (d : Core). length d.below) x.is ∙ contexts_long app.bits x.coupling.below _ _ in
-              coupled_behind app img accepted is_image n bases c x all.core all.shown all.is all.may
+              coupled_behind app img accepted is_image s n bases c x all.core all.shown all.is all.may
               agrees.coupling agrees.invariant state timed (with_frame words (in_frame c back.frame)) core bases
-              (left_stays app img accepted is_image n bases c x all.core all.shown all.is all.may agrees.coupling
+              (left_stays app img accepted is_image s n bases c x all.core all.shown all.is all.may agrees.coupling
               agrees.invariant state timed deep);
         }

@@ -7,8 +7,9 @@ use Rattle.rt_app.specs.declared.expr.Atom.{Atom}
 use Rattle.rt_app.specs.declared.expr.Atom.TheVariants as atom
 use Rattle.rt_app.specs.Holding.{arguments_of}
 use Rattle.rt_app.specs.Level.{is_software}
-use Rattle.rt_app.specs.Tree.{App, Expression, Num, Read, Oper, Spawn, Soon, After, Cancel, Move, Value, Calc, Now, Call}
-use Rattle.rt_app.specs.Tree.{Statement, Bind, Assign, Branch, Repeat, Locked, Emit, Pend, Spawns, Block, Empty, Then}
+use Rattle.rt_app.specs.Tree.{App, Expression, Num, Read, Oper, Spawn, Soon, After, Cancel, Move, Value, Calc, Now}
+use Rattle.rt_app.specs.Tree.{Call, Statement, Bind, Assign, Branch, Repeat, Locked, Emit, Pend, Spawns, Block, Empty}
+use Rattle.rt_app.specs.Tree.{Then}
 use Rattle.rt_code.specs.declared.instr.Instr.TheVariants as instr
 use Rattle.rt_gen_queue.specs.Line.{Line, plain}
 use Rattle.rt_gen_queue.specs.Guards.{enter_line, leave_line}

@@ -1,7 +1,7 @@
 -- The code of dispatchers and of the timer handler leads to addresses of the part that it is.
-use Rattle.std.proofs.Common.{◌≡◌, ◌⊎◌, ℕ, zero, suc, ◌-◌, ◌+◌, ◌<◌, ◌≤◌, ◌==◌, ◌&&◌, Bool, true, false, List, [], ◌∷◌, ◌++◌}
-use Rattle.std.proofs.Common.{slice_get, Option, Some, None, IsSome, if◌then◌else◌, length, length-append, append-nil, refl, sym}
-use Rattle.std.proofs.Common.{ap, subst, ◌∙◌, arith, inl, inr}
+use Rattle.std.proofs.Common.{◌≡◌, ◌⊎◌, ℕ, zero, suc, ◌-◌, ◌+◌, ◌<◌, ◌≤◌, ◌==◌, ◌&&◌, Bool, true, false, List, [], ◌∷◌}
+use Rattle.std.proofs.Common.{◌++◌, slice_get, Option, Some, None, IsSome, if◌then◌else◌, length, length-append}
+use Rattle.std.proofs.Common.{append-nil, refl, sym, ap, subst, ◌∙◌, arith, inl, inr}
 use Rattle.std.specs.List.{range_with_len}
 use Rattle.std.proofs.lemmas.Bool.{cases_Bool, eqb-true, eqb-false}
 use Rattle.std.proofs.lemmas.Option.{none-some, same_Some, slice_get_within}
@@ -46,7 +46,8 @@ greatest_passes test n k within passes = go (last_below test n) refl (last_there
         subst (λ m. test m ≡ true) same (last_passes test n last is)
 
 -- the task of a number that passes
-task_at : (test : Task → Bool) (o : Option Task) → is_some_and test o ≡ true → (t : Task) × (o ≡ Some t) × (test t ≡ true)
+task_at : (test : Task → Bool) (o : Option Task) → is_some_and test o ≡ true
+    → (t : Task) × (o ≡ Some t) × (test t ≡ true)
 task_at test None is = absurd (cc)
 task_at test (Some t) is = (t, refl, is)
 
@@ -114,7 +115,8 @@ module _ (p : Part) (calls : p.calls ≡ true) (app : App) (level : ℕ) where
     another n t there of differs =
         let passes : is_at_level level app.tasks n ≡ true = ap (is_some_and (is_of_level level)) there ∙ of in
         let found = task_at (is_of_level level) (slice_get app.tasks (last_of level app.tasks))
-        (greatest_passes (is_at_level level app.tasks) (length app.tasks) n (slice_get_within app.tasks n t there) passes)
+        (greatest_passes (is_at_level level app.tasks) (length app.tasks) n
+        (slice_get_within app.tasks n t there) passes)
         in
         let least = last_past level app.tasks n there of in
         let other = eqb-false n exit.last differs in (

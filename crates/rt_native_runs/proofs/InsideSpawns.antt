@@ -15,7 +15,8 @@ use Rattle.rt_gen_timer.specs.TimerLines as lines
 use Rattle.rt_gen_timer.specs.declared.armed.ArmedTask.{ArmedTask}
 use Rattle.rt_gen_timer.specs.declared.queue.TimerQueue.{TimerQueue}
 use Rattle.rt_gen_timer.specs.declared.slots.TheConstants as slots
-use Rattle.rt_native_runs.proofs.Inside.{Part, IsInside, IsFine, Fine, none, line_then, both, each, enter_fine, leave_fine}
+use Rattle.rt_native_runs.proofs.Inside.{Part, IsInside, IsFine, Fine, none, line_then, both, each, enter_fine}
+use Rattle.rt_native_runs.proofs.Inside.{leave_fine}
 
 module _ (p : Part) where
   fill_fine : (c : Target) (slot : ℕ) → Fine p (fill_lines c slot)
@@ -191,7 +192,8 @@ module _ (p : Part) where
           let free : List Line = lines.free_lines q slot threshold a.target in
           let missing : List Line = lines.missing_lines q slot threshold (at + 91) in
           both p find (remove ++ told ∷ (alarm ++ (place ++ (free ++ missing))))
-          (find_fine a slots.ANSWER (at + 89) at (record { front = omega arith; back = omega arith }) front (omega arith))
+          (find_fine a slots.ANSWER (at + 89) at (record { front = omega arith; back = omega arith }) front
+          (omega arith))
           (both p remove (told ∷ (alarm ++ (place ++ (free ++ missing))))
           (remove_fine (at + 17) (omega arith) (omega arith))
           (line_then p told (alarm ++ (place ++ (free ++ missing))) tt
@@ -229,7 +231,10 @@ module _ (p : Part) where
           (record {
             claimed = (
               enters,
-              (record { front = omega arith; back = omega arith }, (record { front = omega arith; back = omega arith }, tt)),
+              (
+                record { front = omega arith; back = omega arith },
+                (record { front = omega arith; back = omega arith }, tt),
+              ),
             );
           })
           (both p alarm (idle ++ remove) (alarm_fine (at + 10) (omega arith) (omega arith))

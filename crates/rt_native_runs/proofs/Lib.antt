@@ -18,9 +18,14 @@ pub mod Found
 pub mod Closed
 pub mod Entered
 pub mod Lies
+pub mod Refilled
 pub mod Filled
 pub mod Going
 pub mod Cells
+pub mod Leaving
 pub mod NotBegun
 pub mod Writing
 pub mod Behaving
+pub mod Chips
+pub mod Following
+pub mod Running

@@ -144,7 +144,8 @@ module _ (app : App) (accepted : IsAccepted app) (img : Image) (built : IsBuilt 
   abutting =
       regions app at [] (length thread) (entered app) split.others tt
       (all_weaker (IsKnown app) (λ q. (from : ℕ) (own : List Line) → IsPartAt app at q from own → 1 ≤ length own)
-      (λ q is from own here. ends_some own (part_closed app q from own is here.are).ends) (entered app) known) split.rest
+      (λ q is from own here. ends_some own (part_closed app q from own is here.are).ends)
+      (entered app) known) split.rest
 
   -- the first address of a part that a table leads to, with the words of its frame
   record IsEntry (entry frame : ℕ) : Type 0 where

@@ -26,7 +26,7 @@ use Rattle.rt_gen_body.proofs.Owning.{local_cell}
 use Rattle.rt_inputs.proofs.Unused.{its_priority_keeps, served_at}
 use Rattle.rt_laws.specs.Observer.{Seen}
 use Rattle.rt_laws.specs.Services.{priority_of}
-use Rattle.rt_laws.specs.State.{Serving}
+use Rattle.rt_laws.specs.State.{Serving, State}
 use Rattle.rt_laws.proofs.Well.{IsAbove, StackWell}
 use Rattle.rt_native.specs.declared.target.Input.{Input}
 use Rattle.rt_native_laws.specs.Moments.{Last, Began, HasBegun, Moment, Taking}
@@ -107,8 +107,9 @@ module _ (app : App) (img : Image) (accepted : IsAccepted app) (is_image : IsIma
   all_apart p [] stack = tt
   all_apart p (q ∷ ps) stack = stack.0.apart
 
-  module _ (inputs : List Input) (given : AllByRecursion (WritesLocal app) inputs) (n : ℕ) (bases : List ℕ) (c : Core)
-      (x : Coupled app img accepted is_image n bases c) (fit : Fits app n) (takings : List Taking) where
+  module _ (inputs : List Input) (given : AllByRecursion (WritesLocal app) inputs) (b : State) (n : ℕ)
+      (bases : List ℕ) (c : Core) (x : Coupled app img accepted is_image b n bases c) (fit : Fits app n)
+      (takings : List Taking) where
     abbrev m : Coupling
     m = x.coupling
 

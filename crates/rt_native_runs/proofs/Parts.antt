@@ -17,7 +17,6 @@ use Rattle.rt_code.specs.declared.processor.Request.{Request}
 use Rattle.rt_code.specs.declared.processor.Request.TheVariants as request
 use Rattle.rt_code.proofs.Asking.{done_leads}
 use Rattle.rt_code.proofs.Touching.{slots_after, slots_sized}
-use Rattle.rt_core.specs.declared.alarm.Alarm.{Alarm}
 use Rattle.rt_core.specs.Core.{Core, Context}
 use Rattle.rt_core.specs.Note.{item_of_note}
 use Rattle.rt_core.specs.Outcome.{Outcome, Trapped, Done, settle}
@@ -183,7 +182,10 @@ module _ (img : Image) where
         (all_at (λ r. IfSome r.handler (λ k. k.frame % 2 ≡ 0)) img.irqs row lies.even.handlers
         (picked_row img c row picked).0) in
         record {
-          running = ((ap (λ n. n % 2) (length-replicate h.frame 0) ∙ even, refl), words ∙ sym (length-replicate h.frame 0));
+          running = (
+            (ap (λ n. n % 2) (length-replicate h.frame 0) ∙ even, refl),
+            words ∙ sym (length-replicate h.frame 0),
+          );
           others = (lie.running, lie.others);
         }
 

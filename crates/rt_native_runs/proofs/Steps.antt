@@ -21,7 +21,7 @@ use Rattle.rt_core.proofs.Keeping.{step_keeps_time}
 use Rattle.rt_trace.specs.Label.{Stepped}
 use Rattle.rt_trace.specs.declared.item.What.{What}
 use Rattle.rt_trace.specs.declared.item.What.TheVariants as what
-use Rattle.rt_laws.specs.Allowed.{after}
+use Rattle.rt_laws.specs.Allowed.{May, after}
 use Rattle.rt_laws.specs.State.{State}
 use Rattle.rt_sim.specs.Inside.Agrees.{StepsBoth}
 use Rattle.rt_sim.specs.Inside.Coupling.{Coupling, jobs_of, whereabouts_of}
@@ -36,13 +36,20 @@ use Rattle.rt_native_runs.proofs.Parts.{GoesTo, goes_to}
 use Rattle.rt_native_runs.proofs.Sorts.{IsOther}
 
 module _ (app : App) (img : Image) (accepted : IsAccepted app) (is_image : IsImageOf app img) where
-  module _ (n : ℕ) (bases : List ℕ) (c : Core) (x : Coupled app img accepted is_image n bases c) (fit : Fits app n) where
+  module _ (s : State) (n : ℕ) (bases : List ℕ) (c : Core) (x : Coupled app img accepted is_image s n bases c)
+      (fit : Fits app n) where
     fit_in : FitIn app x.coupling
     fit_in mono is = let most = fit mono is in omega (arith, most, x.few)
 
     pub both : StepsBoth app img is_image.at.idle (core_of app.bits x.coupling) (state_of x.coupling)
         (whereabouts_of x.coupling)
     both = steps_both app img accepted is_image x.coupling x.invariant x.well.queued fit_in
+
+    -- Baker's machine may do it too
+    pub may : May app s (Stepped (step img c).1)
+    may = subst (λ t. May app t (Stepped (step img c).1)) (sym x.state)
+        (subst (λ o. May app (state_of x.coupling) (Stepped o))
+        (sym (ap (λ (d : Core). (step img d).1) x.is ∙ ap (λ (r : Core × Option What). r.1) both.is)) both.may)
 
     pub goes_on : (step img c).0.stopped ≡ false
     goes_on = ap (λ (d : Core). (step img d).0.stopped) x.is ∙ ap (λ (r : Core × Option What). r.0.stopped) both.is
@@ -82,15 +89,17 @@ module _ (app : App) (img : Image) (accepted : IsAccepted app) (is_image : IsIma
     -- an instruction that asks for no frame
     pub coupled_plain : (i : Instr) (told : Option Note) → pick img c ≡ None
         → slice_get img.code c.processor.address ≡ Some (i, told) → IsOther i
-        → Coupled app img accepted is_image (n + arming_in (step img c).1) bases (step img c).0
+        → Coupled app img accepted is_image (after app s (Stepped (step img c).1)) (n + arming_in (step img c).1) bases
+        (step img c).0
     coupled_plain i told picked at other =
         let goes : GoesTo c (step img c).0 i = goes_to img c i told runs picked at other goes_on in
         let same : length both.agrees.coupling.below ≡ length x.coupling.below =
         sym deep_after ∙ ap length goes.below ∙ deep_before in
-        coupled_behind app img accepted is_image n bases c x both.core both.shown both.is both.may both.agrees.coupling
+        coupled_behind app img accepted is_image s n bases c x both.core both.shown both.is both.may
+        both.agrees.coupling
         both.agrees.invariant both.agrees.state (time_stays both.agrees.coupling both.agrees.state) (step img c).0
         core_steps bases
-        (left_stays app img accepted is_image n bases c x both.core both.shown both.is both.may both.agrees.coupling
+        (left_stays app img accepted is_image s n bases c x both.core both.shown both.is both.may both.agrees.coupling
         both.agrees.invariant both.agrees.state (time_stays both.agrees.coupling both.agrees.state) same)
 
     -- what a return leads to
@@ -100,7 +109,9 @@ module _ (app : App) (img : Image) (accepted : IsAccepted app) (is_image : IsIma
       pub below : c.below ≡ first ∷ others
       pub caller : c.caller ≡ None
       pub is : step img c ≡ (in_context c first others, Some (what.Ret first.irq))
-      pub behind : Coupled app img accepted is_image (n + arming_in (step img c).1) (drop 1 bases) (step img c).0
+      pub behind : Coupled app img accepted is_image (after app s (Stepped (step img c).1)) (n + arming_in
+          (step img c).1)
+          (drop 1 bases) (step img c).0
 
     pub coupled_return : (told : Option Note) → pick img c ≡ None
         → slice_get img.code c.processor.address ≡ Some (instr.Ret, told) → Returned
@@ -132,10 +143,10 @@ module _ (app : App) (img : Image) (accepted : IsAccepted app) (is_image : IsIma
               below = is;
               caller = caller;
               is = stepped;
-              behind = coupled_behind app img accepted is_image n bases c x both.core both.shown both.is both.may
+              behind = coupled_behind app img accepted is_image s n bases c x both.core both.shown both.is both.may
                   both.agrees.coupling both.agrees.invariant both.agrees.state
                   (time_stays both.agrees.coupling both.agrees.state) (step img c).0 core_steps (drop 1 bases)
-                  (left_falls app img accepted is_image n bases c x both.core both.shown both.is both.may
+                  (left_falls app img accepted is_image s n bases c x both.core both.shown both.is both.may
                   both.agrees.coupling both.agrees.invariant both.agrees.state
                   (time_stays both.agrees.coupling both.agrees.state) fewer);
             }

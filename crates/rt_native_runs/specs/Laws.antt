@@ -36,7 +36,8 @@ brings_tick happening = false
 -- the counts of the monotonic: ticks, and messages that are armed or moved
 abbrev pub counts : Image → List Happening → ℕ
 counts img happened =
-    count_by brings_tick happened + count_by (λ item. is_arming item.what) (items_of 0 (shown img (at_reset img) happened))
+    count_by brings_tick happened
+    + count_by (λ item. is_arming item.what) (items_of 0 (shown img (at_reset img) happened))
 
 -- What happens fits an application: each interrupt that arrives is declared, and the counts of its monotonic are below
 -- 2 ^ 31. Core steps and requests are not counted, and nothing is asked of an application without a monotonic.

@@ -7,6 +7,8 @@ mod Living
 mod Regions
 mod Saying
 mod Making
+mod Chips
+mod Wired
 mod Reading
 mod Explaining
 mod Bounding

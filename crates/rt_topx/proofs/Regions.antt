@@ -14,13 +14,13 @@ use Rattle.rt_target.specs.declared.fact.Fact.TheVariants.{Flash, Ram, Port, Tic
 use Rattle.rt_topx.specs.Target.{region_of}
 
 -- facts that can come one behind the other are in range
-in_ranges : (app : App) (before facts : List Fact) → CanGoOn app before facts
+pub in_ranges : (app : App) (before facts : List Fact) → CanGoOn app before facts
     → AllByRecursion (λ f. is_in_range f ≡ true) facts
 in_ranges app before [] on = tt
 in_ranges app before (f ∷ facts) on = (on.0.range, in_ranges app (before ++ f ∷ []) facts on.1)
 
 -- memory with an alignment begins at a multiple of it, and ends before the system's addresses
-memory_at : (alignment a n : ℕ) → is_memory_at alignment a n ≡ true
+pub memory_at : (alignment a n : ℕ) → is_memory_at alignment a n ≡ true
     → (a % alignment ≡ 0) × (a + n ≤ SYSTEM)
 memory_at alignment a n is =
     let front = and_left (a % alignment == 0 && nat_lt 0 n) (nat_le (a + n) SYSTEM) is in (
@@ -28,9 +28,11 @@ memory_at alignment a n is =
       leb-true (a + n) SYSTEM (and_right (a % alignment == 0 && nat_lt 0 n) (nat_le (a + n) SYSTEM) is),
     )
 
-region : (f : Fact) → is_in_range f ≡ true → IsRegion (region_of (Some f))
+pub region : (f : Fact) → is_in_range f ≡ true → IsRegion (region_of (Some f))
 region (Flash a n) is = let memory = memory_at TABLE a n is in (omega (arith, memory.0), omega (arith, memory.1))
-region (Ram a n) is = let memory = memory_at STACK a n is in (memory.0, omega (arith, memory.1))
+region (Ram a n) is =
+    let memory = memory_at STACK a n (and_right (nat_lt 0 a) (is_memory_at STACK a n) is) in
+    (memory.0, omega (arith, memory.1))
 region (Port a) is = (refl, omega arith)
 region (Tick n) is = (refl, omega arith)
 region (Bits n) is = (refl, omega arith)

@@ -4,6 +4,7 @@ ghost use Rattle.std.specs.Prelude.{◌≡◌, ◌≤◌, ℕ, List, length, Non
 ghost use Rattle.rt_ids.specs.declared.limits.TheConstants.{SCRIPT_BYTES};
 ghost use Rattle.rt_app.specs.Accepted.{IsAccepted};
 ghost use Rattle.rt_app.specs.View.{app_of};
+ghost use Rattle.rt_board.specs.Board.{AreInputs};
 ghost use Rattle.rt_build.specs.Accepted.{IsApplication};
 ghost use Rattle.rt_target.specs.{Chip.AreFacts, Reading.wanting};
 ghost use Rattle.rt_top.specs.Program.{inputs};
@@ -58,6 +59,7 @@ pub(crate) fn native<S: Source>(alloc: Global, app: &App, source: &mut S) -> Rep
 fn make(alloc: Global, app: &App, text: &[u8], setup: &Setup) -> Reply
     requires accepted { IsAccepted (app_of app.now) }
     requires facts { AreFacts (app_of app.now) setup.now.facts }
+    requires inputs { AreInputs (app_of app.now) setup.now.board.inputs }
     requires whole { wanting setup.now.facts ≡ None }
     requires short { length text.now ≤ SCRIPT_BYTES }
     ensures { Replies (making.IsMade (app_of app.now) text.now setup.now) result }
@@ -79,6 +81,7 @@ fn make(alloc: Global, app: &App, text: &[u8], setup: &Setup) -> Reply
 fn program(alloc: Global, app: &App, setup: &Setup) -> Result<Result<Vec<u8>, Cause>, NoMemory>
     requires accepted { IsAccepted (app_of app.now) }
     requires facts { AreFacts (app_of app.now) setup.now.facts }
+    requires inputs { AreInputs (app_of app.now) setup.now.board.inputs }
     requires whole { wanting setup.now.facts ≡ None }
     ensures bytes { IfOk result (λ made. IfOk made (λ bytes.
         making.IsProgram (app_of app.now) setup.now bytes.items)) }

@@ -56,6 +56,7 @@ returns-in-Ok-read_target g c first third is =
         made =
             subst (λ text. IsMade app made.0 text setup ended bytes)
             (c.deref-in-Ok-read_target.ensures.value ∙ read.1) made.2;
+        simulates = made.3;
       }),
     )
 

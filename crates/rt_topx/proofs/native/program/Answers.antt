@@ -4,7 +4,11 @@ use Rattle.rt_app.specs.View.{app_of}
 use Rattle.rt_native.specs.File.{file}
 use Rattle.rt_native.specs.Fitting.{IsRegion, Fits, IsUnfit}
 use Rattle.rt_native.specs.Target.{Target}
+use Rattle.rt_native_runs.proofs.Running.{programs_run_as_images}
 use Rattle.rt_target.specs.Chip.{is_flash, is_ram}
+use Rattle.rt_topx.specs.Target.{target_of}
+use Rattle.rt_topx.proofs.Chips.{is_chip}
+use Rattle.rt_topx.proofs.Wired.{inputs_are_wired}
 use Rattle.rt_topx.proofs.Making.{good_of, misfits_as}
 use Rattle.rt_topx.proofs.Regions.{is_region}
 use Rattle.rt_topx.proofs.native.program.Goals as goal
@@ -23,13 +27,17 @@ pub returns-in-Ok-clause-bytes : goal.returns-in-Ok-clause-bytes
 returns-in-Ok-clause-bytes c =
     let image = c.in_ok-image.image in
     let is = c.in_ok-image.ensures in
-    let of = c.in_ok-target.ensures in (
+    let of = c.in_ok-target.ensures in
+    let app = app_of c.args.app.now in
+    let setup = c.args.setup.now in
+    let fits = subst (Fits image) of c.in-Ok.ensures.fits in (
       image,
-      good_of (app_of c.args.app.now) image c.requires.accepted is.image is.built is.runnable is.lines,
-      (
-        subst (Fits image) of c.in-Ok.ensures.fits,
-        subst (λ (t : Target). c.in-Ok.bytes.items ≡ file image t) of c.in-Ok.ensures.bytes,
-      ),
+      good_of app image c.requires.accepted is.image is.built is.runnable is.lines,
+      (fits, subst (λ (t : Target). c.in-Ok.bytes.items ≡ file image t) of c.in-Ok.ensures.bytes),
+      λ p.
+          programs_run_as_images app image (target_of app setup) p c.requires.accepted is.image is.built is.runnable
+          (is_chip app setup c.requires.facts c.requires.whole) fits
+          (inputs_are_wired app setup.board c.requires.inputs.each setup.facts c.requires.facts),
     )
 
 pub returns-clause-unfit : goal.returns-clause-unfit
