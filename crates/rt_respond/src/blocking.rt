@@ -29,7 +29,8 @@ pub(crate) struct Held<'a> {
     pub(crate) measure: &'a Measure,
 }
 
-/// The ceiling of a resource, and 0 where there is none.
+/// The ceiling of a resource. Where there is none of this index, it is 0: that is below each handler, so that no lock of
+/// it counts.
 fn shared_ceiling(ceilings: &Ceilings, resource: ResId) -> u8
     ensures { result ≡ get_or ceilings.now.shared resource 0 }
 {
@@ -48,7 +49,8 @@ fn section_holds(app: &App, held: &Held, stmt: &Stmt, inner: &[Stmt]) -> Option<
     plus(Some(steps), block_sends(&held.all, inner))
 }
 
-/// The ceiling of the free places of a task, and 0 where it has none.
+/// The ceiling of the free places of a task. Where there is none of this number, or it is a hardware task, which has no
+/// places, it is 0: that is below each handler, so that no section of them counts.
 fn free_ceiling(ceilings: &Ceilings, task: TaskId) -> u8
     ensures { result ≡ waits.free_at ceilings.now task }
 {
@@ -59,7 +61,8 @@ fn free_ceiling(ceilings: &Ceilings, task: TaskId) -> u8
     }
 }
 
-/// The ceiling of the first of these ready queues that is of this level, and 0 where there is none.
+/// The ceiling of the first of these ready queues that is of this level. Where there is none, it is 0: that is below each
+/// handler, so that no section of it counts.
 fn ready_in(queues: &[ReadyCeiling], level: u8) -> u8
     ensures { result ≡ waits.ceiling_or_zero (find (λ r. r.level == level) queues.now) }
 {
@@ -69,14 +72,15 @@ fn ready_in(queues: &[ReadyCeiling], level: u8) -> u8
     }
 }
 
-/// The ceiling of the ready queue of a level, and 0 where there is none.
+/// The ceiling of the ready queue of a level, and 0, which is below each handler, where there is none.
 fn ready_ceiling(ceilings: &Ceilings, level: u8) -> u8
     ensures { result ≡ waits.ready_at ceilings.now level }
 {
     ready_in(&ceilings.ready, level)
 }
 
-/// The priority of a task, and 0 where there is none of this number.
+/// The priority of a task. Where there is none of this number, it is 0, the priority of `idle`: no queue is of that
+/// level, so that no section of it counts.
 fn task_priority(app: &App, task: TaskId) -> u8
     ensures { result ≡ bodies.task_priority (app_of app.now) task }
 {
