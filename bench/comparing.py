@@ -1,13 +1,16 @@
 #!/usr/bin/env python3
 """Compares two answers for one application of hardware tasks: the response times of `rtic times`, from what its forms
-cost, and those of `rticx bounds` with limits, from the code of the image that `rtic build` makes of it. Each handler
-and each wait of the code has to be within its cost and its waiting bound, and so no response time of the code may be
-greater. The applications are examples/tank.rtic and random ones without `pend`.
+cost, and those of `rticx bounds` with limits, from the code of the image that `rtic build` makes of it. The code never
+takes more, so no number of it may be greater: of no handler, no wait and no response time. It takes a step less where
+an `if` has no `else`, or the longer block behind it: the form costs two steps beside its condition and the greater
+block, and the second of them is the jump over the block behind `else`, which only the first block takes. So a number
+may be less only where there is an `if`.
+The applications are examples/tank.rtic and random ones without `pend`.
 
     python3 comparing.py RTIC RTICX FOLDER [COUNT [SEED]]
 
-FOLDER takes the texts. The last lines count the rows, and tell where code takes less. The status is 1 where a number of
-the code is greater, and the texts stay in FOLDER.
+FOLDER takes the texts. The last lines count. The status is 1 where a number of the code is greater, or less without an
+`if`; the texts of such an application stay in FOLDER.
 """
 import collections
 import concurrent.futures
@@ -15,8 +18,10 @@ import math
 import os
 import pathlib
 import random
+import re
 import subprocess
 import sys
+from typing import NamedTuple
 
 HERE = pathlib.Path(__file__).resolve().parent
 sys.path.insert(0, str(HERE / "response"))
@@ -27,6 +32,30 @@ from making import Maker
 COUNT = 1_000
 SEED = 7
 DISTANCES = (20, 60, 150, 400, 1_000, 5_000)
+TASK = re.compile(r"^task (\w+)\(binds = (\w+)(.*?)(?=^task |\Z)", re.M | re.S)
+
+
+class Pair(NamedTuple):
+    """A number of an application and that of its code, with the text that they are of."""
+
+    name: str
+    costs: float
+    code: float
+    text: str
+
+    @property
+    def kind(self):
+        """What they are of: a handler, a wait or a response time."""
+        return self.name.split()[0]
+
+    @property
+    def order(self):
+        """How they compare."""
+        if self.costs == self.code:
+            return "alike"
+        if self.code > self.costs:
+            return "greater in code"
+        return "less in code" if re.search(r"\bif\b", self.text) else "less without an if"
 
 
 class Quiet(Maker):
@@ -45,66 +74,49 @@ def told(*words):
 
 
 def numbers(text):
-    """The numbers of lines by their other words; where there is none, more than any number."""
+    """The numbers of lines by their other words; where a line has none, more than any number."""
     rows = [line.split() for line in text.splitlines()]
     rows = [row[: row.index("-") + 1] if "-" in row else row for row in rows]
-    return {" ".join(row[:-1]): math.inf if row[-1] == "-" else int(row[-1]) for row in rows if len(row) > 1}
+    return {" ".join(row[:-1]): math.inf if row[-1] == "-" else int(row[-1]) for row in rows}
 
 
-def parts(costs, code, bound):
-    """Pairs of a number of the application and one of its code: of each handler, and of each wait. Limits make a
-    priority that no task has no row of the code."""
-    pairs = [(f"handler {irq}", costs[f"cost {task}"], code[f"handler {irq}"]) for task, irq in bound]
-    waits = [name for name in code if name.startswith("wait ")]
-    return pairs + [(name, costs[name], code[name]) for name in waits]
+def pairs(text, costs, times, code):
+    """The pairs of an application: of each handler, each wait and each response time."""
+    handlers = [Pair(f"handler {irq}", costs[f"cost {task}"], code[f"handler {irq}"], body)
+                for task, irq, body in TASK.findall(text)]
+    waits = [Pair(name, costs[name], code[name], text) for name in code if name.startswith("wait ")]
+    return handlers + waits + [Pair(name, times[name], code[name], text) for name in times]
 
 
-def compared(rtic, rticx, folder, number, text, limits, bound):
-    """What is wrong with the numbers of an application, and how its rows and their parts compare."""
+def compared(rtic, rticx, folder, number, text, limits):
+    """The pairs of an application, and what is wrong with them."""
     paths = [pathlib.Path(folder) / f"{number}.{ending}" for ending in ("rtic", "limits", "listing")]
     paths[0].write_text(text)
     paths[1].write_text(limits)
     paths[2].write_text(told(rtic, "build", paths[0]))
-    costs, times = numbers(told(rtic, "check", paths[0])), numbers(told(rtic, "times", *paths[:2]))
-    code = numbers(told(rticx, "bounds", paths[2], paths[1]))
-    rows = [(name, times[name], code[name]) for name in times]
-    pairs = parts(costs, code, bound)
-    wrong = [f"{paths[0]}: {name} {first}, in code {second}" for name, first, second in rows + pairs if second > first]
-    wrong += [f"{paths[0]}: rows {sorted(times)}, in code {sorted(code)}"] * any(
-        name.startswith("time ") and name not in times for name in code)
+    found = pairs(text, numbers(told(rtic, "check", paths[0])), numbers(told(rtic, "times", *paths[:2])),
+                  numbers(told(rticx, "bounds", paths[2], paths[1])))
+    wrong = [f"{paths[0]}: {pair.name} {pair.costs}, in code {pair.code}" for pair in found
+             if pair.order in ("greater in code", "less without an if")]
     if not wrong:
         for path in paths:
             path.unlink()
-    return wrong, [judged(*row) for row in rows], [judged(*pair) for pair in pairs]
-
-
-def judged(name, first, second):
-    """How a number of the application and one of its code compare."""
-    order = "alike" if first == second else "less in code" if second < first else "greater in code"
-    return name.split()[0], order, first, second
-
-
-def tasks_of(text):
-    """The hardware tasks of a text and the interrupts that they bind."""
-    lines = [line for line in text.splitlines() if line.startswith("task ") and "binds = " in line]
-    return [(line.split("(")[0].removeprefix("task "), line.split("binds = ")[1].split(",")[0].split(")")[0])
-            for line in lines]
+    return found, wrong
 
 
 def made(chance):
     """A random application, and limits for it."""
     text = Quiet(chance, "hardware").made().text
-    every = [f"every {irq} {chance.choice(DISTANCES)}\n" for _, irq in tasks_of(text) if chance.random() < 0.9]
+    every = [f"every {irq} {chance.choice(DISTANCES)}\n" for _, irq, _ in TASK.findall(text) if chance.random() < 0.9]
     return text, "".join(every)
 
 
-def shares(kind, rows):
-    """A line on how the numbers of one kind compare."""
-    count = collections.Counter(order for _, order, _, _ in rows)
-    both = [(first, second) for _, _, first, second in rows if first and max(first, second) < math.inf]
-    sums = [sum(column) for column in zip(*both)] or [0, 0]
-    orders = ", ".join(f"{number} {order}" for order, number in sorted(count.items()))
-    return f"{kind}: {orders}; sums {sums[0]}, in code {sums[1]}"
+def counted(kind, found):
+    """A line on how the pairs of a kind compare."""
+    those = [pair for pair in found if pair.kind == kind]
+    counts = collections.Counter(pair.order for pair in those)
+    most = max((pair.costs - pair.code for pair in those if pair.costs < math.inf), default=0)
+    return f"{kind}: {', '.join(f'{number} {order}' for order, number in sorted(counts.items()))}; at most {most} less"
 
 
 def main(rtic, rticx, folder, count=COUNT, seed=SEED):
@@ -114,16 +126,14 @@ def main(rtic, rticx, folder, count=COUNT, seed=SEED):
     cases += [made(chance) for _ in range(int(count))]
     pathlib.Path(folder).mkdir(parents=True, exist_ok=True)
     with concurrent.futures.ThreadPoolExecutor(os.cpu_count()) as pool:
-        ends = list(pool.map(lambda at: compared(rtic, rticx, folder, at, *cases[at], tasks_of(cases[at][0])),
-                             range(len(cases))))
-    wrong = [one for found, _, _ in ends for one in found]
-    rows = [row for _, found, _ in ends for row in found]
-    pairs = [pair for _, _, found in ends for pair in found]
-    print(*wrong, sep="\n", end="\n" * bool(wrong))
-    for kind in ("handler", "wait"):
-        print(shares(kind, [pair for pair in pairs if pair[0] == kind]))
-    print(shares("time", rows))
-    print(f"{len(cases)} applications, {len(wrong)} numbers greater in code")
+        ends = list(pool.map(lambda at: compared(rtic, rticx, folder, at, *cases[at]), range(len(cases))))
+    found = [pair for pairs_of, _ in ends for pair in pairs_of]
+    wrong = [one for _, faults in ends for one in faults]
+    for line in wrong:
+        print(line)
+    for kind in ("handler", "wait", "time"):
+        print(counted(kind, found))
+    print(f"{len(cases)} applications, {len(wrong)} numbers wrong")
     return 1 if wrong else 0
 
 

@@ -80,8 +80,11 @@ total_is steps [] n is = (tt, sym (ap steps_or_zero is))
 total_is steps (a ∷ all) n is =
     let both = both_numbers (load_needed steps (load_by a)) (total (map (load_needed steps) (map load_by all))) n is in
     let here = handlings_number (most_requests steps a.every) a.longest both.first both.is_first in
-    let rest = total_is steps all both.second both.is_second in
-    ((here.0, rest.0), both.is_sum ∙ ap (λ k. k + both.second) here.1 ∙ ap (λ k. most_requests steps a.every * handling a + k) rest.1)
+    let rest = total_is steps all both.second both.is_second in (
+      (here.0, rest.0),
+      both.is_sum ∙ ap (λ k. k + both.second) here.1
+          ∙ ap (λ k. most_requests steps a.every * handling a + k) rest.1,
+    )
 
 -- how long lower jobs hold off, where it is a number
 pub record Covers (wait : Option Longest) (all : List Ask) (steps : ℕ) : Type 0 where
@@ -127,7 +130,8 @@ module _ (img : Image) (limits : List Limit) (value : ℕ) where
   mapped (Some a) all = refl
 
   made : (own : Longest) (row : IrqRow) (o : Option ℕ)
-      → option_map (λ every. record { every = every; longest = own }) o ≡ option_map load_by (option_map (ask_by row own) o)
+      → option_map (λ every. record { every = every; longest = own }) o
+      ≡ option_map load_by (option_map (ask_by row own) o)
   made own row None = refl
   made own row (Some every) = refl
 

@@ -190,7 +190,8 @@ module _ (img : Image) (checked : IsChecked img) (form : requests_itself img ≡
           only (job ∷ (more ∷ jobs)) [] none at = absurd at.1
           only (job ∷ (more ∷ jobs)) (q ∷ qs) none at = absurd (cc)
 
-          both : AllByRecursion (λ (job : SeenJob). IsLimited limits job.whose) thread × (owed_jobs value all thread ≡ 0)
+          both : AllByRecursion (λ (job : SeenJob). IsLimited limits job.whose) thread
+              × (owed_jobs value all thread ≡ 0)
           both =
               only s.watch.jobs s.below
               (alone_in_init img s.point s.below s.core.below early.starting s.fits.stack) (jobs_are img s)
@@ -235,8 +236,8 @@ module _ (img : Image) (checked : IsChecked img) (form : requests_itself img ≡
         starting = early.starting;
         follows = early.follows;
         long = length-set s.core.pending i true ∙ early.long;
-        kept = yet_on limits s.core.pending (slice_set s.core.pending i true) (Arrived i) (during ++ end_of_init ∷ behind)
-            (λ e. cc) (λ k set. older k set (k == i) refl) early.kept;
+        kept = yet_on limits s.core.pending (slice_set s.core.pending i true) (Arrived i)
+            (during ++ end_of_init ∷ behind) (λ e. cc) (λ k set. older k set (k == i) refl) early.kept;
       }) (λ there. not_yet (contains_there (Arrived i) during end_of_init there)))
     where
       here : Arrived i ≡ Arrived irq → IsSet (slice_set s.core.pending i true)

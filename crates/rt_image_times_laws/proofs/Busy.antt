@@ -34,8 +34,8 @@ pub record IsBusy (img : Image) (value : ℕ) (c : Core) : Type 0 where
   pub off : pick img c ≡ None → execution c ≤ value
   pub high : (other : IrqRow) → pick img c ≡ Some other → value_or_none other.handler ≤ value
 
-module _ (img : Image) (checked : IsChecked img) (limits : List Limit) (value : ℕ) (bounds : List HandlerBound) (c : Core)
-    (w : Watch) (p : Point) (qs : List Point) (fits : RunsAtPoints img c p qs)
+module _ (img : Image) (checked : IsChecked img) (limits : List Limit) (value : ℕ) (bounds : List HandlerBound)
+    (c : Core) (w : Watch) (p : Point) (qs : List Point) (fits : RunsAtPoints img c p qs)
     (tied : IsTied img w (p ∷ qs) (frames_of c)) where
   at : AreJobsAt img w.jobs (p ∷ qs)
   at = jobs_of img w (p ∷ qs) (frames_of c) tied
@@ -56,14 +56,16 @@ module _ (img : Image) (checked : IsChecked img) (limits : List Limit) (value : 
   by_job : IsHigh value (asks img limits value bounds) w.jobs → IsBusy img value c
   by_job one = record {
     off = λ none. reached;
-    high = λ other picked. let less = preempts c other (picked_row img c other picked).1 in omega (arith, less, reached);
+    high = λ other picked.
+        let less = preempts c other (picked_row img c other picked).1 in omega (arith, less, reached);
   }
     where
       reached : execution c ≤ value
       reached =
           let same = execution_is img checked c p qs fits in
           let within = priority_within img p.owner p.inside in
-          let first = first_least w.jobs (runs_highest img p qs c.below fits.stack w.jobs at) at one.index one.job one.at in
+          let highest = runs_highest img p qs c.below fits.stack w.jobs at in
+          let first = first_least w.jobs highest at one.index one.job one.at in
           let high = one.high in
           omega (arith, same, within, first, high)
 

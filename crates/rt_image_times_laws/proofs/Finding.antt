@@ -38,7 +38,8 @@ module _ (img : Image) (limits : List Limit) (value : ℕ) where
   }
 
   asks_it : (row : IrqRow) (h : Handler) (every : ℕ) (own : Longest) → row.handler ≡ Some h → h.value ≤ value
-      → every_of limits row.number ≡ Some every → row_ask img limits value own row ≡ Some (ask_by img limits value row own every)
+      → every_of limits row.number ≡ Some every
+      → row_ask img limits value own row ≡ Some (ask_by img limits value row own every)
   asks_it row h every own enabled high limit =
       ap (λ b. if b then option_map (ask_by img limits value row own) (every_of limits row.number) else None)
       (ap (is_at value) enabled ∙ le-leb h.value value high)
@@ -55,7 +56,8 @@ module _ (img : Image) (limits : List Limit) (value : ℕ) where
       (found row h every hb at enabled high limit bounds rest))
       (contains_cases x bounds hb has)
     where
-      here : x ≡ hb → IsFound row.number hb.longest (option_to_list (ask_of img limits value x) ++ asks img limits value bounds)
+      here : x ≡ hb
+          → IsFound row.number hb.longest (option_to_list (ask_of img limits value x) ++ asks img limits value bounds)
       here same =
           let is : ask_of img limits value x ≡ Some (ask_by img limits value row hb.longest every) =
           ap (ask_of img limits value) same ∙ ap (λ o. then_from o (row_ask img limits value hb.longest)) at

@@ -139,7 +139,8 @@ module _ (img : Image) (c : Core) (p : Point) (qs : List Point) (fits : RunsAtPo
   pub its_take : Moved img c p qs shown q rest → is_take irq (Stepped shown) ≡ true → IsItsTake
   its_take (Taken t) own =
       record { taken = t; number = eqb-true t.row.number irq (sym (ap (λ s. is_take irq (Stepped s)) t.shows) ∙ own) }
-  its_take (Gone one inside silent) own = absurd (true_and_false (is_take irq (Stepped shown)) own (no_take shown silent))
+  its_take (Gone one inside silent) own =
+      absurd (true_and_false (is_take irq (Stepped shown)) own (no_take shown silent))
   its_take (Opened_one one) own =
       absurd (true_and_false (is_take irq (Stepped shown)) own (ap (λ s. is_take irq (Stepped s)) one.shows))
   its_take (Closed_one one) own =

@@ -1,6 +1,6 @@
 -- What a step leaves of what has limits, once `init` has ended: nothing is pending that was not, and jobs have limits.
-use Rattle.std.proofs.Common.{◌≡◌, ◌≢◌, ℕ, ◌==◌, Bool, true, false, List, [], ◌∷◌, drop, length, slice_set, slice_index_or}
-use Rattle.std.proofs.Common.{Option, None, refl, sym, ap, subst, ◌∙◌, eq-eqb}
+use Rattle.std.proofs.Common.{◌≡◌, ◌≢◌, ℕ, ◌==◌, Bool, true, false, List, [], ◌∷◌, drop, length, slice_set}
+use Rattle.std.proofs.Common.{slice_index_or, Option, None, refl, sym, ap, subst, ◌∙◌, eq-eqb}
 use Rattle.std.specs.List.{AllByRecursion}
 use Rattle.std.proofs.lemmas.Bool.{eqb-true}
 use Rattle.std.proofs.lemmas.List.{length-set}
@@ -22,7 +22,8 @@ use Rattle.rt_rta.specs.declared.limits.Limit.{Limit}
 use Rattle.rt_rta.proofs.Owing.{other_set}
 use Rattle.rt_image_times.specs.Form.{requests_itself}
 use Rattle.rt_timely.specs.Waiting.{IsPending}
-use Rattle.rt_timely.specs.Watching.{SeenJob, Watch, stepped, inside_too, outside_again, on_running, entered, after_step}
+use Rattle.rt_timely.specs.Watching.{SeenJob, Watch, stepped, inside_too, outside_again, on_running, entered}
+use Rattle.rt_timely.specs.Watching.{after_step}
 use Rattle.rt_timely.proofs.Keeping.{silent_seen}
 use Rattle.rt_image_times_laws.proofs.Lowering.{IsLimited, IsLive, taken_clears, taken_set}
 use Rattle.rt_image_times_laws.proofs.Unpending.{pending_stays}
@@ -47,7 +48,8 @@ module _ (img : Image) (checked : IsChecked img) (form : requests_itself img ≡
     Cleared : (n : ℕ) → after.pending ≡ slice_set c.pending n false → Pends
 
   pub stays_pending : pick img c ≡ None → after.pending ≡ c.pending
-  stays_pending picked = ap (λ (r : Core × Option What). r.0.pending) (sym is) ∙ pending_stays img checked form c p qs fits picked
+  stays_pending picked =
+      ap (λ (r : Core × Option What). r.0.pending) (sym is) ∙ pending_stays img checked form c p qs fits picked
 
   pub pends : Moved img c p qs shown q rest → Pends
   pends (Taken t) = Cleared t.row.number (taken_clears img c p qs fits after shown q rest is t)
@@ -104,7 +106,8 @@ module _ (img : Image) (checked : IsChecked img) (form : requests_itself img ≡
 
     limited : IsLive limits c w p → Moved img c p qs shown q rest → Then shown
     limited live (Taken t) =
-        subst Then (sym t.shows) (live.pending t.row.number (taken_set img c p qs fits after shown q rest is t), live.jobs)
+        subst Then (sym t.shows)
+        (live.pending t.row.number (taken_set img c p qs fits after shown q rest is t), live.jobs)
     limited live (Gone one inside silent) =
         subst AreLimited (sym (ap (λ (v : Watch). v.jobs) (silent_seen c after w shown silent)))
         (runs stepped (λ job. refl) w.jobs live.jobs)

@@ -1,7 +1,7 @@
 -- What a step makes of what is owed: no more of it, and less where no lower job takes the step.
 use Rattle.std.proofs.Common.{◌≡◌, ◌≢◌, ℕ, suc, ◌+◌, ◌<◌, ◌≤◌, nat_le, nat_lt, Bool, true, false}
-use Rattle.std.proofs.Common.{if◌then◌else◌, List, [], ◌∷◌, drop, take, slice_get, slice_set, slice_index_or, Option, Some}
-use Rattle.std.proofs.Common.{None, IsSome, refl, sym, ap, subst, ⊎_elim, ◌∙◌, arith, eq-eqb}
+use Rattle.std.proofs.Common.{if◌then◌else◌, List, [], ◌∷◌, drop, take, slice_get, slice_set, slice_index_or, Option}
+use Rattle.std.proofs.Common.{Some, None, IsSome, refl, sym, ap, subst, ⊎_elim, ◌∙◌, arith, eq-eqb}
 use Rattle.std.specs.List.{AllByRecursion, Contains}
 use Rattle.std.proofs.lemmas.Bool.{cases_lt, le-leb, lt-ltb}
 use Rattle.rt_lemmas.proofs.Bools.{and_parts}
@@ -41,8 +41,8 @@ use Rattle.rt_rta.specs.declared.limits.Limit.{Limit}
 use Rattle.rt_image_times.specs.Form.{requests_itself}
 use Rattle.rt_timely.specs.InTime.{IsBelow, KeepsLines, IsOf, IsToldOf}
 use Rattle.rt_timely.specs.Waiting.{IsPending, stepper_by, lower}
-use Rattle.rt_timely.specs.Watching.{Whose, Init, Thread, Handler as HandlerOf, SeenJob, Watch, begun, stepped, inside_too}
-use Rattle.rt_timely.specs.Watching.{outside_again, on_running, entered, after_step}
+use Rattle.rt_timely.specs.Watching.{Whose, Init, Thread, Handler as HandlerOf, SeenJob, Watch, begun, stepped}
+use Rattle.rt_timely.specs.Watching.{inside_too, outside_again, on_running, entered, after_step}
 use Rattle.rt_timely.proofs.Came.{came_owner}
 use Rattle.rt_timely.proofs.HoldingOn.{silent_stepper}
 use Rattle.rt_timely.proofs.InTime.{jobs_below}
@@ -53,7 +53,8 @@ use Rattle.rt_image_times_laws.proofs.Asks.{Ask, IsNumber, steps_in, asks}
 use Rattle.rt_image_times_laws.proofs.Busy.{IsBusy}
 use Rattle.rt_image_times_laws.proofs.Finding.{IsFound, found}
 use Rattle.rt_image_times_laws.proofs.Owing.{is_of, left_of, owed_job, owed_jobs, owed_pending, owed, owed_job_is}
-use Rattle.rt_image_times_laws.proofs.Owing.{owed_job_most, take_lowers, take_spends, step_lowers, step_spends, job_owes}
+use Rattle.rt_image_times_laws.proofs.Owing.{owed_job_most, take_lowers, take_spends, step_lowers, step_spends}
+use Rattle.rt_image_times_laws.proofs.Owing.{job_owes}
 use Rattle.rt_image_times_laws.proofs.Unpending.{pending_stays}
 
 -- a job of an interrupt that has a limit
@@ -170,8 +171,8 @@ module _ (img : Image) (checked : IsChecked img) (form : requests_itself img ≡
       let same = came_owner img 0 all_left at.start job.steps at.now p at.came in
       let values = at.value in
       let mine : owner_value img p.owner ≡ owner_value img at.start.owner = ap (owner_value img) same in
-      owing job.whose job.steps at.start at.begins (λ is. started (same ∙ is)) (omega (arith, values, mine, high)) limited
-      below
+      owing job.whose job.steps at.start at.begins (λ is. started (same ∙ is)) (omega (arith, values, mine, high))
+      limited below
 
   module _ (c : Core) (w : Watch) (p : Point) (qs : List Point) (fits : RunsAtPoints img c p qs)
       (at : AreJobsAt img w.jobs (p ∷ qs)) (live : IsLive limits c w p) where
@@ -314,8 +315,8 @@ module _ (img : Image) (checked : IsChecked img) (form : requests_itself img ≡
         lowers (Opened_one one) =
             subst Lowers (sym one.shows)
             (by_falls (Some (what.Enter one.section)) one.goes.none
-            (runs (λ job. inside_too (entered c after one.section w.steps) (stepped job)) (λ job. refl) w.jobs at live.jobs
-            below))
+            (runs (λ job. inside_too (entered c after one.section w.steps) (stepped job)) (λ job. refl) w.jobs at
+            live.jobs below))
         lowers (Closed_one one) =
             subst Lowers (sym one.shows)
             (by_falls (Some (what.Leave one.opened.section one.value)) one.goes.none

@@ -97,16 +97,16 @@ module _ (img : Image) (b : Bounds) (limits : List Limit) (rows : List TimeBound
       → steps ≤ steps_of rest → ServedIn irq steps rest
   served_behind during front rest starts enough =
       walk img are.checked are.form b are.bounds limits value small covers.numbers wait.longest told covers.off
-      covers.is_off steps suffices.some covers.covers irq has.index has.row has.handler has.at has.number has.enabled high
-      known front rest starts.begun starts.waits 0 starts.moment starts.stretch enough
+      covers.is_off steps suffices.some covers.covers irq has.index has.row has.handler has.at has.number has.enabled
+      high known front rest starts.begun starts.waits 0 starts.moment starts.stretch enough
 
   -- a request during it
   served_from_end : (during behind : List Label) → Starts during behind → Contains during (Arrived irq)
       → steps ≤ steps_of behind → ServedIn irq steps behind
   served_from_end during behind starts there enough =
       served_from img are.checked are.form b are.bounds limits value small covers.numbers wait.longest told covers.off
-      covers.is_off steps suffices.some covers.covers irq has.index has.row has.handler has.at has.number has.enabled high
-      known behind starts.begun starts.waits starts.moment starts.stretch (starts.set (inr there)) enough
+      covers.is_off steps suffices.some covers.covers irq has.index has.row has.handler has.at has.number has.enabled
+      high known behind starts.begun starts.waits starts.moment starts.stretch (starts.set (inr there)) enough
 
 pub images_respond_once_init_ends : ImagesRespondOnceInitEnds
 images_respond_once_init_ends img b limits rows are events kept during behind ends = record {

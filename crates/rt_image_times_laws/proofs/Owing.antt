@@ -39,9 +39,10 @@ abbrev pub left_of : Whose → ℕ → List Ask → ℕ
 left_of whose steps [] = 0
 left_of whose steps (a ∷ all) = job_left whose steps a + left_of whose steps all
 
-asked_most : (b : Bool) (n : ℕ) → (if b then n else 0) ≤ n
-asked_most true n = omega arith
-asked_most false n = omega arith
+-- what counts in one case alone is no more than what it is no more than there
+at_most : (b : Bool) (n m : ℕ) → n ≤ m → (if b then n else 0) ≤ m
+at_most true n m within = within
+at_most false n m within = omega arith
 
 module _ (pending : List Bool) (irq : ℕ) where
   -- a request raises what is asked for by a handling at most
@@ -56,7 +57,8 @@ module _ (pending : List Bool) (irq : ℕ) where
       by : (b : Bool) → (a.irq == irq) ≡ b → now + counts a.irq * handling a
           ≤ asked pending a + (if b then suc (counts a.irq) else counts a.irq) * handling a
       by true test =
-          let most : now ≤ handling a = asked_most (slice_index_or (slice_set pending irq true) a.irq false) (handling a) in
+          let most : now ≤ handling a =
+          at_most (slice_index_or (slice_set pending irq true) a.irq false) (handling a) (handling a) (omega arith) in
           let more : suc (counts a.irq) * handling a ≡ counts a.irq * handling a + handling a = omega arith in
           omega (arith, most, more)
       by false test =
@@ -81,7 +83,8 @@ module _ (pending : List Bool) (irq : ℕ) where
   asked_taken set a = by (a.irq == irq) refl
     where
       by : (b : Bool) → (a.irq == irq) ≡ b
-          → asked (slice_set pending irq false) a + job_left (HandlerOf irq) 0 a + (if b then 1 else 0) ≤ asked pending a
+          → asked (slice_set pending irq false) a + job_left (HandlerOf irq) 0 a + (if b then 1 else 0)
+          ≤ asked pending a
       by true test =
           let same : a.irq ≡ irq = eqb-true a.irq irq test in
           let none : asked (slice_set pending irq false) a ≡ 0 =
@@ -90,12 +93,8 @@ module _ (pending : List Bool) (irq : ℕ) where
           let whole : asked pending a ≡ handling a =
           ap (λ b. if b then handling a else 0) (ap (λ i. slice_index_or pending i false) same ∙ set) in
           let job : job_left (HandlerOf irq) 0 a ≤ steps_in a.longest =
-          asked_most_less (irq == a.irq) (steps_in a.longest) in
+          at_most (irq == a.irq) (steps_in a.longest - 0) (steps_in a.longest) (omega arith) in
           omega (arith, none, whole, job)
-        where
-          asked_most_less : (b : Bool) (n : ℕ) → (if b then n - 0 else 0) ≤ n
-          asked_most_less true n = omega arith
-          asked_most_less false n = omega arith
       by false test =
           let same : asked (slice_set pending irq false) a ≡ asked pending a =
           ap (λ b. if b then handling a else 0)
@@ -144,7 +143,8 @@ module _ (whose : Whose) (steps : ℕ) where
   one_left : (a : Ask) → job_left whose (suc steps) a ≤ job_left whose steps a
   one_left a = by (is_of whose a.irq)
     where
-      by : (b : Bool) → (if b then steps_in a.longest - suc steps else 0) ≤ (if b then steps_in a.longest - steps else 0)
+      by : (b : Bool)
+          → (if b then steps_in a.longest - suc steps else 0) ≤ (if b then steps_in a.longest - steps else 0)
       by true = omega arith
       by false = omega arith
 
@@ -182,7 +182,9 @@ raised_none (a ∷ all) = let rest = raised_none all in omega (arith, rest)
 pub pending_raises : (pending : List Bool) (all : List Ask) → owed_pending pending all ≤ raised (once pending) all
 pending_raises pending [] = omega arith
 pending_raises pending (a ∷ all) =
-    let rest = pending_raises pending all in let here = by (slice_index_or pending a.irq false) in omega (arith, rest, here)
+    let rest = pending_raises pending all in
+    let here = by (slice_index_or pending a.irq false) in
+    omega (arith, rest, here)
   where
     by : (b : Bool) → (if b then handling a else 0) ≤ (if b then 1 else 0) * handling a
     by true = omega arith
@@ -214,7 +216,8 @@ module _ (value : ℕ) (all : List Ask) where
   owed_job_is job high = ap (λ b. if b then left_of job.whose job.steps all else 0) (le-leb job.value value high)
 
   pub owed_job_most : (job : SeenJob) → owed_job job ≤ left_of job.whose job.steps all
-  owed_job_most job = asked_most (nat_le job.value value) (left_of job.whose job.steps all)
+  owed_job_most job =
+      let most = left_of job.whose job.steps all in at_most (nat_le job.value value) most most (omega arith)
 
   -- jobs owe where one of them is of the priority
   pub record IsHigh (jobs : List SeenJob) : Type 0 where

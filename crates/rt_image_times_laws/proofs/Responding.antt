@@ -87,7 +87,8 @@ module _ (img : Image) (checked : IsChecked img) (form : requests_itself img ≡
     named = now.named;
   }
 
-  pub at_arrival : (s : Now img) (waits : Waits) (i : ℕ) (labels : List Label) → (now : Moment s waits (Arrived i ∷ labels))
+  pub at_arrival : (s : Now img) (waits : Waits) (i : ℕ) (labels : List Label)
+      → (now : Moment s waits (Arrived i ∷ labels))
       → Moment (on_arrival img s i) (requested i now.spaced.0 waits) labels
   at_arrival s waits i labels now = record {
     live = record {
@@ -115,16 +116,16 @@ module _ (img : Image) (checked : IsChecked img) (form : requests_itself img ≡
   at_step s waits shown labels now =
       let one = move img checked s in
       record {
-        live = live_on img checked form s.core s.point s.below s.fits one.core one.shown one.point one.below one.is limits
-            s.watch now.live (one.started now.live.started) one.how;
+        live = live_on img checked form s.core s.point s.below s.fits one.core one.shown one.point one.below one.is
+            limits s.watch now.live (one.started now.live.started) one.how;
         follows = now.follows.1;
         short = shorter waits now.short;
         spaced = now.spaced;
         long = long_stays img checked form s.core s.point s.below s.fits one.core one.shown one.point one.below one.is
             (pends img checked form s.core s.point s.below s.fits one.core one.shown one.point one.below one.is one.how)
             ∙ now.long;
-        named = named_on img s.core s.point s.below s.fits one.core one.shown one.point one.below one.fits one.is s.watch
-            now.live.started one.how now.named;
+        named = named_on img s.core s.point s.below s.fits one.core one.shown one.point one.below one.fits one.is
+            s.watch now.live.started one.how now.named;
       }
 
   pub in_arrival : (s : Now img) (waits : Waits) (i steps : ℕ) (labels : List Label)
@@ -140,8 +141,8 @@ module _ (img : Image) (checked : IsChecked img) (form : requests_itself img ≡
       live (move img checked s).core (move img checked s).shown (move img checked s).point (move img checked s).below
       (move img checked s).is (move img checked s).shown
   lowers_at s live =
-      lowers img checked form b are limits value small numbers s.core s.watch s.point s.below s.fits (jobs_are img s) live
-      (move img checked s).core (move img checked s).shown (move img checked s).point (move img checked s).below
+      lowers img checked form b are limits value small numbers s.core s.watch s.point s.below s.fits (jobs_are img s)
+      live (move img checked s).core (move img checked s).shown (move img checked s).point (move img checked s).below
       (move img checked s).is (move img checked s).how
 
   pub in_step : (s : Now img) (waits : Waits) (steps : ℕ) → IsLive limits s.core s.watch s.point → In s waits steps
@@ -155,8 +156,8 @@ module _ (img : Image) (checked : IsChecked img) (form : requests_itself img ≡
       walk.on_step img checked limits value b.handlers.items wait told off is_off least some_least covers s.core.pending
       one.core.pending s.watch.jobs (on_step img checked s).watch.jobs (s.point ∷ s.below) (one.point ∷ one.below) waits
       steps stretch
-      (spends img checked limits value b.handlers.items wait told off is_off least some_least covers s.core s.watch s.point
-      s.below s.fits (jobs_are img s) one.shown one.core one.point one.below one.how is_busy (owes s)
+      (spends img checked limits value b.handlers.items wait told off is_off least some_least covers s.core s.watch
+      s.point s.below s.fits (jobs_are img s) one.shown one.core one.point one.below one.how is_busy (owes s)
       (owes (on_step img checked s)) lower.0 (lower.1 is_busy) stretch.left stretch.low)
       more
 

@@ -94,7 +94,8 @@ module _ (img : Image) (checked : IsChecked img) (form : requests_itself img ≡
   goes_in : (s : Now img) → Lives s → Goes irq value s.watch.jobs → 0 < owes s
   goes_in s live goes =
       let some = goes_owes img checked form b are limits value small numbers irq s.watch.jobs (s.point ∷ s.below)
-      (jobs_are img s) live.jobs (jobs_below img checked b are s.watch.jobs (s.point ∷ s.below) (jobs_are img s)) goes in
+      (jobs_are img s) live.jobs (jobs_below img checked b are s.watch.jobs (s.point ∷ s.below) (jobs_are img s))
+      goes in
       omega (arith, some)
 
   -- and so does the pending interrupt
@@ -199,8 +200,8 @@ module _ (img : Image) (checked : IsChecked img) (form : requests_itself img ≡
           now.named irq value checked is_busy mine in
           let rest : ReturnsIn irq k labels =
           returns_in labels (next s) (a_step_on waits) (steps + 1) k then_now
-          (steps_in s waits steps now.live stretch (pending_in s now.live pending) (goes_in (next s) then_now.live goes))
-          goes (omega (arith, sum)) (omega (arith, enough)) in
+          (steps_in s waits steps now.live stretch (pending_in s now.live pending)
+          (goes_in (next s) then_now.live goes)) goes (omega (arith, sum)) (omega (arith, enough)) in
           let time = rest.in_time in
           record {
             waiting = [];
@@ -221,8 +222,8 @@ module _ (img : Image) (checked : IsChecked img) (form : requests_itself img ≡
       by false other then_on =
           let one = move img checked s in
           one_served irq k (suc k) (Stepped shown) labels other (omega arith)
-          (then_on (waits_on img checked form s.core s.point s.below s.fits one.core one.shown one.point one.below one.is
-          one.how irq (ap (λ w. is_take irq (Stepped w)) (sym now.follows.0) ∙ other) pending))
+          (then_on (waits_on img checked form s.core s.point s.below s.fits one.core one.shown one.point one.below
+          one.is one.how irq (ap (λ w. is_take irq (Stepped w)) (sym now.follows.0) ∙ other) pending))
 
   later : (k : ℕ) (labels : List Label) → k ≤ least → ServedIn irq k labels → ServedIn irq least labels
   later k labels less one = record {

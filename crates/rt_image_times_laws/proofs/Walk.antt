@@ -87,7 +87,8 @@ module _ (img : Image) (checked : IsChecked img) (limits : List Limit) (value : 
     free_spends left free =
         let none = free_waits img checked value c p qs fits busy.off busy.high shown q rest w at how free in
         let less = strict none in
-        (left, inl (free_on img checked value c p qs fits busy.off busy.high shown q rest how free), omega (arith, less))
+        let still = free_on img checked value c p qs fits busy.off busy.high shown q rest how free in
+        (left, inl still, omega (arith, less))
 
     held_spends : (left since taken : ℕ) → left + taken ≡ off → IsHeld img value since taken w.jobs (p ∷ qs)
         → IsHeldBy img value since taken (stepper_by shown w.jobs) (after_step c w (after, shown)).jobs (q ∷ rest)
@@ -199,7 +200,8 @@ module _ (img : Image) (checked : IsChecked img) (limits : List Limit) (value : 
       by k false test = stretch.fits k
 
   -- a step that spends something, and behind which something is owed
-  pub on_step : (pending later : List Bool) (jobs others : List SeenJob) (ps qs : List Point) (waits : Waits) (steps : ℕ)
+  pub on_step : (pending later : List Bool) (jobs others : List SeenJob) (ps qs : List Point) (waits : Waits)
+      (steps : ℕ)
       → (stretch : Stretch pending jobs ps waits steps)
       → (less : ℕ) × Low others qs less
       × (owed value all later others + less + 1 ≤ owed value all pending jobs + stretch.left)
