@@ -27,7 +27,7 @@ use Rattle.rt_native.proofs.Ends.{ends, reset_at_is}
 use Rattle.rt_priorities.proofs.Agreeing.{execution_priorities_agree, they_take_the_same}
 use Rattle.rt_priorities.proofs.Vectors.{length_vectors, place_within}
 use Rattle.rt_thumb.specs.Exceptions.{entered, execution_priority, external, systick, taken}
-use Rattle.rt_thumb.specs.Machine.{Machine, Seen}
+use Rattle.rt_thumb.specs.Machine.{Entered, Machine, Seen}
 use Rattle.rt_thumb.specs.Step as processor
 use Rattle.rt_thumb.specs.Step.{Program, executed, going, pended}
 use Rattle.rt_native_laws.specs.Behaving.{HasEvenFrames, IsGood, StaysGood}
@@ -269,7 +269,7 @@ module _ (img : Image) (target : Target) (p : Program) (there : IsInPlace img ta
             can = (tt, marked.can);
             arrivals = marked.arrivals;
             seen = sym (ap (λ (xs : List Seen). compared (timer_irq img.code) (reverse xs ++ m.seen))
-                (tick_shown img s marked.happened ∙ marked.seen));
+                (tick_shown img s marked.happened ∙ ap (λ (xs : List Seen). Entered systick ∷ xs) marked.seen));
             deep = (let high = deep (moment_after_all img s happened) last marked.here in
                 omega (arith, high, in_tick.deep));
           },

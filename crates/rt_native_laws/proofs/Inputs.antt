@@ -385,7 +385,7 @@ reading_goes_on at bottom img places p c top m n executed code x exec =
     by_stage at bottom img places p c top m n executed code x exec x.stage refl x.code x.holds
 
 -- what an entry leads to, where inputs are read, in two parts
-parts_of_stub : (at : Outside) (inputs : List Input) (places : List ℕ) (to irq : ℕ) (h : Handler)
+pub parts_of_stub : (at : Outside) (inputs : List Input) (places : List ℕ) (to irq : ℕ) (h : Handler)
     → stub at inputs places to irq (Some h)
     ≡ flat_map (read_input at) (filter (λ i. i.irq == irq) inputs) ++ stub at [] places to irq (Some h)
 unfolding stub opening
@@ -399,7 +399,7 @@ one_later : (x : Input) (irq : ℕ) (xs ys : List Input) → AllByRecursion (λ 
 one_later x irq xs [] h = tt
 one_later x irq xs (y ∷ ys) h = (((suc h.0.0.0, h.0.0.1), h.0.1), one_later x irq xs ys h.1)
 
-among : (irq : ℕ) (xs : List Input)
+pub among : (irq : ℕ) (xs : List Input)
     → AllByRecursion (λ i. IsIn xs i × (i.irq ≡ irq)) (filter (λ i. i.irq == irq) xs)
 among irq [] = tt
 among irq (x ∷ xs) =

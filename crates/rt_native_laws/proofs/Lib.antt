@@ -47,6 +47,11 @@ pub mod Leaving
 pub mod Calling
 pub mod Faultless
 pub mod Inputs
+pub mod Functions
+pub mod InCall
+pub mod WithinCall
+pub mod Resuming
+pub mod Linked
 pub mod Deep
 pub mod Above
 pub mod EachKind
@@ -75,3 +80,6 @@ pub mod InReset
 pub mod FromReset
 pub mod Early
 pub mod Throughout
+pub mod Decoding
+pub mod Segments
+pub mod Filed

@@ -21,7 +21,8 @@ use Rattle.rt_native_laws.specs.Resetting.{second_part}
 use Rattle.rt_native_laws.proofs.Loading.{spans_of}
 use Rattle.rt_native_laws.proofs.Resetting.{reset_has_two_parts}
 
-first_place : (from : ℕ) (sizes : List ℕ) → slice_index (places_from from sizes) 0 ≡ from
+-- the first of some places
+pub first_place : (from : ℕ) (sizes : List ℕ) → slice_index (places_from from sizes) 0 ≡ from
 first_place from [] = refl
 first_place from (s ∷ sizes) = refl
 
@@ -45,7 +46,7 @@ module _ (img : Image) (target : Target) (p : Program) (m : Machine) (loaded : I
   begins =
       omega (arith, joined (fault ++ served) stubs, joined fault served, reset_begins img target)
 
-  begun_lies : LieFrom p (reset_at img target) begun
+  pub begun_lies : LieFrom p (reset_at img target) begun
   begun_lies =
       subst (λ (a : ℕ). LieFrom p a begun) begins
       (lie_behind p (fault ++ served ++ stubs) begun (fault_at img target)

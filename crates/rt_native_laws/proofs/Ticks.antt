@@ -84,13 +84,13 @@ alarm_small img (Some a) h = h.0
 -- what a tick pends is not compared
 pending_unseen : (img : Image) (time : ℕ) (o : Option Alarm) → IsAlarmOf img o → (seen : List Seen)
     → compared (timer_irq img.code) (Returned systick ∷ (requested time o ++ Entered systick ∷ seen))
-    ≡ compared (timer_irq img.code) seen
+    ≡ compared (timer_irq img.code) (Entered systick ∷ seen)
 pending_unseen img time None h seen = refl
 pending_unseen img time (Some a) h seen = by_due (nat_le a.instant time)
   where
     by_due : (b : Bool)
         → compared (timer_irq img.code) ((if b then Posted a.irq ∷ [] else []) ++ Entered systick ∷ seen)
-        ≡ compared (timer_irq img.code) seen
+        ≡ compared (timer_irq img.code) (Entered systick ∷ seen)
     by_due false = refl
     by_due true = posted_unseen (timer_irq img.code) a.irq h.1 (Entered systick ∷ seen)
 
@@ -388,7 +388,7 @@ module _ (img : Image) (target : Target) (p : Program) (ceiling : ℕ) (fits : L
   pub frame_deep : last.register 13 ≤ (entered systick m).register 13 + 32
   frame_deep = omega (arith, t.registers 13, pushed_stack systick m can, can.room)
 
-  pub seen_is : compared (timer_irq img.code) last.seen ≡ compared (timer_irq img.code) m.seen
+  pub seen_is : compared (timer_irq img.code) last.seen ≡ compared (timer_irq img.code) (entered systick m).seen
   seen_is =
       ap (compared (timer_irq img.code)) t.seen ∙ pending_unseen img (suc c.time) c.alarm w.alarm m.seen
 
@@ -400,8 +400,8 @@ tick_moment img s = refl
 
 pub tick_shown : (img : Image) (s : Moment) (more : List Happening)
     → flat_map seen_of_label (shown img s (Comes Tick ∷ more))
-    ≡ flat_map seen_of_label (shown img (moment_after img s (Comes Tick)) more)
+    ≡ Entered systick ∷ flat_map seen_of_label (shown img (moment_after img s (Comes Tick)) more)
 unfolding happen
 tick_shown img s more =
-    (tick_shape s.core).unseen
-    (shown img (record { core = (tick s.core).0; last = s.last; takings = s.takings }) more)
+    ap (λ (xs : List Seen). Entered systick ∷ xs) ((tick_shape s.core).unseen
+    (shown img (record { core = (tick s.core).0; last = s.last; takings = s.takings }) more))

@@ -28,4 +28,8 @@ pub mod Alike
 pub mod Owing
 pub mod InReset
 pub mod FromReset
+pub mod Functions
+pub mod InCall
+pub mod Linked
 pub mod Throughout
+pub mod Filed

@@ -20,7 +20,7 @@ use Rattle.rt_thumb.specs.Exceptions.{external, priority_of, systick}
 use Rattle.rt_thumb.specs.Machine.{Machine, Seen, Emitted, Posted, Entered, Returned}
 use Rattle.rt_thumb.specs.Step as processor
 use Rattle.rt_thumb.specs.Step.{Program}
-use Rattle.rt_trace.specs.Label.{Label, Stepped}
+use Rattle.rt_trace.specs.Label.{Label, Stepped, Ticked}
 use Rattle.rt_trace.specs.declared.item.What.TheVariants as what
 use Rattle.rt_native_laws.specs.Behaving.{BehavesWell}
 use Rattle.rt_native_laws.specs.Doing.{seen_of}
@@ -34,19 +34,21 @@ use Rattle.rt_priorities.specs.Agreeing.{AgreesWith}
 use Rattle.rt_priorities.specs.Setting.{CanBeSet}
 use Rattle.rt_priorities.specs.Vectors.{IsLoaded}
 
--- what a processor shows where the image shows a label: a step that takes an interrupt is its entry, and so on
+-- What a processor shows where the image shows a label: a step that takes an interrupt is its entry, and so on; a tick
+-- is the entry of SysTick's exception.
 abbrev pub seen_of_label : Label → List Seen
 seen_of_label (Stepped (Some (what.Take irq depth))) = Entered (external irq) ∷ []
 seen_of_label (Stepped (Some (what.Ret irq))) = Returned (external irq) ∷ []
 seen_of_label (Stepped said) = seen_of said
+seen_of_label Ticked = Entered systick ∷ []
 seen_of_label label = []
 
--- What is compared: all but a tick's entry and return, which the image shows as a tick, and requests of the interrupt
--- that alarms pend. Those come from ticks, and from the end of an alarm's code, where the image has set it already.
+-- What is compared: all but a tick's return, which the image does not show, and requests of the interrupt that alarms
+-- pend. Those come from ticks, and from the end of an alarm's code, where the image has set it already.
 abbrev pub is_compared : Option ℕ → Seen → Bool
 is_compared timer (Emitted value) = true
 is_compared timer (Posted irq) = not (is_some_and (λ t. t == irq) timer)
-is_compared timer (Entered e) = not (e == systick)
+is_compared timer (Entered e) = true
 is_compared timer (Returned e) = not (e == systick)
 
 abbrev pub compared : Option ℕ → List Seen → List Seen

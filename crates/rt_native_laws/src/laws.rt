@@ -5,7 +5,11 @@ ghost use Rattle.rt_native_laws.specs.Above.{WordsStay, WordsStayInPrivate, Word
 ghost use Rattle.rt_native_laws.specs.Alike.{StepsAreAlike};
 ghost use Rattle.rt_native_laws.specs.Arriving.{ArrivalsKeepPhases, PendingTicksKeepPhases};
 ghost use Rattle.rt_native_laws.specs.Deep.{PhasesAreWithinFrames, StackIsNoDeeper};
+ghost use Rattle.rt_native_laws.specs.Filed.{FilesArePrograms, FlashHasAProgram};
 ghost use Rattle.rt_native_laws.specs.FromReset.{NativeSimulatesFromReset, ResetLeadsBehind};
+ghost use Rattle.rt_native_laws.specs.Functions.{EntryCallsFirst, FunctionsPutWords};
+ghost use Rattle.rt_native_laws.specs.InCall.{CallGoesOn, CallIsKept, CallIsNoFault, EntryBeginsCall};
+ghost use Rattle.rt_native_laws.specs.InCall.{FunctionGoesOn, ReturnsToCall};
 ghost use Rattle.rt_native_laws.specs.Inputs.{EntryReadsInputs, ReadingGoesOn, ReadingIsKept};
 ghost use Rattle.rt_native_laws.specs.EachKind.{EachKindGoesOn};
 ghost use Rattle.rt_native_laws.specs.Laws.{SetIsDone, CopyIsDone, CalculationIsDone, JumpIsDone, JumpIfZeroIsDone};
@@ -16,6 +20,7 @@ ghost use Rattle.rt_native_laws.specs.Laws.{RetIsDone, BackIsDone, CallIsDone, A
 ghost use Rattle.rt_native_laws.specs.Laws.{PrivateIsUndisturbed, WordsAreKept};
 ghost use Rattle.rt_native_laws.specs.Going.{OneEventIsOneStepOrNone, MarkIsNoEvent, WhatIsLateIsNothing};
 ghost use Rattle.rt_native_laws.specs.Leaving.{BackGoesOn, CallBegins, RetGoesOn, ReturnResumes};
+ghost use Rattle.rt_native_laws.specs.Linked.{LinkedCodeIsThere, LinkedEntriesLead, LinkedServiceLies};
 ghost use Rattle.rt_native_laws.specs.Loading.{LoadedCodeIsThere, LoadedEntriesLead};
 ghost use Rattle.rt_native_laws.specs.Opening.{OpeningIsDone};
 ghost use Rattle.rt_native_laws.specs.Owing.{CeilingsHoldOff, HappeningsAreAlike, NoneAboveSetsAlarms};
@@ -157,10 +162,36 @@ pub fn inputs_are_read()
     ensures kept { ReadingIsKept }
 {}
 
+/// A function of C runs first as an interrupt is taken, where it keeps to the procedure call standard and is harmless
+/// to what is ours: behind it the handler's inputs are read, and its frame comes into being, as without it.
+pub fn functions_come_first()
+    ensures first { EntryCallsFirst }
+    ensures words { FunctionsPutWords }
+{}
+
+/// A job that calls its function of C may be interrupted anywhere: each machine instruction leads it on in its call,
+/// the function's too, and what others do leaves it there, where it goes on as the handler returns.
+pub fn calls_go_on()
+    ensures begins { EntryBeginsCall }
+    ensures goes { CallGoesOn }
+    ensures no_fault { CallIsNoFault }
+    ensures function { FunctionGoesOn }
+    ensures kept { CallIsKept }
+    ensures resumes { ReturnsToCall }
+{}
+
 /// Where a program lies in flash, each instruction's code is at its place, and entries lead to what runs first.
 pub fn loaded_code_is_there()
     ensures code { LoadedCodeIsThere }
     ensures entries { LoadedEntriesLead }
+{}
+
+/// A linker writes the calls of functions alone: the image's code is at its places, entries lead to the calls, and
+/// ticks and reset are served as without.
+pub fn linked_code_is_there()
+    ensures code { LinkedCodeIsThere }
+    ensures entries { LinkedEntriesLead }
+    ensures service { LinkedServiceLies }
 {}
 
 /// The rest of reset's code, behind what sets interrupts, leads to the core after reset, whatever comes meanwhile.
@@ -257,4 +288,11 @@ pub fn native_simulates_from_reset()
 /// nothing, and the stack is within the thread's frame; and behind it native code does what its image does.
 pub fn every_list_is_simulated()
     ensures { EveryListIsSimulated }
+{}
+
+/// Whatever lies in flash, there is a program that is that. Where it is the file of an image, a processor that begins
+/// after reset begins with the program of the image.
+pub fn files_are_programs()
+    ensures has { FlashHasAProgram }
+    ensures files { FilesArePrograms }
 {}

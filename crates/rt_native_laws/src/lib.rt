@@ -10,11 +10,12 @@ mod laws;
 
 pub use laws::{
     accesses_are_done, alarms_are_done, alarms_are_owed, alarms_are_steps,
-    alarms_change_no_other_step, calls_are_done, each_kind_goes_on, entries_are_undone,
-    entries_lead_on, events_are_steps, every_list_is_simulated, inputs_are_read,
-    instructions_lead_on, jobs_leave, jobs_wait, jumps_are_done, loaded_code_is_there,
-    masks_are_done, moves_are_done, native_simulates, native_simulates_from_reset,
-    openings_are_done, others_are_left, phases_are_kept, private_is_unseen, requests_are_done,
-    requests_come, requests_lead_on, reset_leads, returns_are_done, stack_is_no_deeper,
-    ticks_are_served, words_are_kept,
+    alarms_change_no_other_step, calls_are_done, calls_go_on, each_kind_goes_on,
+    entries_are_undone, entries_lead_on, events_are_steps, every_list_is_simulated,
+    files_are_programs, functions_come_first, inputs_are_read, instructions_lead_on, jobs_leave,
+    jobs_wait, jumps_are_done, linked_code_is_there, loaded_code_is_there, masks_are_done,
+    moves_are_done, native_simulates, native_simulates_from_reset, openings_are_done,
+    others_are_left, phases_are_kept, private_is_unseen, requests_are_done, requests_come,
+    requests_lead_on, reset_leads, returns_are_done, stack_is_no_deeper, ticks_are_served,
+    words_are_kept,
 };

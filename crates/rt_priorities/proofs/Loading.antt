@@ -68,7 +68,7 @@ module _ (m : Machine) (small : (k : ℕ) → m.memory k < 2 ^ 32) where
       of_bytes (m.memory (a / 4)) w (small (a / 4)) l (byte 0 (omega arith)) (byte 1 (omega arith))
       (byte 2 (omega arith)) (byte 3 (omega arith))
 
-  words_lie : (ws : List ℕ) (a : ℕ) → a % 4 ≡ 0 → AllByRecursion (λ w. w < 2 ^ 32) ws
+  pub words_lie : (ws : List ℕ) (a : ℕ) → a % 4 ≡ 0 → AllByRecursion (λ w. w < 2 ^ 32) ws
       → BytesLie m a (flat_map elf.word ws) → (k : ℕ) → k < length ws → word_at m (a + 4 * k) ≡ slice_index ws k
   words_lie [] a z all h k l = absurd (omega (arith, l))
   words_lie (w ∷ ws) a z all h zero l =
