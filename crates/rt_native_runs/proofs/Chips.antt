@@ -1,11 +1,9 @@
 -- What the laws of native code ask of an image and of a chip: an image of `build` has it where it fits, and a chip too.
-use Rattle.std.proofs.Common.{◌≡◌, ℕ, ◌+◌, ◌^◌, ◌<◌, ◌≤◌, ◌==◌, inl, inr, true, List, [], ◌∷◌}
+use Rattle.std.proofs.Common.{◌≡◌, ℕ, ◌+◌, ◌^◌, ◌<◌, ◌≤◌, inl, inr, List, [], ◌∷◌}
 use Rattle.std.proofs.Common.{length}
 use Rattle.std.proofs.Common.{Option, Some, None, IfSome, option_map, refl, sym, ap, subst, ◌∙◌, ⊎_elim, arith}
-use Rattle.std.specs.List.{AllByRecursion, list_any}
-use Rattle.std.proofs.lemmas.Bool.{eqb-true}
+use Rattle.std.specs.List.{AllByRecursion}
 use Rattle.std.proofs.lemmas.List.{length-map}
-use Rattle.rt_lemmas.proofs.Bools.{or_cases}
 use Rattle.rt_lemmas.proofs.Lists.{find_has}
 use Rattle.rt_lemmas.proofs.Membership.{all_weaker}
 use Rattle.rt_ids.specs.declared.limits.TheConstants.{IRQ_NUMBERS}
@@ -22,7 +20,7 @@ use Rattle.rt_code.specs.Image.{Image}
 use Rattle.rt_code.specs.Runnable.{IsRunnable}
 use Rattle.rt_code.specs.declared.image.IrqRow.{IrqRow}
 use Rattle.rt_gen_body.proofs.Owning.{local_cell}
-use Rattle.rt_laws.specs.Services.{is_declared, service_at}
+use Rattle.rt_laws.specs.Services.{service_at}
 use Rattle.rt_native.specs.Fitting.{Fits}
 use Rattle.rt_native.specs.Target.{Target}
 use Rattle.rt_native.specs.declared.target.Input.{Input}
@@ -63,19 +61,7 @@ numbers_small : (app : App) (at : Entries) (i : ℕ) (ds : List IrqDecl)
 numbers_small app at i [] all = tt
 numbers_small app at i (d ∷ ds) all = (all.0, numbers_small app at (i + 1) ds all.1)
 
--- a declared interrupt has a number that a device can have
-declared_small : (ds : List IrqDecl) (irq : ℕ) → AllByRecursion (λ d. d.number < IRQ_NUMBERS) ds
-    → list_any (λ d. d.number == irq) ds ≡ true → irq < IRQ_NUMBERS
-declared_small [] irq all is = absurd (cc (is))
-declared_small (d ∷ ds) irq all is =
-    ⊎_elim (λ (x : (d.number == irq) ≡ true). let same = eqb-true d.number irq x in omega (arith, same, all.0))
-    (λ (x : list_any (λ d. d.number == irq) ds ≡ true). declared_small ds irq all.1 x)
-    (or_cases (d.number == irq) (list_any (λ d. d.number == irq) ds) is)
-
 module _ (app : App) (img : Image) (accepted : IsAccepted app) (is_image : IsImageOf app img) where
-  pub number_small : (irq : ℕ) → is_declared app irq ≡ true → irq < IRQ_NUMBERS
-  number_small irq is = declared_small app.irqs irq (accepted_are_sound app accepted).numbers is
-
   -- a handler has a priority value of eight bits
   value_small : (row : IrqRow) → IsServed app is_image.at accepted.limits.least_bits accepted.limits.most_bits
       (accepted_are_sound app accepted) row → IfSome row.handler (λ h. h.value < 2 ^ 8)

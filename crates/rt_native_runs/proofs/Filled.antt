@@ -53,7 +53,8 @@ use Rattle.rt_native_runs.proofs.Sorts.{IsOther, ItCalls, ItComesBack, ItIsOther
 use Rattle.rt_native_runs.proofs.Sorts.{goes_plainly, kind_of}
 use Rattle.rt_native_runs.proofs.Steps.{Returned, coupled_plain, coupled_return, goes_on, runs}
 use Rattle.rt_native_runs.proofs.Words.{alike_all, alike_further, alike_itself, take_alike}
-use Rattle.rt_native_runs.proofs.Refilled.{refill, refilled, AreFills, bases_of_takings, own_fills, refill_own, alike_refilled, TickIs, tick_is}
+use Rattle.rt_native_runs.proofs.Refilled.{refill, refilled, AreFills, bases_of_takings, own_fills, refill_own}
+use Rattle.rt_native_runs.proofs.Refilled.{alike_refilled, TickIs, tick_is}
 
 module _ (app : App) (img : Image) (accepted : IsAccepted app) (is_image : IsImageOf app img) (lies : LiesWell img)
   where

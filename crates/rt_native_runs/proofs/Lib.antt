@@ -25,7 +25,8 @@ pub mod Cells
 pub mod Leaving
 pub mod NotBegun
 pub mod Writing
+pub mod Devices
 pub mod Behaving
 pub mod Chips
-pub mod Following
 pub mod Running
+pub mod FromFile

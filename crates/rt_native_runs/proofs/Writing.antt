@@ -37,6 +37,7 @@ use Rattle.rt_sim.proofs.Stepping.{IsTaking, is_taking}
 use Rattle.rt_trace.specs.Label.{Label}
 use Rattle.rt_native_runs.specs.Laws.{WritesLocal}
 use Rattle.rt_native_runs.specs.Lying.{LiesWell}
+use Rattle.rt_native_runs.specs.Running.{PutOnly}
 use Rattle.rt_native_runs.proofs.Beside.{pick_beside}
 use Rattle.rt_native_runs.proofs.Cells.{AreAlikeBut, freer, put_again, put_alike}
 use Rattle.rt_native_runs.proofs.Coupled.{Coupled}
@@ -48,16 +49,31 @@ use Rattle.rt_native_runs.proofs.NotBegun.{IsCellOf}
 abbrev pub beside : Moment → List ℕ → Moment
 beside s cells = with_core s (with_cells s.core cells)
 
-module _ (app : App) where
-  -- Baker's machine comes to a state by a run beside devices, which shows these labels.
+-- words of 32 bits of some kind, by their cells
+abbrev pub IsWord : (ℕ → ℕ → Type 0) → ℕ → ℕ → Type 0
+IsWord Q k word = (word < 2 ^ 32) × Q k word
+
+only_ones : (P : ℕ → ℕ → Type 0) (labels : List Label) → PutOnly P (ones labels)
+only_ones P [] = tt
+only_ones P (label ∷ labels) = only_ones P labels
+
+only_both : (P : ℕ → ℕ → Type 0) (front behind : List (WithWords Label)) → PutOnly P front → PutOnly P behind
+    → PutOnly P (front ++ behind)
+only_both P [] behind one other = other
+only_both P (One label ∷ front) behind one other = only_both P front behind one other
+only_both P (Puts n word ∷ front) behind one other = (one.0, only_both P front behind one.1 other)
+
+module _ (app : App) (Q : ℕ → ℕ → Type 0) where
+  -- Baker's machine comes to a state by a run beside devices, which shows these labels, with words of some kind.
   pub record HasRun (shown : List Label) (b : State) : Type 0 where
     pub moves : List (WithWords Label)
     pub runs : RunsBeside app (first app) moves
     pub shows : things moves ≡ shown
     pub state : after_moves app (first app) moves ≡ b
+    pub words : PutOnly (λ n word. Q (local_at app n) word) moves
 
   pub run_first : HasRun [] (first app)
-  run_first = record { moves = []; runs = tt; shows = refl; state = refl }
+  run_first = record { moves = []; runs = tt; shows = refl; state = refl; words = tt }
 
   joined : (front behind : List (WithWords Label)) (b : State) → RunsBeside app b front
       → RunsBeside app (after_moves app b front) behind → RunsBeside app b (front ++ behind)
@@ -66,13 +82,15 @@ module _ (app : App) where
   joined (Puts n word ∷ front) behind b before later = (before.0, joined front behind _ before.1 later)
 
   run_further : (shown more : List Label) (b c : State) (moves : List (WithWords Label)) → HasRun shown b
-      → RunsBeside app b moves → things moves ≡ more → after_moves app b moves ≡ c → HasRun (shown ++ more) c
-  run_further shown more b c moves run runs shows leads = record {
+      → RunsBeside app b moves → things moves ≡ more → after_moves app b moves ≡ c
+      → PutOnly (λ n word. Q (local_at app n) word) moves → HasRun (shown ++ more) c
+  run_further shown more b c moves run runs shows leads words = record {
     moves = run.moves ++ moves;
     runs = joined run.moves moves (first app) run.runs
         (subst (λ t. RunsBeside app t moves) (sym run.state) runs);
     shows = things_append run.moves moves ∙ ap (λ ls. ls ++ things moves) run.shows ∙ ap (λ ls. shown ++ ls) shows;
     state = moves_append app run.moves moves (first app) ∙ ap (λ t. after_moves app t moves) run.state ∙ leads;
+    words = only_both (λ n word. Q (local_at app n) word) run.moves moves run.words words;
   }
 
   -- with labels more
@@ -80,14 +98,14 @@ module _ (app : App) where
       → HasRun (shown ++ more) (after_all app b more)
   run_shows shown more b run runs =
       run_further shown more b (after_all app b more) (ones more) run (runs_ones app more b runs) (things_ones more)
-      (after_ones app more b)
+      (after_ones app more b) (only_ones (λ n word. Q (local_at app n) word) more)
 
   -- with a word more
   pub run_puts : (shown : List Label) (b : State) (n word : ℕ) → HasRun shown b → MayPut app b n word
-      → HasRun shown (state_after_put n word b)
-  run_puts shown b n word run may =
+      → Q (local_at app n) word → HasRun shown (state_after_put n word b)
+  run_puts shown b n word run may is =
       subst (λ ls. HasRun ls (state_after_put n word b)) (append-nil shown)
-      (run_further shown [] b (state_after_put n word b) (Puts n word ∷ []) run (may, tt) refl refl)
+      (run_further shown [] b (state_after_put n word b) (Puts n word ∷ []) run (may, tt) refl refl (is, tt))
 
 module _ (app : App) (img : Image) (accepted : IsAccepted app) (is_image : IsImageOf app img) where
   module _ (b : State) (n : ℕ) (bases : List ℕ) (c : Core) (x : Coupled app img accepted is_image b n bases c)
@@ -130,23 +148,23 @@ module _ (app : App) (img : Image) (accepted : IsAccepted app) (is_image : IsIma
       left = x.left;
     }
 
-  module _ (lies : LiesWell img) where
+  module _ (Q : ℕ → ℕ → Type 0) (lies : LiesWell img) where
     -- with these cells the core is well, and Baker's machine has come to its state by what was shown
     pub record WellWith (shown : List Label) (n : ℕ) (s : Moment) (cells : List ℕ) : Type 0 where
       pub state : State
-      pub run : HasRun app shown state
+      pub run : HasRun app Q shown state
       pub well : Well app img accepted is_image lies state n (beside s cells)
 
     module _ (shown : List Label) (n : ℕ) (s : Moment) (row : IrqRow) (picked : pick img s.core ≡ Some row) where
       well_put : (cells : List ℕ) → WellWith shown n s cells → (input : Input) → WritesLocal app input
-          → input.irq ≡ row.number → (word : ℕ) → word < 2 ^ 32
+          → input.irq ≡ row.number → (word : ℕ) → IsWord Q input.cell word
           → WellWith shown n s (slice_set cells input.cell word)
-      well_put cells its input writes same word small = record {
+      well_put cells its input writes same word is = record {
         state = state_after_put writes.writes.local word its.state;
-        run = run_puts app shown its.state writes.writes.local word its.run
+        run = run_puts app Q shown its.state writes.writes.local word its.run
             (may_put its.state n (bases_of_takings s.takings) (with_cells s.core cells)
             (actual app img accepted is_image lies its.state n (beside s cells) its.well) row picked input writes same
-            word small);
+            word is.0) (subst (λ k. Q k word) writes.cell is.1);
         well = record {
           each = λ words others alike fills.
               coupled_put its.state n (bases_of_takings s.takings) (refilled words others (with_cells s.core cells))
@@ -166,7 +184,7 @@ module _ (app : App) (img : Image) (accepted : IsAccepted app) (is_image : IsIma
 
       -- such a core is well also with its words
       pub well_opened : (IsFree : ℕ → Type 0) (before : List ℕ) (inputs : List Input)
-          → AllByRecursion (WritesLocal app) inputs → (cells : List ℕ) → AreAlikeBut IsFree before cells
+          → AllByRecursion (WritesLocal app) inputs → (cells : List ℕ) → AreAlikeBut (IsWord Q) IsFree before cells
           → WellWith shown n s (closed before inputs cells) → WellWith shown n s cells
       well_opened IsFree before [] given cells alike its = its
       well_opened IsFree before (input ∷ more) given cells alike its =
@@ -175,12 +193,12 @@ module _ (app : App) (img : Image) (accepted : IsAccepted app) (is_image : IsIma
           put : List ℕ
           put = slice_set cells input.cell (slice_index before input.cell)
 
-          by : ((ks : List ℕ) → AreAlikeBut IsFree before ks → WellWith shown n s (closed before more ks)
+          by : ((ks : List ℕ) → AreAlikeBut (IsWord Q) IsFree before ks → WellWith shown n s (closed before more ks)
               → WellWith shown n s ks) → (((input.irq == row.number) ≡ true) × (input.irq ≡ row.number))
               ⊎ (((input.irq == row.number) ≡ false) × (input.irq ≢ row.number)) → WellWith shown n s cells
           by rest (inl same) =
               let there : WellWith shown n s put =
-              rest put (put_alike IsFree IsFree before cells input.cell (λ j other free. free) alike)
+              rest put (put_alike (IsWord Q) IsFree IsFree before cells input.cell (λ j other free. free) alike)
               (subst (λ b. WellWith shown n s (closed before more (if b then put else cells))) same.0 its) in
               elim (alike.each input.cell) [
                 | inl as_before ↦ subst (λ ks. WellWith shown n s ks)
@@ -196,8 +214,8 @@ module _ (app : App) (img : Image) (accepted : IsAccepted app) (is_image : IsIma
 
       -- and these are as they were, but for what is free otherwise
       pub closed_alike : (IsElsewhere : ℕ → Type 0) (before : List ℕ) (inputs : List Input) (cells : List ℕ)
-          → AreAlikeBut (λ k. IsCellOf inputs (λ irq. irq ≡ row.number) k ⊎ IsElsewhere k) before cells
-          → AreAlikeBut IsElsewhere before (closed before inputs cells)
+          → AreAlikeBut (IsWord Q) (λ k. IsCellOf inputs (λ irq. irq ≡ row.number) k ⊎ IsElsewhere k) before cells
+          → AreAlikeBut (IsWord Q) IsElsewhere before (closed before inputs cells)
       closed_alike IsElsewhere before [] cells alike = record {
         long = alike.long;
         each = λ k. elim (alike.each k) [
@@ -243,13 +261,14 @@ module _ (app : App) (img : Image) (accepted : IsAccepted app) (is_image : IsIma
 
           by : (((input.irq == row.number) ≡ true) × (input.irq ≡ row.number))
               ⊎ (((input.irq == row.number) ≡ false) × (input.irq ≢ row.number))
-              → AreAlikeBut Free before
+              → AreAlikeBut (IsWord Q) Free before
               (if input.irq == row.number then slice_set cells input.cell (slice_index before input.cell) else cells)
           by (inl same) =
-              subst (λ b. AreAlikeBut Free before (if b then put else cells)) (sym same.0)
-              (put_alike (λ k. IsCellOf (input ∷ more) (λ irq. irq ≡ row.number) k ⊎ IsElsewhere k) Free before cells
-              input.cell elsewhere alike)
+              subst (λ b. AreAlikeBut (IsWord Q) Free before (if b then put else cells)) (sym same.0)
+              (put_alike (IsWord Q)
+              (λ k. IsCellOf (input ∷ more) (λ irq. irq ≡ row.number) k ⊎ IsElsewhere k) Free before
+              cells input.cell elsewhere alike)
           by (inr other) =
-              subst (λ b. AreAlikeBut Free before (if b then put else cells)) (sym other.0)
-              (freer (λ k. IsCellOf (input ∷ more) (λ irq. irq ≡ row.number) k ⊎ IsElsewhere k) Free
+              subst (λ b. AreAlikeBut (IsWord Q) Free before (if b then put else cells)) (sym other.0)
+              (freer (IsWord Q) (λ k. IsCellOf (input ∷ more) (λ irq. irq ≡ row.number) k ⊎ IsElsewhere k) Free
               (of_others other.1) before cells alike)

@@ -2,3 +2,4 @@
 pub mod Lying
 pub mod Laws
 pub mod Running
+pub mod FromFile

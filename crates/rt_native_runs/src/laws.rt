@@ -1,5 +1,6 @@
 // The laws of the images that are built, and of their programs.
 
+ghost use Rattle.rt_native_runs.specs.FromFile.{FilesRunAsImages};
 ghost use Rattle.rt_native_runs.specs.Laws.{ImagesBehave, ImagesLieWell};
 ghost use Rattle.rt_native_runs.specs.Running.{ProgramsRunAsImages};
 
@@ -16,11 +17,18 @@ pub fn images_behave()
     ensures { ImagesBehave }
 {}
 
-/// The program of the image that `build` makes of an accepted application does, from reset on, what the image does,
-/// whatever declared interrupts arrive between any two machine instructions, beside devices that write local resources
-/// of hardware tasks: there is no fault; what others see of the processor is what the image shows, which is a run of
-/// Baker's machine beside devices, with its three properties; messages are kept; and the stack is within the printed
-/// bound and a tick's frame. It is not said of programs that call functions of C.
+/// The program of the image that `build` makes of an accepted application does, from reset on, what the image does, at
+/// each event of every list, whatever interrupts arrive between any two machine instructions: there is no fault; the same
+/// arrives, and others see what the image shows; and the stack is no deeper, but for a tick's frame. It is so as long as
+/// what happens to the image fits: then what it shows is a run of Baker's machine beside devices, with its three
+/// properties, messages are kept, and the stack is within the printed bound. It is not said of programs that call
+/// functions of C.
 pub fn programs_run_as_images()
     ensures { ProgramsRunAsImages }
+{}
+
+/// Each processor whose memory holds the file of that image, as reset ends, does so: what flash has then is the image's
+/// program.
+pub fn files_run_as_images()
+    ensures { FilesRunAsImages }
 {}

@@ -49,3 +49,23 @@ is_region app facts are test = by (find test facts) refl
     by (Some f) is =
         let place = found_at test facts f is in
         region f (all_at (λ f. is_in_range f ≡ true) facts place.0 f (in_ranges app [] facts are) place.1)
+
+low : (f : Fact) → is_in_range f ≡ true → (region_of (Some f)).address + (region_of (Some f)).size ≤ SYSTEM
+low (Flash a n) is = (memory_at TABLE a n is).1
+low (Ram a n) is = (memory_at STACK a n (and_right (nat_lt 0 a) (is_memory_at STACK a n) is)).1
+low (Port a) is = omega arith
+low (Tick n) is = omega arith
+low (Bits n) is = omega arith
+low (Word r a) is = omega arith
+low (Call irq) is = omega arith
+
+-- and ends before the system's addresses
+pub is_low : (app : App) (facts : List Fact) → AreFacts app facts → (test : Fact → Bool)
+    → (region_of (find test facts)).address + (region_of (find test facts)).size ≤ SYSTEM
+is_low app facts are test = by (find test facts) refl
+  where
+    by : (o : Option Fact) → find test facts ≡ o → (region_of o).address + (region_of o).size ≤ SYSTEM
+    by None is = omega arith
+    by (Some f) is =
+        let place = found_at test facts f is in
+        low f (all_at (λ f. is_in_range f ≡ true) facts place.0 f (in_ranges app [] facts are) place.1)

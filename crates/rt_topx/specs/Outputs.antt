@@ -25,8 +25,7 @@ use Rattle.rt_inputs_audit.specs.Reading.{Told, IsInputsText}
 use Rattle.rt_target.specs.Reading.{IsBoardOf, IsTargetOf}
 use Rattle.rt_target.specs.Setup.{Setup}
 use Rattle.rt_native.specs.Target.{Target}
-use Rattle.rt_native_runs.specs.Running.{ProgramRuns}
-use Rattle.rt_thumb.specs.Step.{Program}
+use Rattle.rt_native_runs.specs.FromFile.{FileRuns}
 use Rattle.rt_top.specs.Outputs.{IsGoodOf, IsGoodImage}
 use Rattle.rt_topx.specs.Executable.{IsMade}
 use Rattle.rt_topx.specs.Target.{target_of}
@@ -96,11 +95,11 @@ pub record IsLiveBeside (text beside more bytes : List ℕ) : Type 0 where
   pub written : bytes ≡ listing image ++ codes "trace\n" ++ shown
   pub runs : RunsWellBeside app image (moves_of app image board (happened script live.found))
 
--- The program of an image does on a chip what the image does, from reset on (`ProgramRuns`): no fault comes, what
--- others see of the processor is what the image shows, which is a run of Baker's machine beside devices, and the stack
--- is within its bound and a tick's frame.
-abbrev pub RunsOnChip : App → Image → Target → Type 0
-RunsOnChip app image target = (p : Program) → ProgramRuns app image target p
+-- On each processor of a chip whose memory holds these bytes, loaded as an executable file is, flash has a program that
+-- does, from reset on, what the image does (`FileRuns`): no fault comes, what others see of the processor is what the
+-- image shows, which is a run of Baker's machine beside devices, and the stack is within its bound and a tick's frame.
+abbrev pub RunsOnChip : App → Image → Target → List ℕ → Type 0
+RunsOnChip app image target bytes = FileRuns app image target bytes
 
 -- `native`: the executable of a good image, which is good beside the devices of the board too, for the chip of the
 -- board; or, where the image does not fit, the line of the board's text that is too small for it.
@@ -114,8 +113,8 @@ pub record IsMadeNative (text beside : List ℕ) (ended : Status) (bytes : List 
   pub inputs : AreInputs app setup.board.inputs
   pub good : IsGoodBeside app image setup.board
   pub made : IsMade app image beside setup ended bytes
-  -- The file's program does on the chip's processor, from reset on, what the image does.
-  pub simulates : ended ≡ status.Done → RunsOnChip app image (target_of app setup)
+  -- The file that is written does on the chip's processor, from reset on, what the image does.
+  pub simulates : ended ≡ status.Done → RunsOnChip app image (target_of app setup) bytes
 
 -- `cycles`: what a good image costs on a Cortex-M4, in cycles, and what `check` counts in steps, each step at most
 pub record IsCycles (text bytes : List ℕ) : Type 0 where

@@ -14,11 +14,11 @@ use Rattle.rt_topx.specs.Executable as program
 use Rattle.rt_topx.specs.Outputs.{RunsOnChip}
 use Rattle.rt_topx.specs.Target.{target_of}
 
--- the bytes are the file of a good image, whose program does what it does
+-- the bytes are the file of a good image, which does what it does
 abbrev pub IsProgram : App → Setup → List ℕ → Type 0
 IsProgram app setup bytes =
     (image : Image) × IsGoodOf app image × program.IsFile app image setup bytes
-    × RunsOnChip app image (target_of app setup)
+    × RunsOnChip app image (target_of app setup) bytes
 
 -- a good image does not fit for this cause
 abbrev pub IsMisfit : App → Setup → Cause → Type 0
@@ -28,7 +28,7 @@ IsMisfit app setup why = (image : Image) × IsGoodOf app image × program.Misfit
 abbrev pub IsMade : App → List ℕ → Setup → Status → List ℕ → Type 0
 IsMade app text setup ended bytes =
     (image : Image) × IsGoodOf app image × program.IsMade app image text setup ended bytes
-    × (ended ≡ status.Done → RunsOnChip app image (target_of app setup))
+    × (ended ≡ status.Done → RunsOnChip app image (target_of app setup) bytes)
 
 -- how a board is told why an image does not fit; want of memory is none of its causes
 abbrev pub Tells : Unfit → Cause → Type 0

@@ -4,13 +4,14 @@ use Rattle.rt_app.specs.View.{app_of}
 use Rattle.rt_native.specs.File.{file}
 use Rattle.rt_native.specs.Fitting.{IsRegion, Fits, IsUnfit}
 use Rattle.rt_native.specs.Target.{Target}
-use Rattle.rt_native_runs.proofs.Running.{programs_run_as_images}
+use Rattle.rt_native_runs.specs.FromFile.{FileRuns}
+use Rattle.rt_native_runs.proofs.FromFile.{files_run_as_images}
 use Rattle.rt_target.specs.Chip.{is_flash, is_ram}
 use Rattle.rt_topx.specs.Target.{target_of}
 use Rattle.rt_topx.proofs.Chips.{is_chip}
 use Rattle.rt_topx.proofs.Wired.{inputs_are_wired}
 use Rattle.rt_topx.proofs.Making.{good_of, misfits_as}
-use Rattle.rt_topx.proofs.Regions.{is_region}
+use Rattle.rt_topx.proofs.Regions.{is_low, is_region}
 use Rattle.rt_topx.proofs.native.program.Goals as goal
 
 pub native-requires-clause-flash : goal.native-requires-clause-flash
@@ -30,14 +31,15 @@ returns-in-Ok-clause-bytes c =
     let of = c.in_ok-target.ensures in
     let app = app_of c.args.app.now in
     let setup = c.args.setup.now in
-    let fits = subst (Fits image) of c.in-Ok.ensures.fits in (
+    let fits = subst (Fits image) of c.in-Ok.ensures.fits in
+    let is_file = subst (λ (t : Target). c.in-Ok.bytes.items ≡ file image t) of c.in-Ok.ensures.bytes in (
       image,
       good_of app image c.requires.accepted is.image is.built is.runnable is.lines,
-      (fits, subst (λ (t : Target). c.in-Ok.bytes.items ≡ file image t) of c.in-Ok.ensures.bytes),
-      λ p.
-          programs_run_as_images app image (target_of app setup) p c.requires.accepted is.image is.built is.runnable
-          (is_chip app setup c.requires.facts c.requires.whole) fits
-          (inputs_are_wired app setup.board c.requires.inputs.each setup.facts c.requires.facts),
+      (fits, is_file),
+      subst (FileRuns app image (target_of app setup)) (sym is_file)
+          (files_run_as_images app image (target_of app setup) c.requires.accepted is.image is.built is.runnable
+          (is_chip app setup c.requires.facts c.requires.whole) (is_low app setup.facts c.requires.facts is_flash) fits
+          (inputs_are_wired app setup.board c.requires.inputs.each setup.facts c.requires.facts)),
     )
 
 pub returns-clause-unfit : goal.returns-clause-unfit
