@@ -16,6 +16,7 @@ sys.dont_write_bytecode = True
 sys.path.insert(0, TOOLS)
 
 from viewing.command import main
+from viewing.responses import read_responses
 
 RUNS = ("two", "pump", "four", "serial", "burst", "station", "names")
 # What `rticx respond` says of the application of `burst`, by an independent implementation, under `every UART0 500`,
@@ -187,6 +188,8 @@ def compare_responses():
         got = view(*files, "-", text=RESPONSES.replace("1 493", f"1 {task}", 1))
         expect(f"responses {task}: {got[0]} {got[2]}", got[0] == 0 and "over its bound" not in got[1])
     expect("an output of `respond` as a run", view("-", text=RESPONSES)[0] == 3)
+    bounds = read_responses("-", "task A 1 284\nirq A 3 4\n").bounds
+    expect(f"a task and an interrupt of one name: {bounds}", bounds == {("task", "A"): 284, ("irq", "A"): 4})
 
 
 def compare_account():

@@ -1,4 +1,4 @@
-"""Reads an output of `rticx respond`: how long a response takes at most, and which deadlines are met."""
+"""Reads an output of `rticx respond`: how long a response of each task takes at most."""
 import re
 
 from .reading import NAME, NUMBER, tell_in_place
@@ -6,14 +6,14 @@ from .told import BAD_LINE, NOT_A_RUN, Told
 
 BOUND = rf"(?:{NUMBER}|- (?:cycle|over|form))"
 LINE = re.compile(
-    rf"(?:irq|task) ({NAME}) {NUMBER} ({BOUND})|(?:met|late) {NAME} {NUMBER}|(?:never|merge) {NAME}"
+    rf"(irq|task) ({NAME}) {NUMBER} ({BOUND})|(?:met|late) {NAME} {NUMBER}|(?:never|merge) {NAME}"
     rf"|from {NAME} {NAME} {BOUND}|load (?:{NUMBER}|-)"
 )
 
 
 class Responses:
-    """What `respond` printed: by the interrupt of a hardware task, or the name of a software task, the most core steps
-    that a response takes, or None where there is no such number."""
+    """What `respond` printed: the most core steps that a response takes, or None where there is no such number, by the
+    word and the name of its line: `irq` and the interrupt of a hardware task, or `task` and a software task."""
 
     def __init__(self, name):
         self.name = name
@@ -25,15 +25,15 @@ class Responses:
 
     @staticmethod
     def key(task):
-        """What `respond` calls a task."""
-        return task.name if task.is_software() else task.interrupt
+        """What `respond` calls a task: an interrupt and a software task may have one name."""
+        return ("task", task.name) if task.is_software() else ("irq", task.interrupt)
 
     def agree(self, application):
         """Tells where the report has a task that the application lacks; without a listing nothing is known of it."""
         known = {self.key(task) for task in application.tasks}
         strange = [name for name in self.bounds if name not in known]
         if strange and application.listed:
-            raise Told(NOT_A_RUN, f"{self.name} is of another application: the run has no `{strange[0]}`")
+            raise Told(NOT_A_RUN, f"{self.name} is of another application: the run has no `{strange[0][1]}`")
 
 
 def read_responses(name, text):
@@ -45,5 +45,5 @@ def read_responses(name, text):
         if match is None:
             raise Told(BAD_LINE, f"{name}:{number}: no line of an output of `respond`: {line[:60]!r}")
         if match[1]:
-            found.bounds[match[1]] = int(match[2]) if match[2].isdigit() else None
+            found.bounds[match[1], match[2]] = int(match[3]) if match[3].isdigit() else None
     return found

@@ -27,7 +27,7 @@ class Row:
         self.requests = self.merged = self.arrived = 0
         self.longest_run = self.longest_wait = self.longest_response = self.unanswered = None
         # The same, where a request during `init` counts from its end.
-        self.longest_owed = self.unpaid = None
+        self.longest_after_init = self.unanswered_after_init = None
         # The step of the last request, and the fewest steps between two; those during `init` count as one at its end.
         self.last = self.least_distance = None
         # Since when the interrupt is pending, the lower steps until then, and who requested it.
@@ -76,18 +76,19 @@ class Row:
             self.longest_wait = steps
 
     def responded(self, steps, early):
-        """So many steps, `early` of them of `init`, from the request, or from where the message was ready, to the end."""
+        """So many steps, `early` of them of `init`, from the request, or from where the message was ready, to the end
+        of the run."""
         if self.longest_response is None or steps > self.longest_response:
             self.longest_response = steps
-        if self.longest_owed is None or steps - early > self.longest_owed:
-            self.longest_owed = steps - early
+        if self.longest_after_init is None or steps - early > self.longest_after_init:
+            self.longest_after_init = steps - early
 
     def left_open(self, steps, early):
         """So many steps from a request to the end of the trace, at which the run that it asked for had not ended."""
         if self.unanswered is None or steps > self.unanswered:
             self.unanswered = steps
-        if self.unpaid is None or steps - early > self.unpaid:
-            self.unpaid = steps - early
+        if self.unanswered_after_init is None or steps - early > self.unanswered_after_init:
+            self.unanswered_after_init = steps - early
 
 
 class Job:

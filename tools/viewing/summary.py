@@ -54,10 +54,10 @@ def response(longest, open_for):
 
 
 def answered(history, row):
-    """The longest response, and beside a report of `respond` the bound, where `init` counts for neither."""
+    """The longest response; beside a report of `respond` that from the end of `init` on, and the bound."""
     if history.responses is None:
         return (response(row.longest_response, row.unanswered),)
-    return response(row.longest_owed, row.unpaid), history.responses.bound(row.task)
+    return response(row.longest_after_init, row.unanswered_after_init), history.responses.bound(row.task)
 
 
 def steps(history):
@@ -141,11 +141,11 @@ def over(history):
 
 
 def late(history):
-    """A line for each response that took longer than `respond` says, so that the requests kept no limits."""
+    """A line for each response that took longer than `respond` says: then the requests did not keep the limits."""
     found = []
     for row in measured(history) if history.responses is not None else ():
         bound = history.responses.bound(row.task)
-        taken = max(row.longest_owed or 0, row.unpaid or 0)
+        taken = max(row.longest_after_init or 0, row.unanswered_after_init or 0)
         if bound is not None and taken > bound:
             found.append(f"a response of {row.task.name} took {taken} steps, over its bound {bound}: "
                          "its requests, or those of others, come more often than the limits say")
