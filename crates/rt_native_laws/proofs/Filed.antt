@@ -30,8 +30,8 @@ use Rattle.rt_native_laws.specs.Filed.{IsWhatFlashHas}
 use Rattle.rt_native_laws.specs.FromReset.{IsAtReset}
 use Rattle.rt_native_laws.specs.Loading.{IsExecuted}
 use Rattle.rt_native_laws.proofs.Decoding.{memory_has_a_program}
-use Rattle.rt_native_laws.proofs.Segments.{parts_lie}
 use Rattle.rt_native_laws.proofs.ResetPlaces.{first_place}
+use Rattle.rt_native_laws.proofs.Segments.{parts_lie}
 use Rattle.rt_priorities.specs.Loading.{BytesLie, HasText, ReadsMemory}
 use Rattle.rt_priorities.specs.Lying.{LieFrom}
 use Rattle.rt_priorities.specs.Vectors.{IsLoaded}
@@ -109,6 +109,7 @@ pub flash_has_a_program : FlashHasAProgram
 flash_has_a_program target m =
     let all = memory_has_a_program m target.port in part_of target m all.0 all.1 all.2
 
+-- first values lie at the address of a word
 first_values_aligned : (n : ℕ) → in_words n % 4 ≡ 0
 first_values_aligned n = omega arith
 
@@ -168,7 +169,8 @@ module _ (target : Target) (p : Program) (m : Machine) (is : IsWhatFlashHas targ
   executed low = record {
     port = is.port;
     encodable = λ a i e. ((is.code a i).0 e).1;
-    low = λ a i e. let in_it = ((is.code a i).0 e).0 in let some = some_bytes (encode i) in omega (arith, in_it.1, some, low);
+    low = λ a i e. let place = ((is.code a i).0 e).0 in
+        let some = some_bytes (encode i) in omega (arith, place.1, some, low);
     flash = low;
   }
 
@@ -181,7 +183,11 @@ module _ (img : Image) (target : Target) (p : Program) (m : Machine) (flash : Is
   loaded : IsLoaded img target p m
   loaded =
       let all = memory_has_a_program m target.port in
-      let has : HasText img target m = record { words = fresh.words.memory; table = fresh.vectors; bytes = text_lies } in
+      let has : HasText img target m = record {
+        words = fresh.words.memory;
+        table = fresh.vectors;
+        bytes = text_lies;
+      } in
       let whole = text_is_loaded img target all.0 m flash ram fits has all.2 in
       let end = instructions_end img target in
       let code = (ends img target).code in

@@ -62,7 +62,8 @@ module _ (e : Executable) (m : Machine) where
       ∙ (ap (slice_index ((front ++ e.text) ++ e.values)) place
       ∙ get_or-append-add (front ++ e.text) e.values k 0)
 
-  module _ (text_address : e.text_address < 2 ^ 32) (data_load : e.data_load < 2 ^ 32) (small : file_size e < 2 ^ 32) where
+  module _ (text_address : e.text_address < 2 ^ 32) (data_load : e.data_load < 2 ^ 32)
+      (small : file_size e < 2 ^ 32) where
     -- the fields of the first header
     text_paddr : elf_word (elf_of e) 64 ≡ e.text_address
     unfolding file_header segment_headers halves words

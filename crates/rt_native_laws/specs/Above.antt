@@ -24,6 +24,7 @@ abbrev pub StepsKeepAbove : Type 0
 StepsKeepAbove =
     (at : Outside) (top : ℕ) (said : Option What) (m n : Machine) → LeavesOthers at top said m n → KeepsAbove at top m n
 
+-- Nor does a tick.
 abbrev pub TicksKeepAbove : Type 0
 TicksKeepAbove =
     (at : Outside) (img : Image) (top : ℕ) (c : Core) (m n : Machine) → at.cells ≤ at.time → m.register 13 ≤ top
@@ -36,11 +37,13 @@ WordsStay =
     → HasCode at img places p → Executes p i m n → HoldsWords m
     → ((e : ℕ) → n.seen ≡ Returned e ∷ m.seen → ⊥) → HoldsWords n
 
+-- So does one that changes nothing but its job's own,
 abbrev pub WordsStayInPrivate : Type 0
 WordsStayInPrivate =
     (at : Outside) (img : Image) (places : List ℕ) (p : Program) (i : Instruction) (floor top : ℕ) (m n : Machine)
     → HasCode at img places p → Executes p i m n → ChangesItsOwn floor top m n → HoldsWords m → HoldsWords n
 
+-- and one that leaves to others what is theirs.
 abbrev pub WordsStayInSteps : Type 0
 WordsStayInSteps =
     (at : Outside) (img : Image) (places : List ℕ) (p : Program) (i : Instruction) (top : ℕ) (said : Option What)

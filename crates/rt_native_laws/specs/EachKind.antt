@@ -36,6 +36,8 @@ IsLoosely img c d core =
 
 module _ (at : Outside) (bottom : ℕ) (img : Image) (places : List ℕ) (p : Program) (c : Core) (top : ℕ)
     (m n : Machine) where
+  -- what the machine instruction is to the core, where its instruction leads to another core: nothing; its step; or the
+  -- exception return of its `ret`
   pub data EachGoes (kept : ℕ) (d : Core) (said : Option What) : Type 0 where
     Silently : IsNothing at bottom img places p c top m n kept → EachGoes kept d said
     BySteps : (core : Core) → IsLoosely img c d core → (instruction_at img c ≡ Some instr.Ret → ⊥)
@@ -43,6 +45,7 @@ module _ (at : Outside) (bottom : ℕ) (img : Image) (places : List ℕ) (p : Pr
     ByReturn : instruction_at img c ≡ Some instr.Ret → m.register 13 ≡ top → returned (m.register 14) m ≡ Some n
         → EachGoes kept d said
 
+-- Of each kind there is such a machine instruction, and it is no fault.
 abbrev pub EachKindGoesOn : Type 0
 EachKindGoesOn =
     (at : Outside) (bottom highest ceiling : ℕ) (inputs : List Input) (img : Image) (places : List ℕ) (p : Program)

@@ -49,7 +49,7 @@ module _ (target : Target) where
   IsInFlash a i =
       (target.flash.address ≤ a) × (a + size (encode i) ≤ target.flash.address + target.flash.size)
 
-  -- A program is what flash has, which code does not change: an instruction is at an address exactly where its
+  -- A program is what flash has, which stores do not change: an instruction is at an address exactly where its
   -- halfwords lie in flash. Stores to the target's port are told to others.
   pub record IsWhatFlashHas (p : Program) (m : Machine) : Type 0 where
     pub port : p.port ≡ target.port

@@ -93,6 +93,7 @@ module _ (at : Outside) (bottom : ℕ) (img : Image) (places : List ℕ) (p : Pr
         (settled_words (last_after img (instruction_at img c)) (length d.processor.slots)) phase
     pub others : LeavesOthers at top said m n
 
+  -- it is nothing to the core, or one step
   pub data IsOneStepOrNone (kept : ℕ) (d : Core) (said : Option What) : Type 0 where
     Nothing : IsNothing kept → IsOneStepOrNone kept d said
     OneStep : IsOneStep d said → IsOneStepOrNone kept d said

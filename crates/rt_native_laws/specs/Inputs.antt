@@ -45,6 +45,7 @@ pub record ReadingGoes (at : Outside) (bottom : ℕ) (img : Image) (places : Lis
       ⊎ (IsAtInputs at bottom img places p declared (core_after_word c input.cell value) top n × (value < 2 ^ 32))
   pub others : LeavesOthers at top None m n
 
+-- Each machine instruction that reads an input is so.
 abbrev pub ReadingGoesOn : Type 0
 ReadingGoesOn =
     (at : Outside) (bottom : ℕ) (img : Image) (places : List ℕ) (p : Program) (c : Core) (top : ℕ) (m n : Machine)

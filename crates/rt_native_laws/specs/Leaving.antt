@@ -67,6 +67,7 @@ pub record Resumes (at : Outside) (bottom highest ceiling : ℕ) (inputs : List 
   pub others : Waiting at bottom highest ceiling inputs img places p
       (others_tail (tail_of at bottom img places p d top n phase) tail) takings below d top n
 
+-- An exception return does so.
 abbrev pub ReturnResumes : Type 0
 ReturnResumes =
     (at : Outside) (bottom highest ceiling : ℕ) (inputs : List Input) (img : Image) (places : List ℕ) (p : Program)

@@ -22,6 +22,7 @@ use Rattle.rt_native_laws.specs.Tail.{IsOwing, Meanwhile}
 abbrev pub rung_moment : ℕ → Moment → Moment
 rung_moment irq s = with_core s (rung irq s.core)
 
+-- what happens is no tick
 abbrev pub IsNoTick : Happening → Type 0
 IsNoTick (Comes Tick) = ⊥
 IsNoTick happening = ⊤

@@ -47,10 +47,12 @@ abbrev pub IsOfTimer : Image → ℕ → Debt → Type 0
 IsOfTimer img ceiling t =
     IsHeldOff ceiling t.irq img.irqs × (timer_irq img.code ≡ Some t.irq) × (t.irq < IRQ_NUMBERS)
 
+-- the frames of jobs that were interrupted have an even number of words
 abbrev pub AreEvenBelow : List Context → Type 0
 AreEvenBelow below = AllByRecursion (λ x. IsEvenFrame x.caller x.slots) below
 
 module _ (img : Image) (target : Target) (p : Program) where
+  -- the lowest address of the image's own stack
   abbrev pub lowest : ℕ
   lowest = stack_bottom img target p
 
@@ -98,6 +100,7 @@ module _ (img : Image) (target : Target) (p : Program) where
   IsPastMarks c top m (AlreadyDone x) = pick img c ≡ None → instruction_at img c ≡ Some instr.Mark → ⊥
   IsPastMarks c top m phase = ⊤
 
+  -- the processor is where a moment of the image is, and the image has done its marks
   pub record Related (ceiling : ℕ) (s : Moment) (m : Machine) : Type 0 where
     pub here : IsWhere ceiling s m
     pub marks : IsPastMarks here.unpaid here.top m here.phase
@@ -140,13 +143,14 @@ LateInstructionsLeadOn =
     → Related img target p ceiling s m → m.is_unsettled ≡ true
     → (n : Machine) × (executed p m ≡ Some n) × LeadsOn img target p ceiling fits s m n
 
--- A request that a device makes, or SysTick, comes to both.
+-- A request that a device makes comes to both.
 abbrev pub RequestsLeadOn : Type 0
 RequestsLeadOn =
     (img : Image) (target : Target) (p : Program) (ceiling : ℕ) (s : Moment) (m : Machine) (irq : ℕ)
     → IsInPlace img target p → Related img target p ceiling s m → irq < IRQ_NUMBERS
     → Related img target p ceiling (moment_after img s (Comes (Arrive irq))) (pended (external irq) m)
 
+-- A tick that becomes pending is nothing to the image yet.
 abbrev pub PendingTicksLeadOn : Type 0
 PendingTicksLeadOn =
     (img : Image) (target : Target) (p : Program) (ceiling : ℕ) (s : Moment) (m : Machine) → IsInPlace img target p

@@ -51,6 +51,7 @@ is_compared timer (Posted irq) = not (is_some_and (λ t. t == irq) timer)
 is_compared timer (Entered e) = true
 is_compared timer (Returned e) = not (e == systick)
 
+-- what is compared of all that others see
 abbrev pub compared : Option ℕ → List Seen → List Seen
 compared timer seen = filter (is_compared timer) seen
 
@@ -59,6 +60,7 @@ abbrev pub arrivals_of : Happening → List ℕ
 arrivals_of (Comes (Arrive irq)) = irq ∷ []
 arrivals_of happening = []
 
+-- and those of an event of the processor
 abbrev pub arrivals_at : processor.Event → List ℕ
 arrivals_at (processor.Arrives irq) = irq ∷ []
 arrivals_at event = []

@@ -29,6 +29,7 @@ pub record TailGoes (at : Outside) (bottom : ℕ) (img : Image) (places : List �
   pub request : (said ≡ None) ⊎ (said ≡ Some (what.Post irq))
   pub others : LeavesOthers at top said m n
 
+-- Each machine instruction of a tail is so.
 abbrev pub TailGoesOn : Type 0
 TailGoesOn =
     (at : Outside) (bottom : ℕ) (img : Image) (places : List ℕ) (p : Program) (c : Core) (top : ℕ) (m n : Machine)

@@ -83,7 +83,8 @@ tasks_small n (t ∷ ts) all =
 
 module _ (app : App) where
   ready_small : (p : ℕ) → AllByRecursion IsSmall (ready_cells app p)
-  ready_small p = (omega arith, (omega arith, all_of _ IsSmall (λ k. omega arith) (range_with_len 0 (ready_room app p))))
+  ready_small p =
+      (omega arith, (omega arith, all_of _ IsSmall (λ k. omega arith) (range_with_len 0 (ready_room app p))))
 
   column_small : (name : List ℕ) → AllByRecursion IsSmall (timer_column app name)
   column_small name = all_of _ IsSmall (λ k. omega arith) (range_with_len 0 (armed_messages app))

@@ -17,7 +17,7 @@ use Rattle.rt_thumb.specs.Machine.{Machine}
 use Rattle.rt_thumb.specs.Step.{Program}
 
 module _ (app : App) (img : Image) (target : Target) where
-  -- the program that flash has runs as the image, at every list of events that may come
+  -- the program that flash has does, from reset on, what the image does
   pub record RunsFromFlash (m : Machine) : Type 0 where
     pub program : Program
     pub is : IsWhatFlashHas target program m

@@ -57,8 +57,8 @@ pub record WritesLocal (app : App) (input : Input) : Type 0 where
 abbrev pub ImagesLieWell : Type 0
 ImagesLieWell = (app : App) (img : Image) → IsAccepted app → IsBuilt app img → LiesWell img
 
--- The image that `build` makes of an accepted application behaves well, beside devices that write local resources of its
--- hardware tasks.
+-- The image that `build` makes of an accepted application behaves well, beside devices that write local resources of
+-- its hardware tasks.
 abbrev pub ImagesBehave : Type 0
 ImagesBehave =
     (app : App) (img : Image) (inputs : List Input) → IsAccepted app → IsImageOf app img → IsBuilt app img

@@ -1,7 +1,7 @@
 -- How the parts of an image's code lie, so that machine code closes the right frames: control stays within a part, from
--- an instruction to the next and by jumps; a part begins with the frame of its row; and a body is called from a frame of
--- sixteen words, with its arguments before the last. A translator sees all this in the image alone. It is this project's
--- own; no manual has such parts.
+-- an instruction to the next and by jumps; a part begins with the frame of its row; and a body is called from a frame
+-- of sixteen words, with its arguments before the last. A translator sees all this in the image alone. It is this
+-- project's own; no manual has such parts.
 use Rattle.std.specs.Prelude.{◌≡◌, ℕ, suc, ◌+◌, ◌^◌, ◌<◌, ◌≤◌, Option, Some, slice_get, IfSome, ⊤}
 use Rattle.std.specs.List.{AllByRecursion}
 use Rattle.rt_code.specs.Image.{Image}

@@ -36,8 +36,8 @@ use Rattle.rt_trace.specs.Label.{Label}
 abbrev pub region_end : Region → ℕ
 region_end region = region.address + region.size
 
--- A chip has its memories apart, below the addresses of the system, RAM not at 0, and its port apart from RAM, and from
--- the registers of the core (ARMv7-M Architecture Reference Manual, sections B3.1 and B3.2.1).
+-- A chip has its memories apart, RAM below the addresses of the system and not at 0, and its port apart from RAM and
+-- from the registers of the core (ARMv7-M Architecture Reference Manual, sections B3.1 and B3.2.1).
 pub record IsChip (target : Target) : Type 0 where
   pub flash : IsRegion target.flash
   pub ram : IsRegion target.ram
@@ -55,7 +55,7 @@ pub record IsWired (app : App) (input : Input) : Type 0 where
   pub aligned : input.address % 4 ≡ 0
   pub is_word : input.address < 2 ^ 32
 
--- each word that devices put into a local resource is such a one
+-- each word that devices put, with its local resource, is such a one
 abbrev pub PutOnly : (ℕ → ℕ → Type 0) → List (WithWords Label) → Type 0
 PutOnly IsSuch [] = Unit {0}
 PutOnly IsSuch (One label ∷ moves) = PutOnly IsSuch moves

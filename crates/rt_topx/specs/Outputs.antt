@@ -98,6 +98,7 @@ pub record IsLiveBeside (text beside more bytes : List ℕ) : Type 0 where
 -- On each processor of a chip whose memory holds these bytes, loaded as an executable file is, flash has a program that
 -- does, from reset on, what the image does (`FileRuns`): no fault comes, what others see of the processor is what the
 -- image shows, which is a run of Baker's machine beside devices, and the stack is within its bound and a tick's frame.
+-- Of a chip for which functions of C are called nothing is said.
 abbrev pub RunsOnChip : App → Image → Target → List ℕ → Type 0
 RunsOnChip app image target bytes = FileRuns app image target bytes
 
