@@ -23,24 +23,24 @@ use Rattle.rt_bounds.proofs.Grounds.{HasAll}
 use Rattle.rt_bounds.proofs.OnlySources.{mine_or_not}
 
 -- the lowest that a source may be
-abbrev least : Lines → ℕ → ℕ → ℕ
+abbrev pub least : Lines → ℕ → ℕ → ℕ
 least ls head a = if a == head then ls.first - 1 else ls.first
 
-closed_row : (ls : Lines) (head a : ℕ) (row : Sources) → is_closed_by ls head a (Some row) ≡ true
+pub closed_row : (ls : Lines) (head a : ℕ) (row : Sources) → is_closed_by ls head a (Some row) ≡ true
     → (least ls head a ≤ row.lowest) × (row.highest ≤ ls.last)
 closed_row ls head a row is = (
   (let h : least ls head a ≤ row.lowest = grind (arith, is) in h),
   (let h : row.highest ≤ ls.last = grind (arith, is) in h),
 )
 
-row_closed : (ls : Lines) (head a : ℕ) (row : Sources) → least ls head a ≤ row.lowest → row.highest ≤ ls.last
+pub row_closed : (ls : Lines) (head a : ℕ) (row : Sources) → least ls head a ≤ row.lowest → row.highest ≤ ls.last
     → is_closed_by ls head a (Some row) ≡ true
 row_closed ls head a row low high = grind (arith, low, high)
 
-least_head : (ls : Lines) (head a : ℕ) → a ≡ head → least ls head a ≡ ls.first - 1
+pub least_head : (ls : Lines) (head a : ℕ) → a ≡ head → least ls head a ≡ ls.first - 1
 least_head ls head a same = grind (arith, same)
 
-least_other : (ls : Lines) (head a : ℕ) → a ≢ head → least ls head a ≡ ls.first
+pub least_other : (ls : Lines) (head a : ℕ) → a ≢ head → least ls head a ≡ ls.first
 least_other ls head a apart = grind (arith, apart)
 
 module _ (img : Image) (owner : Owner) (walk : Walk) (ls : Lines) (mapped : HasAll img owner (reached_by walk))

@@ -1,5 +1,5 @@
 -- The one way out of lines: what the code finds line by line is what is so of points.
-use Rattle.std.proofs.Common.{◌≡◌, ◌≢◌, ◌⊎◌, ◌≤◌, ◌<◌, ◌+◌, ℕ, suc, Bool, true, false, if◌then◌else◌}
+use Rattle.std.proofs.Common.{◌≡◌, ◌≢◌, ◌⊎◌, ◌≤◌, ◌<◌, ℕ, suc, Bool, true, false, if◌then◌else◌}
 use Rattle.std.proofs.Common.{slice_get, option_map, Option, Some, None, is_some}
 use Rattle.std.proofs.Common.{refl, sym, ap, subst, ◌∙◌, inl, inr, ⊎_elim, arith}
 use Rattle.std.proofs.lemmas.Bool.{cases_eq}
@@ -244,37 +244,6 @@ module _ (img : Image) (owner : Owner) (walk : Walk) (ls : Lines) where
   IsFoundTo count None = (a : ℕ) → a < count → Has ls a → out a ≡ Stays
   IsFoundTo count (Some e) = Has ls e.jump × (e.jump < count) × (out e.jump ≡ Parts e)
       × ((a : ℕ) → a < count → Has ls a → (a ≡ e.jump) ⊎ (out a ≡ Stays))
-
-  more : (a k : ℕ) → a < k + 1 → (a < k) ⊎ (a ≡ k)
-  more a k less = ⊎_elim (λ same. inr same) (λ apart. inl (omega (arith, less, apart))) (cases_eq a k)
-
-  pub stays_more : (k : ℕ) (f : Option Exit) → IsFoundTo k f → out k ≡ Stays → IsFoundTo (k + 1) f
-  stays_more k None before is = λ a less inside. ⊎_elim
-      (λ lower. before a lower inside)
-      (λ same. subst (λ n. out n ≡ Stays) (sym same) is)
-      (more a k less)
-  stays_more k (Some e) before is = (
-    before.0,
-    (let less = before.1 in omega (arith, less)),
-    before.2,
-    λ a less inside. ⊎_elim
-        (λ lower. before.3 a lower inside)
-        (λ same. inr (subst (λ n. out n ≡ Stays) (sym same) is))
-        (more a k less),
-  )
-
-  pub parts_more : (k : ℕ) (e : Exit) → IsFoundTo k None → Has ls k → out k ≡ Parts e → IsFoundTo (k + 1) (Some e)
-  parts_more k e before here is =
-      let at : e.jump ≡ k =
-      (parts_here ls owner k (slice_get img.code k) (found walk.table k) e is).parts.parting.here in (
-        subst (Has ls) (sym at) here,
-        omega (arith, at),
-        subst (λ n. out n ≡ Parts e) (sym at) is,
-        λ a less inside. ⊎_elim
-            (λ lower. inr (before a lower inside))
-            (λ same. inl (same ∙ sym at))
-            (more a k less),
-      )
 
   -- of points
   module _ (mapped : HasAll img owner (reached_by walk)) where

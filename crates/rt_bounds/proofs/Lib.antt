@@ -44,3 +44,5 @@ pub mod Rows
 pub mod Taking
 pub mod Closing
 pub mod Covering
+pub mod Skipping
+pub mod InnersFound

@@ -1,8 +1,7 @@
 -- Whether the counter of a loop is changed once in each turn, line by line.
-use Rattle.std.proofs.Common.{◌≡◌, ◌≤◌, ◌<◌, ◌+◌, ℕ, suc, Bool, true, false, sym, subst, ◌∙◌, ⊎_elim}
+use Rattle.std.proofs.Common.{◌≡◌, ◌≤◌, ◌<◌, ℕ, suc, Bool, true, false, sym, subst, ◌∙◌, ⊎_elim}
 use Rattle.std.proofs.Common.{arith, MatchBool, List, [], ◌∷◌, slice_get, Option, Some}
 use Rattle.std.specs.List.{Contains}
-use Rattle.std.proofs.lemmas.Bool.{cases_eq}
 use Rattle.rt_lemmas.proofs.Membership.{all_has, contains_cases, contains_here, contains_none, contains_there}
 use Rattle.rt_code.specs.Image.{Image}
 use Rattle.rt_code.specs.declared.instr.Instr.{Instr}
@@ -17,14 +16,6 @@ use Rattle.rt_bounds.specs.Counting.{Place, IsInside, is_changed, is_changed_aft
 use Rattle.rt_bounds.specs.Inside.Countings.{IsOnceAt, IsOnce}
 
 module _ (img : Image) (walk : Walk) (c : Place) (change : ℕ) where
-  pub once_more : (k : ℕ) → IsOnceAt img walk c change k
-      → ((a : ℕ) → a < k → IsInside c a → IsOnceAt img walk c change a)
-      → (a : ℕ) → a < k + 1 → IsInside c a → IsOnceAt img walk c change a
-  once_more k here before a less inside = ⊎_elim
-      (λ same. subst (IsOnceAt img walk c change) (sym same) here)
-      (λ apart. let lower : a < k = omega (arith, less, apart) in before a lower inside)
-      (cases_eq a k)
-
   pub once_all : (k : ℕ) → suc c.last ≤ k → ((a : ℕ) → a < k → IsInside c a → IsOnceAt img walk c change a)
       → (b : Bool) → b ≡ is_changed c.jump change c.head → MatchBool b (IsOnce img walk c change) (¬ IsOnce img walk c change)
   once_all k past all true is = (

@@ -9,3 +9,4 @@ pub mod Sources
 pub mod Holdings
 pub mod Shapes
 pub mod Countings
+pub mod Inners

@@ -6,6 +6,8 @@ ghost use Rattle.rt_points.specs.Limits.{IsWithinLimits};
 ghost use Rattle.rt_points.specs.declared.point.Owner.{Owner as OwnerView};
 ghost use Rattle.rt_judge.specs.Inside.Tables.{found};
 ghost use Rattle.rt_bounds.specs.Inside.Ground.{IsMapped};
+ghost use Rattle.rt_bounds.specs.Inside.Inners.{AreInners};
+ghost use Rattle.rt_bounds.specs.Inside.Inners as inner;
 ghost use Rattle.rt_bounds.specs.Inside.Shapes as shapes;
 ghost use Rattle.rt_bounds.specs.Inside.Sources.{AreSources};
 ghost use Rattle.rt_code.specs.declared.instr.Instr.TheVariants as instr;
@@ -17,7 +19,7 @@ ghost use Rattle.rt_bounds.specs.declared.counting.Comparison.{Comparison as Com
 ghost use Rattle.rt_bounds.specs.declared.counting.Writers.TheVariants as writers;
 
 use crate::holding::{Writing, held_after, held_at, write_of};
-use crate::shape::{Exit, Lines, jump_at, lines_back};
+use crate::shape::{Exit, Inner, Lines, jump_at, lines_back};
 use crate::sources::{Sources, is_only_from};
 use crate::turns::turns_of;
 use rt_code::{Image, Instr};
@@ -304,17 +306,46 @@ impl Place {
         !self.has(address) || is_changed(self.jump, change, address) == changed
     }
 
+    /// The line that stands for those from an address on: the jump of a loop that begins there and has neither the
+    /// change nor the jump of this one, or the line itself.
+    fn stride(&self, inners: &[Option<Inner>], change: u32, address: u32) -> Inner
+        requires { address ≤ self.now.last }
+        ensures { inner.IsAside (spec.lines_of_place self.now) inners.now change self.now.jump address result }
+    {
+        let lines = Lines {
+            first: self.first,
+            last: self.last,
+        };
+        let stride = lines.stride(inners, address);
+        let inside = Lines {
+            first: address,
+            last: stride.last,
+        };
+        if inside.has(change) || inside.has(self.jump) {
+            Inner {
+                last: address,
+                jump: address,
+            }
+        } else {
+            stride
+        }
+    }
+
     /// Whether the counter is changed once in each turn.
-    fn is_once(&self, image: &Image, walk: &Walk, change: u32) -> bool
+    fn is_once(&self, image: &Image, walk: &Walk, inners: &[Option<Inner>], change: u32) -> bool
+        requires inners { inner.All (inner.IsStaying image.now walk.now) inners.now }
         requires limits { IsWithinLimits image.now }
         requires last { self.now.last + 1 < 2 ^ 32 }
         ensures { MatchBool result (spec.IsOnce image.now walk.now self.now change)
             (¬ spec.IsOnce image.now walk.now self.now change) }
     {
-        for address in self.first..self.last + 1 {
-            if !self.is_once_at(image, walk, change, address) {
+        let mut address = self.first;
+        while address <= self.last {
+            let stride = self.stride(inners, change, address);
+            if !self.is_once_at(image, walk, change, stride.jump) {
                 return false;
             }
+            address = stride.last + 1;
         }
         is_changed(self.jump, change, self.head)
     }
@@ -325,9 +356,11 @@ impl Place {
         image: &Image,
         walk: &Walk,
         sources: &[Sources],
+        inners: &[Option<Inner>],
         counter: u32,
         test: Test,
     ) -> Option<u32>
+        requires inners { inner.All (inner.IsStaying image.now walk.now) inners.now }
         requires limits { IsWithinLimits image.now }
         requires first { 0 < self.now.first }
         requires last { self.now.last + 1 < 2 ^ 32 }
@@ -336,7 +369,7 @@ impl Place {
             → def.IsLoop image.now owner self.now → spec.MatchTurns image.now owner self.now counter test result }
     {
         match self.writers(image, walk, counter) {
-            Writers::One(at) => self.turns_by_line(image, walk, sources, counter, test, at),
+            Writers::One(at) => self.turns_by_line(image, walk, sources, inners, counter, test, at),
             Writers::Nobody => None,
             Writers::Several => None,
         }
@@ -348,10 +381,12 @@ impl Place {
         image: &Image,
         walk: &Walk,
         sources: &[Sources],
+        inners: &[Option<Inner>],
         counter: u32,
         test: Test,
         at: u32,
     ) -> Option<u32>
+        requires inners { inner.All (inner.IsStaying image.now walk.now) inners.now }
         requires limits { IsWithinLimits image.now }
         requires first { 0 < self.now.first }
         requires last { self.now.last + 1 < 2 ^ 32 }
@@ -362,7 +397,7 @@ impl Place {
     {
         match change_at(image, at, counter) {
             Some(change) => {
-                if self.is_once(image, walk, at) {
+                if self.is_once(image, walk, inners, at) {
                     self.turns_by_change(image, walk, sources, counter, test, at, change)
                 } else {
                     None
@@ -411,8 +446,10 @@ impl Place {
         image: &Image,
         walk: &Walk,
         sources: &[Sources],
+        inners: &[Option<Inner>],
         comparison: Comparison,
     ) -> Option<u32>
+        requires inners { inner.All (inner.IsStaying image.now walk.now) inners.now }
         requires limits { IsWithinLimits image.now }
         requires first { 0 < self.now.first }
         requires last { self.now.last + 1 < 2 ^ 32 }
@@ -426,12 +463,12 @@ impl Place {
         match self.constant(image, walk, sources, self.jump - 1, comparison.other) {
             Some(limit) => {
                 let test = Test::Compared(comparison.op, limit);
-                self.turns_by(image, walk, sources, comparison.one, test)
+                self.turns_by(image, walk, sources, inners, comparison.one, test)
             }
             None => match self.constant(image, walk, sources, self.jump - 1, comparison.one) {
                 Some(limit) => {
                     let test = Test::ComparedWith(comparison.op, limit);
-                    self.turns_by(image, walk, sources, comparison.other, test)
+                    self.turns_by(image, walk, sources, inners, comparison.other, test)
                 }
                 None => None,
             },
@@ -439,7 +476,15 @@ impl Place {
     }
 
     /// How often the loop turns by what its jump looks at, which is this slot.
-    fn turns_on(&self, image: &Image, walk: &Walk, sources: &[Sources], slot: u32) -> Option<u32>
+    fn turns_on(
+        &self,
+        image: &Image,
+        walk: &Walk,
+        sources: &[Sources],
+        inners: &[Option<Inner>],
+        slot: u32,
+    ) -> Option<u32>
+        requires inners { inner.All (inner.IsStaying image.now walk.now) inners.now }
         requires limits { IsWithinLimits image.now }
         requires first { 0 < self.now.first }
         requires last { self.now.last + 1 < 2 ^ 32 }
@@ -448,13 +493,20 @@ impl Place {
             → def.IsLoop image.now owner self.now → spec.MatchCounts image.now owner self.now slot result }
     {
         match self.comparison(image, sources, slot) {
-            Some(comparison) => self.turns_by_comparison(image, walk, sources, comparison),
-            None => self.turns_by(image, walk, sources, slot, Test::Itself),
+            Some(comparison) => self.turns_by_comparison(image, walk, sources, inners, comparison),
+            None => self.turns_by(image, walk, sources, inners, slot, Test::Itself),
         }
     }
 
     /// How often the loop turns, if it counts.
-    fn counted(&self, image: &Image, walk: &Walk, sources: &[Sources]) -> Option<u32>
+    fn counted(
+        &self,
+        image: &Image,
+        walk: &Walk,
+        sources: &[Sources],
+        inners: &[Option<Inner>],
+    ) -> Option<u32>
+        requires inners { inner.All (inner.IsStaying image.now walk.now) inners.now }
         requires limits { IsWithinLimits image.now }
         requires first { 0 < self.now.first }
         requires last { self.now.last + 1 < 2 ^ 32 }
@@ -465,7 +517,7 @@ impl Place {
             → spec.MatchCounts image.now owner self.now slot result }
     {
         match jump_at(image, self.jump) {
-            Some(slot) => self.turns_on(image, walk, sources, slot),
+            Some(slot) => self.turns_on(image, walk, sources, inners, slot),
             None => None,
         }
     }
@@ -488,17 +540,19 @@ pub fn counting_at(
     walk: &Walk,
     owner: Owner,
     sources: &[Sources],
+    inners: &[Option<Inner>],
     last: u32,
 ) -> Option<CountingLoop>
     requires checked { IsChecked image.now }
     requires limits { IsWithinLimits image.now }
     requires mapped { IsMapped image.now owner walk.now }
     requires sources { AreSources image.now owner sources.now }
+    requires inners { AreInners image.now owner walk.now sources.now inners.now }
     requires last { last < length image.now.code }
     ensures { spec.MatchLoop image.now owner last result }
 {
     match lines_back(image, walk, last) {
-        Some(lines) => counting_in(image, walk, owner, sources, lines),
+        Some(lines) => counting_in(image, walk, owner, sources, inners, lines),
         None => None,
     }
 }
@@ -509,19 +563,21 @@ fn counting_in(
     walk: &Walk,
     owner: Owner,
     sources: &[Sources],
+    inners: &[Option<Inner>],
     lines: Lines,
 ) -> Option<CountingLoop>
     requires checked { IsChecked image.now }
     requires limits { IsWithinLimits image.now }
     requires mapped { IsMapped image.now owner walk.now }
     requires sources { AreSources image.now owner sources.now }
+    requires inners { AreInners image.now owner walk.now sources.now inners.now }
     requires last { lines.last < length image.now.code }
     requires back { Some lines
         ≡ shapes.lines_at lines.last (slice_get image.now.code lines.last) (found walk.now.table lines.last) }
     ensures { spec.MatchLoop image.now owner lines.last result }
 {
     match lines.head(image, walk, owner) {
-        Some(head) => counting_from(image, walk, owner, sources, lines, head),
+        Some(head) => counting_from(image, walk, owner, sources, inners, lines, head),
         None => None,
     }
 }
@@ -532,6 +588,7 @@ fn counting_from(
     walk: &Walk,
     owner: Owner,
     sources: &[Sources],
+    inners: &[Option<Inner>],
     lines: Lines,
     head: u32,
 ) -> Option<CountingLoop>
@@ -539,14 +596,15 @@ fn counting_from(
     requires limits { IsWithinLimits image.now }
     requires mapped { IsMapped image.now owner walk.now }
     requires sources { AreSources image.now owner sources.now }
+    requires inners { AreInners image.now owner walk.now sources.now inners.now }
     requires last { lines.last < length image.now.code }
     requires back { Some lines
         ≡ shapes.lines_at lines.last (slice_get image.now.code lines.last) (found walk.now.table lines.last) }
     requires head { Some head ≡ shapes.head_of image.now owner walk.now lines }
     ensures { spec.MatchLoop image.now owner lines.last result }
 {
-    match lines.exit_of(image, walk, owner, sources, head) {
-        Some(exit) => counting_by(image, walk, owner, sources, lines, head, exit),
+    match lines.exit_of(image, walk, owner, sources, inners, head) {
+        Some(exit) => counting_by(image, walk, owner, sources, inners, lines, head, exit),
         None => None,
     }
 }
@@ -557,6 +615,7 @@ fn counting_by(
     walk: &Walk,
     owner: Owner,
     sources: &[Sources],
+    inners: &[Option<Inner>],
     lines: Lines,
     head: u32,
     exit: Exit,
@@ -565,6 +624,7 @@ fn counting_by(
     requires limits { IsWithinLimits image.now }
     requires mapped { IsMapped image.now owner walk.now }
     requires sources { AreSources image.now owner sources.now }
+    requires inners { AreInners image.now owner walk.now sources.now inners.now }
     requires last { lines.last < length image.now.code }
     requires back { Some lines
         ≡ shapes.lines_at lines.last (slice_get image.now.code lines.last) (found walk.now.table lines.last) }
@@ -573,7 +633,7 @@ fn counting_by(
     ensures { spec.MatchLoop image.now owner lines.last result }
 {
     let place = place_of(lines, head, exit);
-    match place.counted(image, walk, sources) {
+    match place.counted(image, walk, sources, inners) {
         Some(turns) => Some(CountingLoop { place, turns }),
         None => None,
     }

@@ -7,12 +7,14 @@ ghost use Rattle.rt_judge.specs.Inside.Walks.{reached_by, IsSoundWalk};
 ghost use Rattle.rt_bounds.specs.Counting.{IsCounting};
 ghost use Rattle.rt_bounds.specs.Inside.Aheads as spec;
 ghost use Rattle.rt_bounds.specs.Inside.Ground.{IsMapped};
+ghost use Rattle.rt_bounds.specs.Inside.Inners.{AreInners};
 ghost use Rattle.rt_bounds.specs.Inside.Sources.{AreSources};
 ghost use Rattle.rt_bounds.specs.Inside.Surveys as surveys;
 
 use crate::counting::{CountingLoop, counting_at};
 use crate::ground::depth_at;
 use crate::longest::{Longest, MOST_STEPS};
+use crate::shape::Inner;
 use crate::sources::Sources;
 use crate::survey::Survey;
 use rt_code::Image;
@@ -177,6 +179,7 @@ fn measure(
 fn take_loop(
     survey: &mut Survey,
     folds: &mut [Option<Fold>],
+    inners: &mut [Option<Inner>],
     image: &Image,
     walk: &Walk,
     owner: Owner,
@@ -187,16 +190,24 @@ fn take_loop(
     requires limits { IsWithinLimits image.now }
     requires mapped { IsMapped image.now owner walk.now }
     requires sources { AreSources image.now owner sources.now }
+    requires inners { AreInners image.now owner walk.now sources.now inners.old }
+    requires room { length inners.old ≡ length image.now.code }
     requires last { last < length image.now.code }
     requires folded { spec.AreFolds image.now owner (reached_by walk.now) last folds.old }
     requires blank { surveys.IsBlank image.now survey.old }
     ensures folded { OnOk result (spec.AreFolds image.now owner (reached_by walk.now) (last + 1) folds.new) }
+    ensures inners { OnOk result (AreInners image.now owner walk.now sources.now inners.new) }
+    ensures room { length inners.new ≡ length image.now.code }
     ensures blank { OnOk result (surveys.IsBlank image.now survey.new) }
 {
-    match counting_at(image, walk, owner, sources, last) {
+    match counting_at(image, walk, owner, sources, inners, last) {
         Some(counting) => {
             let fold = measure(survey, image, walk, folds, owner, &counting)?;
             folds[counting.place.head as usize] = Some(fold);
+            inners[counting.place.first as usize] = Some(Inner {
+                last: counting.place.last,
+                jump: counting.place.jump,
+            });
             Ok(())
         }
         None => Ok(()),
@@ -206,6 +217,13 @@ fn take_loop(
 /// No loops are folded.
 fn no_folds(alloc: Global, length: usize) -> Result<Vec<Option<Fold>>, NoMemory>
     ensures { IfOk result (λ folds. folds.items ≡ replicate length None) }
+{
+    Ok(Vec::from_elem(alloc, None, length)?)
+}
+
+/// No loops are known.
+fn no_inners(alloc: Global, length: usize) -> Result<Vec<Option<Inner>>, NoMemory>
+    ensures { IfOk result (λ inners. inners.items ≡ replicate length None) }
 {
     Ok(Vec::from_elem(alloc, None, length)?)
 }
@@ -228,8 +246,18 @@ pub fn folds_of(
     let length = image.code.len();
     let mut survey = Survey::new(alloc, length, 0)?;
     let mut folds = no_folds(alloc, length)?;
+    let mut inners = no_inners(alloc, length)?;
     for last in 0..length as u32 {
-        take_loop(&mut survey, &mut folds, image, walk, owner, sources, last)?;
+        take_loop(
+            &mut survey,
+            &mut folds,
+            &mut inners,
+            image,
+            walk,
+            owner,
+            sources,
+            last,
+        )?;
     }
     Ok(folds)
 }

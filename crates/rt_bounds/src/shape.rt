@@ -1,12 +1,13 @@
 // Lines of a loop: from the line that a jump leads back to up to that jump, with one way in and one way out.
 
-ghost use Rattle.std.specs.Prelude.{◌≡◌, ◌<◌, ◌+◌, ◌-◌, ◌^◌, length, slice_get, MatchBool, MatchOption};
+ghost use Rattle.std.specs.Prelude.{◌≡◌, ◌≤◌, ◌<◌, ◌+◌, ◌-◌, ◌^◌, length, slice_get, MatchBool, MatchOption, Some};
 ghost use Rattle.rt_points.specs.Checked.{IsChecked};
 ghost use Rattle.rt_points.specs.Limits.{IsWithinLimits};
 ghost use Rattle.rt_judge.specs.Inside.Exits as exits;
 ghost use Rattle.rt_judge.specs.Inside.Tables.{found};
 ghost use Rattle.rt_judge.specs.Inside.Walks.{IsSoundWalk};
 ghost use Rattle.rt_bounds.specs.Inside.Ground.{IsMapped};
+ghost use Rattle.rt_bounds.specs.Inside.Inners as inner;
 ghost use Rattle.rt_bounds.specs.Inside.Shapes as spec;
 ghost use Rattle.rt_bounds.specs.Inside.Sources.{AreSources};
 ghost use Rattle.rt_bounds.specs.declared.shape.Exit.{Exit as ExitView};
@@ -23,6 +24,15 @@ use rt_points::Owner;
 pub struct Lines {
     pub first: u32,
     pub last: u32,
+}
+
+/// A loop that counts, by the line where it begins.
+#[derive(Clone, Copy, Debug, PartialEq, Eq)]
+pub struct Inner {
+    /// Its last line.
+    pub last: u32,
+    /// The jump that leads out of it.
+    pub jump: u32,
 }
 
 /// The way out of lines.
@@ -47,7 +57,42 @@ enum Leaving {
     Ends,
 }
 
+/// The loop that begins at an address, if one is known.
+fn inner_at(inners: &[Option<Inner>], address: u32) -> Option<Inner>
+    ensures { MatchOption result (Unit {0}) (λ i. slice_get inners.now address ≡ Some (Some i)) }
+{
+    match inners.get(address as usize) {
+        Some(inner) => *inner,
+        None => None,
+    }
+}
+
 impl Lines {
+    /// The line that stands for those from an address on: the jump of a loop that begins there, or the line itself.
+    pub fn stride(&self, inners: &[Option<Inner>], address: u32) -> Inner
+        requires { address ≤ self.now.last }
+        ensures { inner.IsStride self.now inners.now address result }
+    {
+        match inner_at(inners, address) {
+            Some(inner) if self.is_around(inner, address) => inner,
+            _ => Inner {
+                last: address,
+                jump: address,
+            },
+        }
+    }
+
+    /// Whether a loop that begins at an address behind the first line is in the lines.
+    fn is_around(&self, inner: Inner, address: u32) -> bool
+        ensures { MatchBool result ((self.now.first < address) × (address ≤ inner.jump) × (inner.jump ≤ inner.last)
+            × (inner.last ≤ self.now.last)) (Unit {0}) }
+    {
+        self.first < address
+            && address <= inner.jump
+            && inner.jump <= inner.last
+            && inner.last <= self.last
+    }
+
     /// Whether an address is among them.
     pub fn has(&self, address: u32) -> bool
         ensures { result ≡ spec.has self.now address }
@@ -74,16 +119,28 @@ impl Lines {
     }
 
     /// Whether an owner comes to the lines from nowhere else, but to the head from the line before.
-    fn are_closed(&self, walk: &Walk, sources: &[Sources], head: u32) -> bool
+    fn are_closed(
+        &self,
+        walk: &Walk,
+        sources: &[Sources],
+        inners: &[Option<Inner>],
+        head: u32,
+    ) -> bool
+        requires inners { inner.All (inner.IsClosed walk.now sources.now) inners.now }
         requires first { 0 < self.now.first }
         requires last { self.now.last + 1 < 2 ^ 32 }
         ensures { MatchBool result (spec.AllClosed walk.now self.now sources.now head)
             (¬ spec.AllClosed walk.now self.now sources.now head) }
     {
-        for address in self.first..self.last + 1 {
-            if walk.table.find(address).is_some() && !self.is_closed_at(sources, head, address) {
+        let mut address = self.first;
+        while address <= self.last {
+            let stride = self.stride(inners, address);
+            if walk.table.find(stride.jump).is_some()
+                && !self.is_closed_at(sources, head, stride.jump)
+            {
                 return false;
             }
+            address = stride.last + 1;
         }
         true
     }
@@ -141,15 +198,24 @@ impl Lines {
     }
 
     /// The one way out of the lines.
-    fn exit(&self, image: &Image, walk: &Walk, owner: Owner) -> Option<Exit>
+    fn exit(
+        &self,
+        image: &Image,
+        walk: &Walk,
+        owner: Owner,
+        inners: &[Option<Inner>],
+    ) -> Option<Exit>
+        requires inners { inner.All (inner.IsLeft image.now owner walk.now) inners.now }
         requires limits { IsWithinLimits image.now }
         requires last { self.now.last + 1 < 2 ^ 32 }
         ensures { MatchOption result ((e : ExitView) → ¬ spec.LeavesOnce image.now owner walk.now self.now e)
             (spec.LeavesOnce image.now owner walk.now self.now) }
     {
         let mut found = None;
-        for address in self.first..self.last + 1 {
-            match self.leaving_at(image, walk, owner, address) {
+        let mut address = self.first;
+        while address <= self.last {
+            let stride = self.stride(inners, address);
+            match self.leaving_at(image, walk, owner, stride.jump) {
                 Leaving::Stays => {}
                 Leaving::Ends => return None,
                 Leaving::Parts(exit) => {
@@ -159,33 +225,43 @@ impl Lines {
                     found = Some(exit);
                 }
             }
+            address = stride.last + 1;
         }
         found
     }
 
     /// Whether at least so many sections are open at each of the lines.
-    fn keep_open(&self, walk: &Walk, least: usize) -> bool
+    fn keep_open(&self, walk: &Walk, inners: &[Option<Inner>], least: usize) -> bool
+        requires inners { inner.All (inner.IsOpenAsAtJump walk.now) inners.now }
         requires sound { IsSoundWalk walk.now }
         requires last { self.now.last + 1 < 2 ^ 32 }
         ensures { MatchBool result (spec.AllOpen walk.now self.now least) (¬ spec.AllOpen walk.now self.now least) }
     {
-        for address in self.first..self.last + 1 {
-            match depth_at(walk, address) {
-                Some(depth) if depth < least => return false,
-                _ => {}
+        let mut address = self.first;
+        while address <= self.last {
+            let stride = self.stride(inners, address);
+            match depth_at(walk, stride.jump) {
+                Some(depth) => {
+                    if depth < least {
+                        return false;
+                    }
+                }
+                None => {}
             }
+            address = stride.last + 1;
         }
         true
     }
 
     /// Whether at least as many sections are open at each of the lines as at this one.
-    fn keeps_open(&self, walk: &Walk, jump: u32) -> bool
+    fn keeps_open(&self, walk: &Walk, inners: &[Option<Inner>], jump: u32) -> bool
+        requires inners { inner.All (inner.IsOpenAsAtJump walk.now) inners.now }
         requires sound { IsSoundWalk walk.now }
         requires last { self.now.last + 1 < 2 ^ 32 }
         ensures { MatchBool result (spec.KeepsFrom walk.now self.now jump) (¬ spec.KeepsFrom walk.now self.now jump) }
     {
         match depth_at(walk, jump) {
-            Some(depth) => self.keep_open(walk, depth),
+            Some(depth) => self.keep_open(walk, inners, depth),
             None => false,
         }
     }
@@ -236,8 +312,10 @@ impl Lines {
         walk: &Walk,
         owner: Owner,
         sources: &[Sources],
+        inners: &[Option<Inner>],
         head: u32,
     ) -> Option<Exit>
+        requires inners { inner.AreInners image.now owner walk.now sources.now inners.now }
         requires checked { IsChecked image.now }
         requires limits { IsWithinLimits image.now }
         requires mapped { IsMapped image.now owner walk.now }
@@ -247,12 +325,12 @@ impl Lines {
         ensures { MatchOption result ((e : ExitView) → ¬ spec.IsShape image.now owner self.now head e)
             (spec.IsShape image.now owner self.now head) }
     {
-        if !self.are_closed(walk, sources, head) {
+        if !self.are_closed(walk, sources, inners, head) {
             return None;
         }
-        match self.exit(image, walk, owner) {
+        match self.exit(image, walk, owner, inners) {
             Some(exit) => {
-                if self.keeps_open(walk, exit.jump) {
+                if self.keeps_open(walk, inners, exit.jump) {
                     Some(exit)
                 } else {
                     None

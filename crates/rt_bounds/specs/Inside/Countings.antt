@@ -30,6 +30,10 @@ use Rattle.rt_bounds.specs.declared.sources.Sources.{Sources}
 abbrev pub has_line : Place → ℕ → Bool
 has_line c a = nat_le c.first a && nat_le a c.last
 
+-- the lines of a loop
+abbrev pub lines_of_place : Place → Lines
+lines_of_place c = record { first = c.first; last = c.last }
+
 -- a slot is changed so, by what another holds
 abbrev pub IsChange : ℕ → Instr → Change → Type 0
 IsChange counter i change = Changes counter change.by i change.direction
