@@ -67,6 +67,7 @@ pub record ReturnsWell (img : Image) (s : Moment) : Type 0 where
 
 -- an instruction, where it is what is executed next
 module _ (img : Image) (ceiling : ℕ) (s : Moment) where
+  -- by its kind
   abbrev pub GoesWell : Instr → Type 0
   -- BASEPRI is raised to a priority that is no lower; as a value, no greater, where 0 stands for none
   GoesWell (instr.Raise d v) = base_value v ≤ base_value s.core.processor.basepri

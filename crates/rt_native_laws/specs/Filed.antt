@@ -25,6 +25,7 @@ use Rattle.rt_thumb.specs.declared.instruction.Instruction.{Instruction}
 abbrev pub elf_half : List ℕ → ℕ → ℕ
 elf_half bytes at = slice_index bytes at + 2 ^ 8 * slice_index bytes (at + 1)
 
+-- two halfwords, the lower first
 abbrev pub elf_word : List ℕ → ℕ → ℕ
 elf_word bytes at = elf_half bytes at + 2 ^ 16 * elf_half bytes (at + 2)
 

@@ -44,6 +44,7 @@ pub data CallStage : Type 0 where
 -- another: LR was EXC_RETURN, which is kept at the frames' end. The function was called at a state, with so many bytes
 -- of the stack.
 module _ (begins top link room : ℕ) (called m : Machine) where
+  -- by the stage
   abbrev pub IsAtStage : CallStage → Type 0
   IsAtStage AtFall = (m.address ≡ begins) × (m.register 13 ≡ top) × (m.register 14 ≡ link)
   IsAtStage AtKeep = (m.address ≡ begins + 2) × (m.register 13 ≡ top - 8) × (m.register 14 ≡ link)
@@ -178,6 +179,7 @@ pub record FunctionGoes (at : Outside) (bottom : ℕ) (img : Image) (places : Li
   pub back : HasComeBack x.called n → GoesOnIn at bottom img places p top c d m n x AtTake x.called
   pub ours : LeavesOurs at flash written top m n
 
+-- A harmless instruction of the function leaves the job within its call, at the core with the words that it has written.
 abbrev pub FunctionGoesOn : Type 0
 FunctionGoesOn =
     (at : Outside) (bottom : ℕ) (img : Image) (places : List ℕ) (p : Program) (flash : Region) (written : List ℕ)

@@ -73,6 +73,7 @@ passed AtRequest = 8
 -- address of the time in r1, a time that was read, which is no later than now, in r2. Behind the branch the alarm is
 -- due. What was due at the store is so at each time that is read later.
 module _ (at : Outside) (irq instant : ℕ) (owes : Bool) (c : Core) (m : Machine) where
+  -- by the stage
   abbrev pub Knows : Stage → Type 0
   Knows AtTime = (m.register 0 ≡ instant) × (m.register 1 ≡ at.time) × (owes ≡ true → instant ≤ c.time)
   Knows AtCompare =

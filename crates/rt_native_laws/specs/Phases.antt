@@ -208,6 +208,7 @@ EnteringIsKept =
     → p.port ≡ at.port → IsEntering at bottom img places p c top m → OthersRan at (m.register 13) top c d m n
     → IsEntering at bottom img places p d top n
 
+-- What others do leaves a job where it is in a call of a body.
 abbrev pub CallingIsKept : Type 0
 CallingIsKept =
     (at : Outside) (bottom : ℕ) (img : Image) (places : List ℕ) (p : Program) (c d : Core) (top : ℕ) (m n : Machine)

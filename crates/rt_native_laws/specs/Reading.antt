@@ -45,6 +45,7 @@ passed AtStore = 5
 
 -- what r0 and r1 hold, of an input and the word that was read
 module _ (at : Outside) (input : Input) (value : ℕ) (m : Machine) where
+  -- by how far the reading is
   abbrev pub Holds : Reading → Type 0
   Holds AtLow = ⊤
   Holds AtTop = m.register 1 ≡ input.address % 2 ^ 16
