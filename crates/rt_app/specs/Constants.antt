@@ -1,5 +1,4 @@
--- What code takes in numbers, as docs/BOUNDS.md and docs/DEEPEST.md have them, and the number of a name that is not
--- declared. Everything else names them.
+-- What code takes in numbers, as docs/BOUNDS.md has them, and the number of a name that is not declared. Everything else names them.
 use Rattle.std.specs.Prelude.{◌≡◌, ◌≤◌}
 use Rattle.rt_ids.specs.declared.limits.TheConstants.{IRQS, TASKS, SHARED, LOCALS}
 use Rattle.rt_app.specs.declared.TheConstants.{UNKNOWN}

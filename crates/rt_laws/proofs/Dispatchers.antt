@@ -21,7 +21,7 @@ use Rattle.rt_laws.specs.Services.{service_at, timer_number}
 use Rattle.rt_laws.proofs.Pending.{some_number, made_number}
 use Rattle.rt_laws.proofs.FineHandlers.{all_in}
 
-flat_contains : {X Y : Type 0} (f : X → List Y) (xs : List X) (x : X) (y : Y) → Contains xs x → Contains (f x) y
+pub flat_contains : {X Y : Type 0} (f : X → List Y) (xs : List X) (x : X) (y : Y) → Contains xs x → Contains (f x) y
     → Contains (flat_map f xs) y
 flat_contains f [] x y is there = absurd (contains_none x is)
 flat_contains f (z ∷ xs) x y is there = elim (contains_cases z xs x is) [

@@ -74,12 +74,15 @@ module _ (img : Image) (target : Target) where
   abbrev pub vectors_size : ℕ
   vectors_size = 4 * (SYSTEM_VECTORS + line_count img.irqs)
 
+  -- where what a fault runs lies: behind the vectors
   abbrev pub fault_at : ℕ
   fault_at = target.flash.address + vectors_size
 
+  -- and what a tick of SysTick runs
   abbrev pub tick_at : ℕ
   tick_at = fault_at + bytes_of fault
 
+  -- and behind it what is taken of interrupts
   abbrev pub stubs_at : ℕ
   stubs_at = tick_at + bytes_of (tick outside (timer_irq img.code))
 

@@ -187,6 +187,7 @@ cell at c = word (at.cells + word (4 * c))
 -- What code touches lies outside; the code of the image's instructions begins at these places, of which the last is
 -- where it ends, 0 past that; and the instruction has its own address in the image.
 module _ (at : Outside) (img : Image) (places : List ℕ) (n : ℕ) where
+  -- where the code of the instruction with an index begins
   abbrev pub place : ℕ → ℕ
   place l = slice_index places l
 
@@ -194,6 +195,7 @@ module _ (at : Outside) (img : Image) (places : List ℕ) (n : ℕ) where
   abbrev pub behind : ℕ
   behind = place (n + 1)
 
+  -- what an instruction of an image is on the processor
   abbrev pub sequence : Instr → List Instruction
   sequence (instr.Set d v) = set_slot d v
   sequence (instr.Copy d s) = copy_slot d s

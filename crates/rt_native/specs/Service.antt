@@ -134,6 +134,7 @@ unfoldable pub entrance : Outside → Target → List ℕ → ℕ → IrqRow →
 entrance at target places behind row =
     first_call target.calls row.number row.handler ++ stub at target.inputs places behind row.number row.handler
 
+-- its bytes, which no place changes
 abbrev pub entrance_size : Outside → Target → IrqRow → ℕ
 entrance_size at target row =
     bytes_of (first_call target.calls row.number row.handler) + handler_size at target.inputs row.number row.handler
