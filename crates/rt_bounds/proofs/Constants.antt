@@ -47,8 +47,7 @@ module _ (img : Image) (owner : Owner) (walk : Walk) (c : Place) (mapped : HasAl
 
   pub unwritten : (slot : ℕ) → AreWriters img walk c slot Nobody → IsUnwritten img owner c slot
   unwritten slot nobody = λ p i told within stands writes.
-      let most = within.inside.1 in
-      nobody p.address (omega (arith, most)) within.inside (writing_there p within i told stands slot writes)
+      nobody p.address within.inside (writing_there p within i told stands slot writes)
 
   written : (a slot : ℕ) → IsInside c a → WritesAt img walk a slot → ¬ IsUnwritten img owner c slot
   written a slot inside writes = λ unwritten.
@@ -77,7 +76,7 @@ module _ (img : Image) (owner : Owner) (walk : Walk) (c : Place) (mapped : HasAl
         is
 
     pub by_one : (a : ℕ) → AreWriters img walk c slot (One a) → (v : ℕ) → ¬ IsConstant img owner c address slot v
-    by_one a one = by_writer a one.0 one.2
+    by_one a one = by_writer a one.0 one.1
 
     pub by_several : AreWriters img walk c slot Several → (v : ℕ) → ¬ IsConstant img owner c address slot v
     by_several more = by_writer more.0 more.3 more.5
@@ -86,8 +85,7 @@ module _ (img : Image) (owner : Owner) (walk : Walk) (c : Place) (mapped : HasAl
   pub one_alone : (slot a : ℕ) → AreWriters img walk c slot (One a) → (p : Point) (i : Instr) (told : Option Note)
       → IsIn img owner c p → StandsAt img p i told → written_slot i ≡ Some slot → p.address ≡ a
   one_alone slot a one p i told within stands writes =
-      let most = within.inside.1 in
-      one.3 p.address (omega (arith, most)) within.inside (writing_there p within i told stands slot writes)
+      one.2 p.address within.inside (writing_there p within i told stands slot writes)
 
   -- once in each turn, by lines and by points
   pub once_points : (change : ℕ) → IsOnce img walk c change → (p q : Point) → IsIn img owner c p → IsIn img owner c q

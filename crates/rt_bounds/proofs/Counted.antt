@@ -42,8 +42,7 @@ module _ (img : Image) (owner : Owner) (walk : Walk) (c : Place) (mapped : HasAl
   pub by_nobody : AreWriters img walk c counter Nobody → (n : ℕ) → ¬ By n
   by_nobody nobody n = λ counts.
       let inside = subst (λ a. (c.first ≤ a) × (a ≤ c.last)) counts.changing_at counts.changing_in.inside in
-      let most = inside.1 in
-      nobody counts.change (omega (arith, most)) inside (its_writing n counts)
+      nobody counts.change inside (its_writing n counts)
 
   pub by_several : AreWriters img walk c counter Several → (n : ℕ) → ¬ By n
   by_several more n = λ counts.
@@ -117,7 +116,7 @@ module _ (img : Image) (owner : Owner) (walk : Walk) (c : Place) (mapped : HasAl
         pub by_turns : 0 < c.first → IsOnce img walk c at → (n : ℕ) → AreTurns change.direction start step test is_not_0 n
             → By n
         by_turns some once n are =
-            let p = writing_point img owner walk c mapped at counter one.0 one.2 in record {
+            let p = writing_point img owner walk c mapped at counter one.0 one.1 in record {
               start = start;
               small = small;
               before = c.first - 1;

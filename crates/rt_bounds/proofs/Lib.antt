@@ -46,3 +46,6 @@ pub mod Closing
 pub mod Covering
 pub mod Skipping
 pub mod InnersFound
+pub mod Slots
+pub mod Asked
+pub mod Listed

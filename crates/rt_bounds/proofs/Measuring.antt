@@ -1,8 +1,8 @@
 -- A loop that counts, measured: from its head and from where a turn begins, up to its jump.
-use Rattle.std.proofs.Common.{◌≡◌, ◌≢◌, ◌⊎◌, ◌≤◌, ◌<◌, ◌+◌, ◌==◌, ℕ, zero, suc, true, false, nat_le}
+use Rattle.std.proofs.Common.{◌≡◌, ◌≢◌, ◌≤◌, ◌<◌, ◌+◌, ◌==◌, ℕ, zero, suc, true, false, nat_le}
 use Rattle.std.proofs.Common.{if◌then◌else◌, List, [], length, slice_get, slice_set, Option, Some, None}
 use Rattle.std.proofs.Common.{refl, sym, ap, subst, ◌∙◌, inl, inr, ⊎_elim, arith, length-set, replicate}
-use Rattle.std.proofs.lemmas.Bool.{cases_eq, cases_lt}
+use Rattle.std.proofs.lemmas.Bool.{cases_eq}
 use Rattle.std.proofs.lemmas.List.{length-replicate}
 use Rattle.rt_code.specs.Image.{Image}
 use Rattle.rt_points.specs.Leading.{Leads}
@@ -13,15 +13,13 @@ use Rattle.rt_bounds.specs.Counting.{CountingLoop, IsCounting, IsIn, IsInside}
 use Rattle.rt_bounds.specs.CountedWays.{Left, all_left, left_after}
 use Rattle.rt_bounds.specs.Inside.Aheads.{Ahead, There, Stops, Goes_on, IsMostAhead, IsEndlessAhead, IsAhead, in_all, told}
 use Rattle.rt_bounds.specs.Inside.Aheads.{length_of, again_of, fold_of, IsLength, IsFold, IsFoldAt, AreFolds}
-use Rattle.rt_bounds.specs.Inside.Aheads.{IsFree, IsMeasured, point_at}
-use Rattle.rt_bounds.specs.Inside.Surveys.{IsOpenTo, IsBlank, IsBegun, IsForgotten, KeepsElse}
+use Rattle.rt_bounds.specs.Inside.Aheads.{IsMeasured, point_at}
+use Rattle.rt_bounds.specs.Inside.Surveys.{IsOpenTo, IsBlank, IsBegun, IsForgotten}
 use Rattle.rt_bounds.specs.Ways.{Comes, ComesToLoop}
 use Rattle.rt_bounds.specs.declared.folds.Fold.{Fold}
 use Rattle.rt_bounds.specs.declared.longest.Longest.{Longest}
 use Rattle.rt_bounds.specs.declared.longest.Longest.TheVariants.{Steps, Loop}
 use Rattle.rt_bounds.specs.declared.longest.TheConstants.{MOST_STEPS}
-use Rattle.rt_bounds.specs.declared.survey.Mark.{Mark}
-use Rattle.rt_bounds.specs.declared.survey.Mark.TheVariants as mark
 use Rattle.rt_bounds.specs.declared.survey.Survey.{Survey}
 use Rattle.rt_bounds.proofs.Aheads.{with_left, shorter}
 use Rattle.rt_bounds.proofs.Folding.{inside_or_not, no_more, at_jump, at_stay, at_head, open_in, goes_in, stay_point}
@@ -31,7 +29,7 @@ use Rattle.rt_bounds.proofs.Grounds.{HasAll, point_there}
 use Rattle.rt_bounds.proofs.Looking.{loop_from}
 use Rattle.rt_bounds.proofs.Loops.{comes_then}
 use Rattle.rt_bounds.proofs.Marks.{set_here, set_apart}
-use Rattle.rt_bounds.proofs.Nesting.{IsWithin, inside_too, nested, one_head, one_jump, one_last}
+use Rattle.rt_bounds.proofs.Nesting.{IsWithin, inside_too, nested, one_head, one_last}
 use Rattle.rt_bounds.proofs.Tested.{jump_inside}
 
 -- nothing is left before a goal that is here
@@ -369,47 +367,16 @@ pub begun_blank : (img : Image) (old new : Survey) (goal depth : ℕ) → IsBlan
 begun_blank img old new goal depth blank begun = record {
   trail = ap (λ v. v.items) begun.trail ∙ blank.trail;
   size = ap (λ v. length v.items) begun.marks ∙ blank.size;
+  seen = ap (λ v. v.items) begun.seen ∙ blank.seen;
   unseen = λ a m there. blank.unseen a m (sym (ap (λ v. slice_get v.items a) begun.marks) ∙ there);
 }
 
--- and one of which what was measured is forgotten
-pub forgotten_blank : (img : Image) (owner : Owner) (reached : Reached) (c : CountingLoop) → IsCounting img owner c
-    → (first second third last : Survey) → IsBlank img first
-    → first.goal ≡ Some c.place.jump → second.goal ≡ Some c.place.jump
-    → KeepsElse img owner reached first second → KeepsElse img owner reached second third → third.trail.items ≡ []
-    → length third.marks.items ≡ length img.code → IsForgotten third last c.place.first c.place.last → IsBlank img last
-forgotten_blank img owner reached c counts first second third last blank goal also one two empty size gone = record {
+-- and one of which all is forgotten
+pub forgotten_blank : (img : Image) (old new : Survey) → old.trail.items ≡ [] → length old.marks.items ≡ length img.code
+    → IsForgotten old new → IsBlank img new
+forgotten_blank img old new empty size gone = record {
   trail = ap (λ v. v.items) gone.trail ∙ empty;
   size = gone.size ∙ size;
-  unseen = λ a m there. ⊎_elim
-      (λ low. outside a m there (inl low))
-      (λ le. ⊎_elim
-      (λ high. outside a m there (inr high))
-      (λ ge.
-      let is : Some mark.Unseen ≡ Some m = sym (gone.gone a le ge) ∙ there in
-      let same : mark.Unseen ≡ m = cc in sym same)
-      (cases_lt c.place.last a))
-      (cases_lt a c.place.first);
+  seen = gone.seen;
+  unseen = gone.unseen;
 }
-  where
-    -- a free address is in the loop
-    free_inside : (depth : ℕ) (goal : Option ℕ) (last a : ℕ) → goal ≡ Some c.place.jump
-        → IsFree img owner reached depth goal last a → IsInside c.place a
-    free_inside depth goal last a is free =
-        let m = free.measured c.place.jump is in
-        let same = one_jump img owner m.loop c m.counts counts m.jump in
-        subst (λ (x : CountingLoop). IsInside x.place a) same m.here
-
-    not_both : (a : ℕ) → (a < c.place.first) ⊎ (c.place.last < a) → ¬ IsInside c.place a
-    not_both a (inl low) = λ h. let from = h.0 in omega (arith, low, from)
-    not_both a (inr high) = λ h. let to = h.1 in omega (arith, high, to)
-
-    outside : (a : ℕ) (m : Mark) → slice_get last.marks.items a ≡ Some m → (a < c.place.first) ⊎ (c.place.last < a)
-        → m ≡ mark.Unseen
-    outside a m there off = ⊎_elim
-        (λ same. ⊎_elim
-        (λ before. blank.unseen a m (sym before ∙ sym same ∙ sym (gone.kept a off) ∙ there))
-        (λ free. absurd (not_both a off (free_inside first.depth first.goal free.0 a goal free.1)))
-        (one a))
-        (λ free. absurd (not_both a off (free_inside second.depth second.goal free.0 a also free.1)))
-        (two a)

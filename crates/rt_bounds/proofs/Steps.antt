@@ -1,8 +1,7 @@
 -- A step of a survey, by what a look at the top of its trail tells.
-use Rattle.std.proofs.Common.{◌≡◌, ◌≢◌, ◌⊎◌, ◌≤◌, ◌<◌, ◌+◌, ◌*◌, ◌^◌, ℕ, List, [], ◌∷◌, ◌++◌, length, slice_get, slice_set}
-use Rattle.std.proofs.Common.{Option, Some, refl, sym, ap, subst, ◌∙◌, inl, inr, ⊎_elim, arith, length-append, length-set}
+use Rattle.std.proofs.Common.{◌≡◌, ◌≢◌, ◌<◌, ◌+◌, ◌*◌, ◌^◌, ℕ, List, [], ◌∷◌, ◌++◌, length, slice_get, slice_set}
+use Rattle.std.proofs.Common.{Option, Some, sym, ap, subst, ◌∙◌, arith, length-append}
 use Rattle.std.specs.List.{AllByRecursion}
-use Rattle.std.proofs.lemmas.Bool.{cases_eq}
 use Rattle.std.proofs.lemmas.List.{length-replicate}
 use Rattle.rt_lemmas.proofs.Membership.{all_append}
 use Rattle.rt_code.specs.Image.{Image}
@@ -24,8 +23,9 @@ use Rattle.rt_bounds.specs.declared.survey.Look.{Look}
 use Rattle.rt_bounds.specs.declared.survey.Look.TheVariants as look
 use Rattle.rt_bounds.proofs.Found.{Found, look_found}
 use Rattle.rt_bounds.proofs.Grounds.{HasAll, at_within}
+use Rattle.rt_bounds.proofs.Listed.{unseen_listed}
 use Rattle.rt_bounds.proofs.Mapped.{has_all}
-use Rattle.rt_bounds.proofs.Marks.{new_marks, set_apart, set_here}
+use Rattle.rt_bounds.proofs.Marks.{new_marks}
 use Rattle.rt_bounds.proofs.Surveying.{IsClosing, closed_steps, closed_loop, goes_on_to, next_within, nearer_on}
 use Rattle.rt_bounds.proofs.Surveying.{nearer_back, begun, blank_survey}
 
@@ -73,9 +73,6 @@ module _ (img : Image) (owner : Owner) (walk : Walk) (checked : IsChecked img) (
     pub top_within : top < length marks
     top_within = all_last (λ a. a < length marks) rest top before.within
 
-    pub top_free : Free top
-    top_free = free
-
     pub rest_free : AllByRecursion Free rest
     rest_free = all_front Free rest top every_one
 
@@ -106,10 +103,6 @@ module _ (img : Image) (owner : Owner) (walk : Walk) (checked : IsChecked img) (
         → AllByRecursion Free ((rest ++ top ∷ []) ++ next ∷ [])
     step_free next is =
         all_append Free (rest ++ top ∷ []) (next ∷ []) every_one ((told (look.Unseen next) is).1, tt)
-
-    pub next_free : (next : ℕ) → look.Unseen next ≡ look_from img folds (reached_by walk) depth goal marks owner top
-        → Free next
-    next_free next is = (told (look.Unseen next) is).1
 
     pub step_within : (next : ℕ) → look.Unseen next ≡ look_from img folds (reached_by walk) depth goal marks owner top
         → next < length marks
@@ -184,28 +177,12 @@ free_on img owner reached last d e g h start t u same_d same_g empty same free =
     moved_free img owner reached last d e g h (start ∷ []) u same_d same_g
     (same ∙ ap (λ (xs : List ℕ). xs ++ start ∷ []) empty) (free, tt)
 
--- marks that keep all but some, with one set of those
-abbrev pub KeepsBut : (ℕ → Type 0) → List Mark → List Mark → Type 0
-KeepsBut P old new = (a : ℕ) → (slice_get new a ≡ slice_get old a) ⊎ P a
-
-pub keeps_set : (P : ℕ → Type 0) (old new changed : List Mark) (i : ℕ) (m : Mark) → changed ≡ slice_set new i m → P i
-    → KeepsBut P old new → KeepsBut P old changed
-keeps_set P old new changed i m is here kept a = ⊎_elim
-    (λ same. inr (subst P same here))
-    (λ apart. ⊎_elim
-    (λ keeps. inl (ap (λ (ms : List Mark). slice_get ms a) is ∙ set_apart new i a m apart ∙ keeps))
-    (λ free. inr free)
-    (kept a))
-    (cases_eq i a)
-
-pub keeps_all : (P : ℕ → Type 0) (marks : List Mark) → KeepsBut P marks marks
-keeps_all P marks a = inl refl
-
 -- a survey of which nothing is known has nothing on its trail
 pub blank_surveyed : (img : Image) (owner : Owner) (walk : Walk) (s : Survey) → IsBlank img s → IsSurveyed img owner walk s
 blank_surveyed img owner walk s blank = record {
   empty = blank.trail;
   surveying = blank_survey img owner (reached_by walk) s.depth s.goal s.marks.items blank.size blank.unseen;
+  listed = unseen_listed s.marks.items s.seen.items blank.seen blank.unseen;
 }
 
 pub new_blank : (img : Image) (count depth : ℕ) (s : Survey) → count ≡ length img.code → IsNewSurvey count depth s
@@ -213,27 +190,10 @@ pub new_blank : (img : Image) (count depth : ℕ) (s : Survey) → count ≡ len
 new_blank img count depth s size new = record {
   trail = new.trail;
   size = ap length new.marks ∙ length-replicate count mark.Unseen ∙ size;
+  seen = new.seen;
   unseen = λ a m is. new_marks count a m (ap (λ (ms : List Mark). slice_get ms a) (sym new.marks) ∙ is);
 }
 
 pub new_surveyed : (img : Image) (owner : Owner) (walk : Walk) (count depth : ℕ) (s : Survey)
     → count ≡ length img.code → IsNewSurvey count depth s → IsSurveyed img owner walk s
 new_surveyed img owner walk count depth s size new = blank_surveyed img owner walk s (new_blank img count depth s size new)
-
--- marks with one forgotten
-pub same_length : (old new : List Mark) (i : ℕ) (m : Mark) → new ≡ slice_set old i m → length new ≡ length old
-same_length old new i m is = ap length is ∙ length-set old i m
-
-pub gone_more : (old new : List Mark) (first k : ℕ) → new ≡ slice_set old k mark.Unseen → k < length old
-    → ((a : ℕ) → first ≤ a → a < k → slice_get old a ≡ Some mark.Unseen) → (a : ℕ) → first ≤ a → a < k + 1
-    → slice_get new a ≡ Some mark.Unseen
-gone_more old new first k is within before a low less = ⊎_elim
-    (λ same. ap (λ (ms : List Mark). slice_get ms a) is ∙ ap (slice_get (slice_set old k mark.Unseen)) (sym same)
-    ∙ set_here old k mark.Unseen within)
-    (λ apart. ap (λ (ms : List Mark). slice_get ms a) is ∙ set_apart old k a mark.Unseen apart
-    ∙ before a low (omega (arith, less, apart)))
-    (cases_eq k a)
-
-pub kept_more : (old new : List Mark) (k : ℕ) → new ≡ slice_set old k mark.Unseen → (a : ℕ) → k ≢ a
-    → slice_get new a ≡ slice_get old a
-kept_more old new k is a apart = ap (λ (ms : List Mark). slice_get ms a) is ∙ set_apart old k a mark.Unseen apart

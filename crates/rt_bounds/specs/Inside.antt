@@ -10,3 +10,4 @@ pub mod Holdings
 pub mod Shapes
 pub mod Countings
 pub mod Inners
+pub mod Writtens

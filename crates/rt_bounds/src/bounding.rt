@@ -14,6 +14,7 @@ ghost use Rattle.rt_bounds.specs.Inside.Gathered.{AreEarlier, IsGathered, ArePri
 ghost use Rattle.rt_bounds.specs.Inside.Ground.{IsMapped};
 ghost use Rattle.rt_bounds.specs.Inside.Sources.{AreStarts};
 ghost use Rattle.rt_bounds.specs.Inside.Whole as whole;
+ghost use Rattle.rt_bounds.specs.Inside.Writtens.{AreAllWritten};
 
 use crate::bound::{Bounds, HandlerBound, WaitBound};
 use crate::folds::{Fold, folds_of};
@@ -22,6 +23,7 @@ use crate::ground::walk_from;
 use crate::longest::Longest;
 use crate::sources::{add_lines, begun, starts_at, thread_starts};
 use crate::survey::Survey;
+use crate::written::{Written, all_written};
 use rt_code::{Handler, Image, IrqRow};
 use rt_ids::{NoMemory, Prio};
 use rt_judge::execution_priority::handler_at;
@@ -36,9 +38,11 @@ fn folds_from(
     alloc: Global,
     image: &Image,
     walk: &Walk,
+    written: &[Written],
     owner: Owner,
     starts: &[Visit],
 ) -> Result<Vec<Option<Fold>>, NoMemory>
+    requires written { AreAllWritten image.now written.now }
     requires checked { IsChecked image.now }
     requires limits { IsWithinLimits image.now }
     requires mapped { IsMapped image.now owner walk.now }
@@ -48,7 +52,7 @@ fn folds_from(
 {
     let mut sources = begun(alloc, image, starts)?;
     add_lines(&mut sources, image, walk, owner);
-    folds_of(alloc, image, walk, owner, &sources)
+    folds_of(alloc, image, walk, written, owner, &sources)
 }
 
 /// The bound of an owner's code from where it begins.
@@ -147,8 +151,10 @@ fn first_waits(alloc: Global, image: &Image) -> Result<Vec<WaitBound>, NoMemory>
 fn look_at_thread(
     alloc: Global,
     image: &Image,
+    written: &[Written],
     gathered: &mut Gathered,
 ) -> Result<Longest, NoMemory>
+    requires written { AreAllWritten image.now written.now }
     requires checked { IsChecked image.now }
     requires limits { IsWithinLimits image.now }
     requires priorities { ArePriorities image.now.bits gathered.old.waits.items }
@@ -161,7 +167,7 @@ fn look_at_thread(
     let starts = start(alloc, 0)?;
     let walk = walk_from(alloc, image, Owner::Starting, starts)?;
     let begins = starts_at(alloc, 0)?;
-    let folds = folds_from(alloc, image, &walk, Owner::Starting, &begins)?;
+    let folds = folds_from(alloc, image, &walk, written, Owner::Starting, &begins)?;
     let longest = owners_bound(alloc, image, &walk, &folds, Owner::Starting, 0)?;
     gathered.take_owner(alloc, image, &walk, &folds, Owner::Starting)?;
     let behind = thread_starts(alloc, image, &walk)?;
@@ -170,7 +176,7 @@ fn look_at_thread(
         list: walk.behind,
     };
     let other = walk_from(alloc, image, Owner::Thread, visits)?;
-    let loops = folds_from(alloc, image, &other, Owner::Thread, &behind)?;
+    let loops = folds_from(alloc, image, &other, written, Owner::Thread, &behind)?;
     gathered.take_owner(alloc, image, &other, &loops, Owner::Thread)?;
     Ok(longest)
 }
@@ -179,10 +185,12 @@ fn look_at_thread(
 fn look_at_handler(
     alloc: Global,
     image: &Image,
+    written: &[Written],
     gathered: &mut Gathered,
     index: usize,
     handler: Handler,
 ) -> Result<Longest, NoMemory>
+    requires written { AreAllWritten image.now written.now }
     requires checked { IsChecked image.now }
     requires limits { IsWithinLimits image.now }
     requires enabled { handler_at image.now index ≡ Some handler }
@@ -198,7 +206,7 @@ fn look_at_handler(
     let starts = start(alloc, handler.entry)?;
     let walk = walk_from(alloc, image, owner, starts)?;
     let begins = starts_at(alloc, handler.entry)?;
-    let folds = folds_from(alloc, image, &walk, owner, &begins)?;
+    let folds = folds_from(alloc, image, &walk, written, owner, &begins)?;
     let longest = owners_bound(alloc, image, &walk, &folds, owner, handler.entry)?;
     gathered.take_owner(alloc, image, &walk, &folds, owner)?;
     Ok(longest)
@@ -208,10 +216,12 @@ fn look_at_handler(
 fn take_row(
     alloc: Global,
     image: &Image,
+    written: &[Written],
     gathered: &mut Gathered,
     handlers: &mut Vec<HandlerBound>,
     index: usize,
 ) -> Result<(), NoMemory>
+    requires written { AreAllWritten image.now written.now }
     requires checked { IsChecked image.now }
     requires limits { IsWithinLimits image.now }
     requires priorities { ArePriorities image.now.bits gathered.old.waits.items }
@@ -222,7 +232,7 @@ fn take_row(
 {
     match handler_at(image, index) {
         Some(handler) => {
-            let longest = look_at_handler(alloc, image, gathered, index, handler)?;
+            let longest = look_at_handler(alloc, image, written, gathered, index, handler)?;
             handlers.push(HandlerBound { index, longest })?;
             Ok(())
         }
@@ -238,6 +248,7 @@ pub fn bounds(alloc: Global, image: &Image) -> Result<Bounds, NoMemory>
     requires checked { IsChecked image.now }
     ensures { IfOk result (spec.AreBounds image.now) }
 {
+    let written = all_written(alloc, image)?;
     let own = Vec::new(alloc);
     let sections = Vec::new(alloc);
     let waits = first_waits(alloc, image)?;
@@ -246,10 +257,10 @@ pub fn bounds(alloc: Global, image: &Image) -> Result<Bounds, NoMemory>
         sections,
         waits,
     };
-    let init = look_at_thread(alloc, image, &mut gathered)?;
+    let init = look_at_thread(alloc, image, &written, &mut gathered)?;
     let mut handlers = Vec::new(alloc);
     for index in 0..image.irqs.len() {
-        take_row(alloc, image, &mut gathered, &mut handlers, index)?;
+        take_row(alloc, image, &written, &mut gathered, &mut handlers, index)?;
     }
     Ok(Bounds {
         init,

@@ -13,15 +13,18 @@ ghost use Rattle.rt_bounds.specs.Inside.Sources.{AreSources};
 ghost use Rattle.rt_code.specs.declared.instr.Instr.TheVariants as instr;
 ghost use Rattle.rt_code.specs.declared.instr.Note.{Note as NoteView};
 ghost use Rattle.rt_bounds.specs.Counting as def;
+ghost use Rattle.rt_bounds.specs.Inside.Writtens as writtens;
+ghost use Rattle.rt_code.specs.Image.{Image as ImageView};
 ghost use Rattle.rt_bounds.specs.Inside.Countings as spec;
-ghost use Rattle.rt_bounds.specs.declared.counting.Change.{Change as ChangeView};
 ghost use Rattle.rt_bounds.specs.declared.counting.Comparison.{Comparison as ComparisonView};
 ghost use Rattle.rt_bounds.specs.declared.counting.Writers.TheVariants as writers;
 
-use crate::holding::{Writing, held_after, held_at, write_of};
+use crate::changing::{change_at, is_changed, is_changed_after, is_comparison};
+use crate::holding::{held_after, held_at};
 use crate::shape::{Exit, Inner, Lines, jump_at, lines_back};
 use crate::sources::{Sources, is_only_from};
 use crate::turns::turns_of;
+use crate::written::Written;
 use rt_code::{Image, Instr};
 use rt_ids::Op;
 use rt_judge::exits::{Exits, exits_of, line_at};
@@ -94,101 +97,6 @@ enum Writers {
     Several,
 }
 
-/// How an operation on two slots changes a counter that it writes, if that is a change.
-fn change_by(op: Op, counter: u32, one: u32, other: u32) -> Option<Change>
-    ensures { MatchOption result
-        ((change : ChangeView) → ¬ spec.IsChange counter (instr.Calc op counter one other) change)
-        (spec.IsChange counter (instr.Calc op counter one other)) }
-{
-    match op {
-        Op::Add => {
-            if one == counter {
-                Some(Change {
-                    direction: Direction::Rises,
-                    by: other,
-                })
-            } else if other == counter {
-                Some(Change {
-                    direction: Direction::Rises,
-                    by: one,
-                })
-            } else {
-                None
-            }
-        }
-        Op::Sub => {
-            if one == counter {
-                Some(Change {
-                    direction: Direction::Falls,
-                    by: other,
-                })
-            } else {
-                None
-            }
-        }
-        _ => None,
-    }
-}
-
-/// How an instruction changes a counter, if that is all that it does to it.
-fn change_of(instr: &Instr, counter: u32) -> Option<Change>
-    ensures { MatchOption result ((change : ChangeView) → ¬ spec.IsChange counter instr.now change)
-        (spec.IsChange counter instr.now) }
-{
-    match *instr {
-        Instr::Calc(op, to, one, other) => {
-            if to == counter {
-                change_by(op, counter, one, other)
-            } else {
-                None
-            }
-        }
-        _ => None,
-    }
-}
-
-/// How the line at an address changes a counter, if that is all that it does to it.
-fn change_at(image: &Image, address: u32, counter: u32) -> Option<Change>
-    ensures { MatchOption result ((change : ChangeView) → ¬ spec.IsChangeAt image.now address counter change)
-        (spec.IsChangeAt image.now address counter) }
-{
-    match line_at(image, address) {
-        Some(line) => change_of(&line.0, counter),
-        None => None,
-    }
-}
-
-/// Whether an operation compares.
-fn is_comparison(op: Op) -> bool
-    ensures { result ≡ def.is_comparison op }
-{
-    matches!(op, Op::Eq | Op::Ne | Op::Lt | Op::Le | Op::Gt | Op::Ge)
-}
-
-/// Whether a counter was changed since the jump of its loop, where a line begins.
-fn is_changed(jump: u32, change: u32, address: u32) -> bool
-    ensures { result ≡ def.is_changed jump change address }
-{
-    if change < jump {
-        change < address && address <= jump
-    } else {
-        change < address || address <= jump
-    }
-}
-
-/// And whether it was after that line.
-fn is_changed_after(jump: u32, change: u32, address: u32) -> bool
-    ensures { result ≡ def.is_changed_after jump change address }
-{
-    if address == change {
-        true
-    } else if address == jump {
-        false
-    } else {
-        is_changed(jump, change, address)
-    }
-}
-
 impl Place {
     /// Whether an address is in the loop.
     fn has(&self, address: u32) -> bool
@@ -197,40 +105,30 @@ impl Place {
         self.first <= address && address <= self.last
     }
 
-    /// Which lines write a slot.
-    fn writers(&self, image: &Image, walk: &Walk, slot: u32) -> Writers
-        requires last { self.now.last + 1 < 2 ^ 32 }
-        ensures { spec.AreWriters image.now walk.now self.now slot result }
+    /// Which lines write a slot: of those that write it from the first line on, the ones that the owner comes to.
+    fn writers(&self, walk: &Walk, written: &[Written], slot: u32) -> Writers
+        requires order { writtens.AreInOrder written.now }
+        ensures { (image : ImageView) → writtens.HasWriters image written.now (length image.code)
+            → spec.AreWriters image walk.now self.now slot result }
     {
+        let first = self.first;
+        let from = written.partition_point(|row| {
+            row.slot < slot || row.slot == slot && row.address < first
+        });
         let mut found = Writers::Nobody;
-        for address in self.first..self.last + 1 {
-            found = self.writers_with(image, walk, slot, address, found);
+        for index in from..written.len() {
+            let row = written[index];
+            if row.slot != slot || self.last < row.address {
+                return found;
+            }
+            if walk.table.find(row.address).is_some() {
+                match found {
+                    Writers::Nobody => found = Writers::One(row.address),
+                    Writers::One(_) | Writers::Several => return Writers::Several,
+                }
+            }
         }
         found
-    }
-
-    /// Which lines write a slot, with one more that may.
-    fn writers_with(
-        &self,
-        image: &Image,
-        walk: &Walk,
-        slot: u32,
-        address: u32,
-        found: Writers,
-    ) -> Writers
-        requires from { self.now.first ≤ address }
-        requires to { address ≤ self.now.last }
-        ensures { spec.AreWritersTo image.now walk.now self.now address slot found
-            → spec.AreWritersTo image.now walk.now self.now (address + 1) slot result }
-    {
-        if writes(image, walk, address, slot) {
-            match found {
-                Writers::Nobody => Writers::One(address),
-                Writers::One(_) | Writers::Several => Writers::Several,
-            }
-        } else {
-            found
-        }
     }
 
     /// What a slot holds at an address of the loop, if that is a constant.
@@ -238,10 +136,12 @@ impl Place {
         &self,
         image: &Image,
         walk: &Walk,
+        written: &[Written],
         sources: &[Sources],
         address: u32,
         slot: u32,
     ) -> Option<u32>
+        requires written { writtens.AreAllWritten image.now written.now }
         requires first { 0 < self.now.first }
         requires last { self.now.last + 1 < 2 ^ 32 }
         ensures { (owner : OwnerView) → IsMapped image.now owner walk.now → AreSources image.now owner sources.now
@@ -250,7 +150,7 @@ impl Place {
     {
         match held_at(image, sources, address, slot) {
             Some(value) => Some(value),
-            None => match self.writers(image, walk, slot) {
+            None => match self.writers(walk, written, slot) {
                 Writers::Nobody => held_after(image, sources, self.first - 1, slot),
                 Writers::One(_) => None,
                 Writers::Several => None,
@@ -355,11 +255,13 @@ impl Place {
         &self,
         image: &Image,
         walk: &Walk,
+        written: &[Written],
         sources: &[Sources],
         inners: &[Option<Inner>],
         counter: u32,
         test: Test,
     ) -> Option<u32>
+        requires written { writtens.AreAllWritten image.now written.now }
         requires inners { inner.All (inner.IsStaying image.now walk.now) inners.now }
         requires limits { IsWithinLimits image.now }
         requires first { 0 < self.now.first }
@@ -368,8 +270,10 @@ impl Place {
         ensures { (owner : OwnerView) → IsMapped image.now owner walk.now → AreSources image.now owner sources.now
             → def.IsLoop image.now owner self.now → spec.MatchTurns image.now owner self.now counter test result }
     {
-        match self.writers(image, walk, counter) {
-            Writers::One(at) => self.turns_by_line(image, walk, sources, inners, counter, test, at),
+        match self.writers(walk, written, counter) {
+            Writers::One(at) => self.turns_by_line(
+                image, walk, written, sources, inners, counter, test, at,
+            ),
             Writers::Nobody => None,
             Writers::Several => None,
         }
@@ -380,12 +284,14 @@ impl Place {
         &self,
         image: &Image,
         walk: &Walk,
+        written: &[Written],
         sources: &[Sources],
         inners: &[Option<Inner>],
         counter: u32,
         test: Test,
         at: u32,
     ) -> Option<u32>
+        requires written { writtens.AreAllWritten image.now written.now }
         requires inners { inner.All (inner.IsStaying image.now walk.now) inners.now }
         requires limits { IsWithinLimits image.now }
         requires first { 0 < self.now.first }
@@ -398,7 +304,7 @@ impl Place {
         match change_at(image, at, counter) {
             Some(change) => {
                 if self.is_once(image, walk, inners, at) {
-                    self.turns_by_change(image, walk, sources, counter, test, at, change)
+                    self.turns_by_change(image, walk, written, sources, counter, test, at, change)
                 } else {
                     None
                 }
@@ -412,12 +318,14 @@ impl Place {
         &self,
         image: &Image,
         walk: &Walk,
+        written: &[Written],
         sources: &[Sources],
         counter: u32,
         test: Test,
         at: u32,
         change: Change,
     ) -> Option<u32>
+        requires written { writtens.AreAllWritten image.now written.now }
         requires first { 0 < self.now.first }
         requires last { self.now.last + 1 < 2 ^ 32 }
         requires jump { self.now.jump ≤ self.now.last }
@@ -427,7 +335,7 @@ impl Place {
         ensures { (owner : OwnerView) → IsMapped image.now owner walk.now → AreSources image.now owner sources.now
             → def.IsLoop image.now owner self.now → spec.MatchTurns image.now owner self.now counter test result }
     {
-        match self.constant(image, walk, sources, at, change.by) {
+        match self.constant(image, walk, written, sources, at, change.by) {
             Some(step) => match held_after(image, sources, self.first - 1, counter) {
                 Some(start) => {
                     let jump = self.jump;
@@ -445,10 +353,12 @@ impl Place {
         &self,
         image: &Image,
         walk: &Walk,
+        written: &[Written],
         sources: &[Sources],
         inners: &[Option<Inner>],
         comparison: Comparison,
     ) -> Option<u32>
+        requires written { writtens.AreAllWritten image.now written.now }
         requires inners { inner.All (inner.IsStaying image.now walk.now) inners.now }
         requires limits { IsWithinLimits image.now }
         requires first { 0 < self.now.first }
@@ -460,15 +370,37 @@ impl Place {
             → spec.IsComparison image.now sources.now self.now slot comparison
             → spec.MatchCounts image.now owner self.now slot result }
     {
-        match self.constant(image, walk, sources, self.jump - 1, comparison.other) {
+        match self.constant(
+            image,
+            walk,
+            written,
+            sources,
+            self.jump - 1,
+            comparison.other,
+        ) {
             Some(limit) => {
                 let test = Test::Compared(comparison.op, limit);
-                self.turns_by(image, walk, sources, inners, comparison.one, test)
+                self.turns_by(image, walk, written, sources, inners, comparison.one, test)
             }
-            None => match self.constant(image, walk, sources, self.jump - 1, comparison.one) {
+            None => match self.constant(
+                image,
+                walk,
+                written,
+                sources,
+                self.jump - 1,
+                comparison.one,
+            ) {
                 Some(limit) => {
                     let test = Test::ComparedWith(comparison.op, limit);
-                    self.turns_by(image, walk, sources, inners, comparison.other, test)
+                    self.turns_by(
+                        image,
+                        walk,
+                        written,
+                        sources,
+                        inners,
+                        comparison.other,
+                        test,
+                    )
                 }
                 None => None,
             },
@@ -480,10 +412,12 @@ impl Place {
         &self,
         image: &Image,
         walk: &Walk,
+        written: &[Written],
         sources: &[Sources],
         inners: &[Option<Inner>],
         slot: u32,
     ) -> Option<u32>
+        requires written { writtens.AreAllWritten image.now written.now }
         requires inners { inner.All (inner.IsStaying image.now walk.now) inners.now }
         requires limits { IsWithinLimits image.now }
         requires first { 0 < self.now.first }
@@ -493,8 +427,10 @@ impl Place {
             → def.IsLoop image.now owner self.now → spec.MatchCounts image.now owner self.now slot result }
     {
         match self.comparison(image, sources, slot) {
-            Some(comparison) => self.turns_by_comparison(image, walk, sources, inners, comparison),
-            None => self.turns_by(image, walk, sources, inners, slot, Test::Itself),
+            Some(comparison) => self.turns_by_comparison(
+                image, walk, written, sources, inners, comparison,
+            ),
+            None => self.turns_by(image, walk, written, sources, inners, slot, Test::Itself),
         }
     }
 
@@ -503,9 +439,11 @@ impl Place {
         &self,
         image: &Image,
         walk: &Walk,
+        written: &[Written],
         sources: &[Sources],
         inners: &[Option<Inner>],
     ) -> Option<u32>
+        requires written { writtens.AreAllWritten image.now written.now }
         requires inners { inner.All (inner.IsStaying image.now walk.now) inners.now }
         requires limits { IsWithinLimits image.now }
         requires first { 0 < self.now.first }
@@ -517,20 +455,9 @@ impl Place {
             → spec.MatchCounts image.now owner self.now slot result }
     {
         match jump_at(image, self.jump) {
-            Some(slot) => self.turns_on(image, walk, sources, inners, slot),
+            Some(slot) => self.turns_on(image, walk, written, sources, inners, slot),
             None => None,
         }
-    }
-}
-
-/// Whether the line at an address writes a slot, if the owner comes there.
-fn writes(image: &Image, walk: &Walk, address: u32, slot: u32) -> bool
-    ensures { MatchBool result (spec.WritesAt image.now walk.now address slot)
-        (¬ spec.WritesAt image.now walk.now address slot) }
-{
-    match (line_at(image, address), walk.table.find(address)) {
-        (Some(line), Some(_)) => write_of(&line.0, slot) != Writing::Keeps,
-        _ => false,
     }
 }
 
@@ -538,11 +465,13 @@ fn writes(image: &Image, walk: &Walk, address: u32, slot: u32) -> bool
 pub fn counting_at(
     image: &Image,
     walk: &Walk,
+    written: &[Written],
     owner: Owner,
     sources: &[Sources],
     inners: &[Option<Inner>],
     last: u32,
 ) -> Option<CountingLoop>
+    requires written { writtens.AreAllWritten image.now written.now }
     requires checked { IsChecked image.now }
     requires limits { IsWithinLimits image.now }
     requires mapped { IsMapped image.now owner walk.now }
@@ -552,7 +481,7 @@ pub fn counting_at(
     ensures { spec.MatchLoop image.now owner last result }
 {
     match lines_back(image, walk, last) {
-        Some(lines) => counting_in(image, walk, owner, sources, inners, lines),
+        Some(lines) => counting_in(image, walk, written, owner, sources, inners, lines),
         None => None,
     }
 }
@@ -561,11 +490,13 @@ pub fn counting_at(
 fn counting_in(
     image: &Image,
     walk: &Walk,
+    written: &[Written],
     owner: Owner,
     sources: &[Sources],
     inners: &[Option<Inner>],
     lines: Lines,
 ) -> Option<CountingLoop>
+    requires written { writtens.AreAllWritten image.now written.now }
     requires checked { IsChecked image.now }
     requires limits { IsWithinLimits image.now }
     requires mapped { IsMapped image.now owner walk.now }
@@ -577,7 +508,7 @@ fn counting_in(
     ensures { spec.MatchLoop image.now owner lines.last result }
 {
     match lines.head(image, walk, owner) {
-        Some(head) => counting_from(image, walk, owner, sources, inners, lines, head),
+        Some(head) => counting_from(image, walk, written, owner, sources, inners, lines, head),
         None => None,
     }
 }
@@ -586,12 +517,14 @@ fn counting_in(
 fn counting_from(
     image: &Image,
     walk: &Walk,
+    written: &[Written],
     owner: Owner,
     sources: &[Sources],
     inners: &[Option<Inner>],
     lines: Lines,
     head: u32,
 ) -> Option<CountingLoop>
+    requires written { writtens.AreAllWritten image.now written.now }
     requires checked { IsChecked image.now }
     requires limits { IsWithinLimits image.now }
     requires mapped { IsMapped image.now owner walk.now }
@@ -604,7 +537,9 @@ fn counting_from(
     ensures { spec.MatchLoop image.now owner lines.last result }
 {
     match lines.exit_of(image, walk, owner, sources, inners, head) {
-        Some(exit) => counting_by(image, walk, owner, sources, inners, lines, head, exit),
+        Some(exit) => counting_by(
+            image, walk, written, owner, sources, inners, lines, head, exit,
+        ),
         None => None,
     }
 }
@@ -613,6 +548,7 @@ fn counting_from(
 fn counting_by(
     image: &Image,
     walk: &Walk,
+    written: &[Written],
     owner: Owner,
     sources: &[Sources],
     inners: &[Option<Inner>],
@@ -620,6 +556,7 @@ fn counting_by(
     head: u32,
     exit: Exit,
 ) -> Option<CountingLoop>
+    requires written { writtens.AreAllWritten image.now written.now }
     requires checked { IsChecked image.now }
     requires limits { IsWithinLimits image.now }
     requires mapped { IsMapped image.now owner walk.now }
@@ -633,7 +570,7 @@ fn counting_by(
     ensures { spec.MatchLoop image.now owner lines.last result }
 {
     let place = place_of(lines, head, exit);
-    match place.counted(image, walk, sources, inners) {
+    match place.counted(image, walk, written, sources, inners) {
         Some(turns) => Some(CountingLoop { place, turns }),
         None => None,
     }

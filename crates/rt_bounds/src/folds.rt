@@ -10,6 +10,7 @@ ghost use Rattle.rt_bounds.specs.Inside.Ground.{IsMapped};
 ghost use Rattle.rt_bounds.specs.Inside.Inners.{AreInners};
 ghost use Rattle.rt_bounds.specs.Inside.Sources.{AreSources};
 ghost use Rattle.rt_bounds.specs.Inside.Surveys as surveys;
+ghost use Rattle.rt_bounds.specs.Inside.Writtens.{AreAllWritten};
 
 use crate::counting::{CountingLoop, counting_at};
 use crate::ground::depth_at;
@@ -17,6 +18,7 @@ use crate::longest::{Longest, MOST_STEPS};
 use crate::shape::Inner;
 use crate::sources::Sources;
 use crate::survey::Survey;
+use crate::written::Written;
 use rt_code::Image;
 use rt_ids::NoMemory;
 use rt_judge::walk::Walk;
@@ -137,7 +139,6 @@ fn up_to(
     ensures surveyed { OnOk result (surveys.IsSurveyed image.now owner walk.now survey.new) }
     ensures depth { OnOk result (survey.new.depth ≡ survey.old.depth) }
     ensures goal { OnOk result (survey.new.goal ≡ survey.old.goal) }
-    ensures kept { OnOk result (surveys.KeepsElse image.now owner (reached_by walk.now) survey.old survey.new) }
     ensures longest { IfOk result (spec.IsAhead image.now survey.old.depth (Some jump)
         (spec.point_at owner (reached_by walk.now) start)) }
 {
@@ -171,7 +172,7 @@ fn measure(
     survey.begin(place.jump, depth);
     let round = up_to(survey, image, walk, folds, owner, place.stay, place.jump)?;
     let front = up_to(survey, image, walk, folds, owner, place.head, place.jump)?;
-    survey.forget(place.first, place.last);
+    survey.forget();
     Ok(fold_of(depth, counting, front, round))
 }
 
@@ -182,10 +183,12 @@ fn take_loop(
     inners: &mut [Option<Inner>],
     image: &Image,
     walk: &Walk,
+    written: &[Written],
     owner: Owner,
     sources: &[Sources],
     last: u32,
 ) -> Result<(), NoMemory>
+    requires written { AreAllWritten image.now written.now }
     requires checked { IsChecked image.now }
     requires limits { IsWithinLimits image.now }
     requires mapped { IsMapped image.now owner walk.now }
@@ -200,7 +203,7 @@ fn take_loop(
     ensures room { length inners.new ≡ length image.now.code }
     ensures blank { OnOk result (surveys.IsBlank image.now survey.new) }
 {
-    match counting_at(image, walk, owner, sources, inners, last) {
+    match counting_at(image, walk, written, owner, sources, inners, last) {
         Some(counting) => {
             let fold = measure(survey, image, walk, folds, owner, &counting)?;
             folds[counting.place.head as usize] = Some(fold);
@@ -233,9 +236,11 @@ pub fn folds_of(
     alloc: Global,
     image: &Image,
     walk: &Walk,
+    written: &[Written],
     owner: Owner,
     sources: &[Sources],
 ) -> Result<Vec<Option<Fold>>, NoMemory>
+    requires written { AreAllWritten image.now written.now }
     requires checked { IsChecked image.now }
     requires limits { IsWithinLimits image.now }
     requires mapped { IsMapped image.now owner walk.now }
@@ -254,6 +259,7 @@ pub fn folds_of(
             &mut inners,
             image,
             walk,
+            written,
             owner,
             sources,
             last,

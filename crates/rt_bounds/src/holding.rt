@@ -1,6 +1,7 @@
 // What a slot holds at an address, whichever way an owner comes there.
 
 ghost use Rattle.std.specs.Prelude.{◌≡◌, ◌<◌, ℕ, true, MatchBool, MatchOption};
+ghost use Rattle.rt_points.specs.Rules as rules;
 ghost use Rattle.rt_points.specs.declared.point.Owner.{Owner as OwnerView};
 ghost use Rattle.rt_bounds.specs.Holding.{HoldsAfter, HoldsAt};
 ghost use Rattle.rt_bounds.specs.Inside.Holdings as spec;
@@ -12,7 +13,7 @@ use rt_judge::exits::line_at;
 
 /// What an instruction does to a slot.
 #[derive(Clone, Copy, Debug, PartialEq, Eq)]
-pub enum Writing {
+enum Writing {
     /// It leaves it alone.
     Keeps,
     /// It sets it to this constant.
@@ -37,8 +38,18 @@ fn changed_slot(instr: &Instr) -> Option<u32>
     }
 }
 
+/// The slot that an instruction writes.
+pub fn written_slot(instr: &Instr) -> Option<u32>
+    ensures { result ≡ rules.written_slot instr.now }
+{
+    match *instr {
+        Instr::Set(to, _) => Some(to),
+        _ => changed_slot(instr),
+    }
+}
+
 /// What an instruction does to a slot.
-pub fn write_of(instr: &Instr, slot: u32) -> Writing
+fn write_of(instr: &Instr, slot: u32) -> Writing
     ensures { spec.IsWriting instr.now slot result }
 {
     match *instr {

@@ -7,6 +7,7 @@
 
 pub mod bound;
 mod bounding;
+mod changing;
 mod counting;
 mod folds;
 mod gathered;
@@ -19,6 +20,7 @@ mod sources;
 mod survey;
 mod text;
 mod turns;
+mod written;
 
 pub use bound::{Bounds, HandlerBound, SectionBound, WaitBound};
 pub use bounding::bounds;

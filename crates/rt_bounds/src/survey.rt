@@ -1,6 +1,6 @@
 // The longest ways from addresses of one owner, among those where at least so many sections are open.
 
-ghost use Rattle.std.specs.Prelude.{◌≡◌, ◌≤◌, ◌<◌, ◌+◌, ◌^◌, IfOk, OnOk, length, slice_get, slice_set};
+ghost use Rattle.std.specs.Prelude.{◌≡◌, ◌<◌, ◌+◌, ◌^◌, IfOk, OnOk, length, slice_get, slice_set};
 ghost use Rattle.rt_points.specs.Limits.{IsWithinLimits};
 ghost use Rattle.rt_points.specs.Checked.{IsChecked};
 ghost use Rattle.rt_judge.specs.Inside.Walks.{reached_by, IsSoundWalk};
@@ -50,6 +50,8 @@ pub struct Survey {
     /// Where ways end, if they end before.
     pub goal: Option<u32>,
     pub marks: Vec<Mark>,
+    /// The addresses that were looked at.
+    pub seen: Vec<u32>,
     pub trail: Vec<u32>,
 }
 
@@ -120,6 +122,7 @@ impl Survey {
             depth,
             goal: None,
             marks: Vec::from_elem(alloc, Mark::Unseen, length)?,
+            seen: Vec::new(alloc),
             trail: Vec::new(alloc),
         })
     }
@@ -243,6 +246,7 @@ impl Survey {
         ensures { OnOk result (spec.IsOpened self.old self.new address) }
     {
         self.marks[address as usize] = Mark::Open;
+        self.seen.push(address)?;
         self.trail.push(address)?;
         Ok(())
     }
@@ -253,6 +257,7 @@ impl Survey {
         ensures depth { self.new.depth ≡ self.old.depth }
         ensures goal { self.new.goal ≡ self.old.goal }
         ensures marks { self.new.marks.items ≡ slice_set self.old.marks.items address mark }
+        ensures seen { self.new.seen ≡ self.old.seen }
         ensures trail { self.new.trail ≡ self.old.trail }
     {
         self.marks[address as usize] = mark;
@@ -304,14 +309,12 @@ impl Survey {
         self.depth = depth;
     }
 
-    /// Forgets what is known of lines.
-    pub fn forget(&mut self, first: u32, last: u32)
-        requires lines { first ≤ last }
-        requires within { last < length self.old.marks.items }
-        requires small { last + 1 < 2 ^ 32 }
-        ensures { spec.IsForgotten self.old self.new first last }
+    /// Forgets what is known.
+    pub fn forget(&mut self)
+        requires { spec.IsListed self.old.marks.items self.old.seen.items }
+        ensures { spec.IsForgotten self.old self.new }
     {
-        for address in first..last + 1 {
+        while let Some(address) = self.seen.pop() {
             self.close(address, Mark::Unseen);
         }
     }
@@ -346,7 +349,6 @@ impl Survey {
         ensures surveyed { OnOk result (spec.IsSurveyed image.now owner walk.now self.new) }
         ensures depth { OnOk result (self.new.depth ≡ self.old.depth) }
         ensures goal { OnOk result (self.new.goal ≡ self.old.goal) }
-        ensures kept { OnOk result (spec.KeepsElse image.now owner (reached_by walk.now) self.old self.new) }
         ensures longest { IfOk result (IsAhead image.now self.old.depth self.old.goal
             (spec.point_at owner (reached_by walk.now) start)) }
     {

@@ -53,17 +53,13 @@ pub record WritesAt (img : Image) (walk : Walk) (at slot : ℕ) : Type 0 where
   pub writes : written_slot line.0 ≡ Some slot
 
 module _ (img : Image) (walk : Walk) (c : Place) where
-  -- which lines of a loop before an address write a slot
-  abbrev pub AreWritersTo : ℕ → ℕ → Writers → Type 0
-  AreWritersTo count slot Nobody = (a : ℕ) → a < count → IsInside c a → ¬ WritesAt img walk a slot
-  AreWritersTo count slot (One at) = IsInside c at × (at < count) × WritesAt img walk at slot
-      × ((a : ℕ) → a < count → IsInside c a → WritesAt img walk a slot → a ≡ at)
-  AreWritersTo count slot Several = (a : ℕ) × (b : ℕ) × (a ≢ b) × IsInside c a × IsInside c b
-      × WritesAt img walk a slot × WritesAt img walk b slot
-
-  -- which of its lines do
+  -- which lines of a loop write a slot
   abbrev pub AreWriters : ℕ → Writers → Type 0
-  AreWriters slot writers = AreWritersTo (suc c.last) slot writers
+  AreWriters slot Nobody = (a : ℕ) → IsInside c a → ¬ WritesAt img walk a slot
+  AreWriters slot (One at) = IsInside c at × WritesAt img walk at slot
+      × ((a : ℕ) → IsInside c a → WritesAt img walk a slot → a ≡ at)
+  AreWriters slot Several = (a : ℕ) × (b : ℕ) × (a ≢ b) × IsInside c a × IsInside c b
+      × WritesAt img walk a slot × WritesAt img walk b slot
 
 -- the line before the jump of a loop, through which alone it is come to, compares two slots
 pub record IsComparison (img : Image) (sources : List Sources) (c : Place) (slot : ℕ) (compared : Comparison)

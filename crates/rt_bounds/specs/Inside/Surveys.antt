@@ -160,16 +160,23 @@ pub record IsSurveying (img : Image) (owner : Owner) (reached : Reached) (depth 
   pub aside : AllByRecursion (λ a. goal ≢ Some a) trail
   pub within : AllByRecursion (λ a. a < length marks) trail
 
+-- the addresses that were looked at are listed
+pub record IsListed (marks : List Mark) (seen : List ℕ) : Type 0 where
+  pub each : (a : ℕ) (m : Mark) → slice_get marks a ≡ Some m → (m ≡ mark.Unseen) ⊎ Contains seen a
+  pub within : AllByRecursion (λ a. a < length marks) seen
+
 -- a survey with nothing on its trail
 pub record IsSurveyed (img : Image) (owner : Owner) (walk : Walk) (s : Survey) : Type 0 where
   pub empty : s.trail.items ≡ []
   pub surveying : IsSurveying img owner (reached_by walk) s.depth s.goal s.marks.items []
+  pub listed : IsListed s.marks.items s.seen.items
 
 -- a survey of which nothing is known
 pub record IsNewSurvey (count least : ℕ) (s : Survey) : Type 0 where
   pub depth : s.depth ≡ least
   pub goal : s.goal ≡ None
   pub marks : s.marks.items ≡ replicate count mark.Unseen
+  pub seen : s.seen.items ≡ []
   pub trail : s.trail.items ≡ []
 
 -- one more address on the trail
@@ -177,6 +184,7 @@ pub record IsOpened (old new : Survey) (address : ℕ) : Type 0 where
   pub depth : new.depth ≡ old.depth
   pub goal : new.goal ≡ old.goal
   pub marks : new.marks.items ≡ slice_set old.marks.items address mark.Open
+  pub seen : new.seen.items ≡ old.seen.items ++ address ∷ []
   pub trail : new.trail.items ≡ old.trail.items ++ address ∷ []
 
 -- an address put back on the trail, and another behind it
@@ -184,6 +192,7 @@ pub record IsGoneOn (old new : Survey) (top next : ℕ) : Type 0 where
   pub depth : new.depth ≡ old.depth
   pub goal : new.goal ≡ old.goal
   pub marks : new.marks.items ≡ slice_set old.marks.items next mark.Open
+  pub seen : new.seen.items ≡ old.seen.items ++ next ∷ []
   pub trail : new.trail.items ≡ (old.trail.items ++ top ∷ []) ++ next ∷ []
 
 -- an address was looked at
@@ -211,30 +220,30 @@ pub record IsBegun (old new : Survey) (goal depth : ℕ) : Type 0 where
   pub goal_is : new.goal ≡ Some goal
   pub depth_is : new.depth ≡ depth
   pub marks : new.marks ≡ old.marks
+  pub seen : new.seen ≡ old.seen
   pub trail : new.trail ≡ old.trail
-
--- nothing is known of lines
-pub record IsForgotten (old new : Survey) (first last : ℕ) : Type 0 where
-  pub trail : new.trail ≡ old.trail
-  pub size : length new.marks.items ≡ length old.marks.items
-  pub gone : (a : ℕ) → first ≤ a → a ≤ last → slice_get new.marks.items a ≡ Some mark.Unseen
-  pub kept : (a : ℕ) → (a < first) ⊎ (last < a) → slice_get new.marks.items a ≡ slice_get old.marks.items a
 
 -- nothing is known of any line
+abbrev pub AreUnseen : List Mark → Type 0
+AreUnseen marks = (a : ℕ) (m : Mark) → slice_get marks a ≡ Some m → m ≡ mark.Unseen
+
+-- all is forgotten
+pub record IsForgotten (old new : Survey) : Type 0 where
+  pub trail : new.trail ≡ old.trail
+  pub size : length new.marks.items ≡ length old.marks.items
+  pub seen : new.seen.items ≡ []
+  pub unseen : AreUnseen new.marks.items
+
+-- nothing is known
 pub record IsBlank (img : Image) (s : Survey) : Type 0 where
   pub trail : s.trail.items ≡ []
   pub size : length s.marks.items ≡ length img.code
-  pub unseen : (a : ℕ) (m : Mark) → slice_get s.marks.items a ≡ Some m → m ≡ mark.Unseen
-
--- no mark has changed but of addresses from which ways may be looked at
-abbrev pub KeepsElse : Image → Owner → Reached → Survey → Survey → Type 0
-KeepsElse img owner reached old new = (a : ℕ) → (slice_get new.marks.items a ≡ slice_get old.marks.items a)
-    ⊎ ((last : ℕ) × IsFree img owner reached old.depth old.goal last a)
+  pub seen : s.seen.items ≡ []
+  pub unseen : AreUnseen s.marks.items
 
 -- a survey that has looked at all that a way from an address can come to
 pub record IsSurveyedFrom (img : Image) (owner : Owner) (walk : Walk) (old new : Survey) (start : ℕ) : Type 0 where
   pub depth : new.depth ≡ old.depth
   pub goal : new.goal ≡ old.goal
-  pub kept : KeepsElse img owner (reached_by walk) old new
   pub surveyed : IsSurveyed img owner walk new
   pub seen : IsSeen new.marks.items start

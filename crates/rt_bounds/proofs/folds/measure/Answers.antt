@@ -1,8 +1,8 @@
-use Rattle.std.proofs.Common.{sym, subst, ◌∙◌, arith}
+use Rattle.std.proofs.Common.{sym, subst, ◌∙◌}
 use Rattle.rt_judge.specs.Inside.Walks.{reached_by}
 use Rattle.rt_bounds.specs.Inside.Aheads.{IsFold}
 use Rattle.rt_bounds.proofs.Mapped.{has_all}
-use Rattle.rt_bounds.proofs.Measuring.{open_stay, open_head, fold_is, begun_blank, forgotten_blank, last_within}
+use Rattle.rt_bounds.proofs.Measuring.{open_stay, open_head, fold_is, begun_blank, forgotten_blank}
 use Rattle.rt_bounds.proofs.Measuring.{ahead_again}
 use Rattle.rt_bounds.proofs.Steps.{blank_surveyed}
 use Rattle.rt_bounds.proofs.folds.measure.Goals as goal
@@ -30,28 +30,8 @@ up_to-requires-2-clause-free c = λ apart.
     c.requires.counts c.args.folds.now c.requires.folded c.up_to.new.survey.depth
     (c.in_ok-round.ensures.depth ∙ c.begin.ensures.depth_is ∙ c.depth_there-depth.ensures) apart
 
-pub forget-requires-clause-within : goal.forget-requires-clause-within
-forget-requires-clause-within c =
-    let few = last_within c.args.image.now c.args.owner (reached_by c.args.walk.now)
-    (has_all c.args.image.now c.args.owner c.args.walk.now c.requires.checked c.requires.mapped) c.args.counting.now
-    c.requires.counts in
-    let size = c.in_ok-front.ensures.surveyed.surveying.size in
-    omega (arith, few, size)
-
-pub forget-requires-clause-lines : goal.forget-requires-clause-lines
-forget-requires-clause-lines c =
-    let back = c.requires.counts.loop.back_in in
-    let low = back.inside.0 in
-    let high = back.inside.1 in
-    omega (arith, low, high)
-
-pub forget-requires-clause-small : goal.forget-requires-clause-small
-forget-requires-clause-small c =
-    let few = last_within c.args.image.now c.args.owner (reached_by c.args.walk.now)
-    (has_all c.args.image.now c.args.owner c.args.walk.now c.requires.checked c.requires.mapped) c.args.counting.now
-    c.requires.counts in
-    let limits = c.requires.limits.code in
-    omega (arith, few, limits)
+pub forget-requires : goal.forget-requires
+forget-requires c = c.in_ok-front.ensures.surveyed.listed
 
 pub returns-clause-fold : goal.returns-clause-fold
 returns-clause-fold c =
@@ -66,9 +46,5 @@ returns-clause-fold c =
 
 pub returns-clause-blank : goal.returns-clause-blank
 returns-clause-blank c =
-    forgotten_blank c.args.image.now c.args.owner (reached_by c.args.walk.now) c.args.counting.now c.requires.counts
-    c.begin.new.self c.up_to.new.survey c.up_to-2.new.survey c.forget.new.self
-    (begun_blank c.args.image.now c.args.survey.now c.begin.new.self c.args.counting.now.place.jump c.depth_there-depth.result
-    c.requires.blank c.begin.ensures) c.begin.ensures.goal_is (c.in_ok-round.ensures.goal ∙ c.begin.ensures.goal_is)
-    c.in_ok-round.ensures.kept c.in_ok-front.ensures.kept c.in_ok-front.ensures.surveyed.empty
+    forgotten_blank c.args.image.now c.up_to-2.new.survey c.forget.new.self c.in_ok-front.ensures.surveyed.empty
     c.in_ok-front.ensures.surveyed.surveying.size c.forget.ensures

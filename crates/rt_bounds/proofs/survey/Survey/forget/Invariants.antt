@@ -1,12 +1,13 @@
-use Rattle.std.proofs.Common.{◌≡◌, ◌⊎◌, ◌≤◌, ◌<◌, ℕ, length, slice_get, Some}
-use Rattle.rt_bounds.specs.declared.survey.Mark.TheVariants as mark
+use Rattle.std.proofs.Common.{◌≡◌, length}
+use Rattle.rt_bounds.specs.Inside.Surveys.{IsListed}
 use Rattle.rt_bounds.proofs.survey.Survey.forget.Given as goal
 
 abbrev pub invariant-loop-address : goal.invariant-loop-address
 invariant-loop-address l = record {
   trail : l.self.trail ≡ l.fn.self.trail;
   size : length l.self.marks.items ≡ length l.fn.self.marks.items;
-  gone : (a : ℕ) → l.first ≤ a → a < l.address → slice_get l.self.marks.items a ≡ Some mark.Unseen;
-  kept : (a : ℕ) → (a < l.first) ⊎ (l.address ≤ a)
-      → slice_get l.self.marks.items a ≡ slice_get l.fn.self.marks.items a;
+  listed : IsListed l.self.marks.items l.self.seen.items;
 }
+
+abbrev pub decreases-loop-address : goal.decreases-loop-address
+decreases-loop-address l = length l.self.seen.items

@@ -1,11 +1,11 @@
-use Rattle.std.proofs.Common.{◌+◌, ℕ, Option, ap, subst, ◌∙◌, arith}
+use Rattle.std.proofs.Common.{◌+◌, ap, ◌∙◌, arith}
 use Rattle.rt_judge.specs.Inside.Walks.{reached_by}
-use Rattle.rt_bounds.specs.Inside.Aheads.{IsFree}
 use Rattle.rt_bounds.specs.declared.survey.Mark.TheVariants as mark
-use Rattle.rt_bounds.proofs.Steps.{start_within, started, top_within, top_free, rest_free, step_steps, step_loop, step_on}
-use Rattle.rt_bounds.proofs.Steps.{step_within, step_free, next_free, step_nearer, back_nearer, steps_fit, steps_close}
-use Rattle.rt_bounds.proofs.Steps.{loop_closes, same_survey, same_measure, same_seen, free_on, keeps_set, keeps_all}
+use Rattle.rt_bounds.proofs.Steps.{start_within, started, top_within, rest_free, step_steps, step_loop, step_on}
+use Rattle.rt_bounds.proofs.Steps.{step_within, step_free, step_nearer, back_nearer, steps_fit, steps_close}
+use Rattle.rt_bounds.proofs.Steps.{loop_closes, same_survey, same_measure, same_seen, free_on}
 use Rattle.rt_bounds.proofs.Steps.{moved_free}
+use Rattle.rt_bounds.proofs.Listed.{listed_first, listed_again, first_on_list, next_on_list, top_on_list, rest_on_list}
 use Rattle.rt_bounds.proofs.Surveying.{seen_set, seen_now}
 use Rattle.rt_bounds.proofs.survey.Survey.survey.Goals as goal
 
@@ -41,10 +41,10 @@ loop-top-init c =
             c.open.new.self.depth s.goal c.open.new.self.goal c.args.start s.trail.items c.open.new.self.trail.items
             opened.depth opened.goal c.requires.surveyed.empty opened.trail free,
       );
-      kept = keeps_set
-          (λ a. (last : ℕ) × IsFree c.args.image.now c.args.owner (reached_by c.args.walk.now) s.depth s.goal last a)
-          s.marks.items s.marks.items c.open.new.self.marks.items c.args.start mark.Open opened.marks
-          (c.requires.free.last, free) (keeps_all _ s.marks.items);
+      listed = listed_first s.marks.items c.open.new.self.marks.items c.args.start mark.Open opened.marks s.seen.items
+          c.open.new.self.seen.items opened.seen within c.requires.surveyed.listed;
+      on_list = first_on_list c.args.start s.seen.items c.open.new.self.seen.items opened.seen s.trail.items
+          c.open.new.self.trail.items c.requires.surveyed.empty opened.trail;
       seen = same_seen _ c.open.new.self.marks.items c.args.start opened.marks
           (seen_now s.marks.items c.args.start mark.Open within (λ e. cc));
     }
@@ -101,21 +101,11 @@ loop-top-preserved-in-Continue-branch-2 c =
             c.in-Some.top c.in-Some.ensures.items c.loop-top.invariant.surveying c.loop-top.invariant.wide.2
             c.in-Unseen.next c.in-Unseen.ensures),
       );
-      kept = keeps_set
-          (λ a. (last : ℕ) × IsFree c.args.image.now c.args.owner (reached_by c.args.walk.now) c.args.self.now.depth
-          c.args.self.now.goal last a)
-          c.args.self.now.marks.items s.marks.items c.go_on.new.self.marks.items c.in-Unseen.next mark.Open gone.marks (
-            c.loop-top.invariant.wide.0,
-            subst (λ d. IsFree c.args.image.now c.args.owner (reached_by c.args.walk.now) d c.args.self.now.goal
-                c.loop-top.invariant.wide.0 c.in-Unseen.next) c.loop-top.invariant.depth
-                (subst (λ (g : Option ℕ). IsFree c.args.image.now c.args.owner (reached_by c.args.walk.now) s.depth g
-                c.loop-top.invariant.wide.0 c.in-Unseen.next) c.loop-top.invariant.goal
-                (next_free c.args.image.now c.args.owner c.args.walk.now c.requires.checked c.requires.mapped s.depth s.goal
-                s.marks.items
-                c.loop-top.invariant.wide.0 c.args.folds.now c.loop-top.invariant.wide.1 s.trail.items c.pop.new.self.items
-                c.in-Some.top c.in-Some.ensures.items c.loop-top.invariant.surveying c.loop-top.invariant.wide.2
-                c.in-Unseen.next c.in-Unseen.ensures)),
-          ) c.loop-top.invariant.kept;
+      listed = listed_first s.marks.items c.go_on.new.self.marks.items c.in-Unseen.next mark.Open gone.marks s.seen.items
+          c.go_on.new.self.seen.items gone.seen within c.loop-top.invariant.listed;
+      on_list = next_on_list c.in-Some.top c.in-Unseen.next s.seen.items c.go_on.new.self.seen.items gone.seen
+          s.trail.items c.pop.new.self.items c.go_on.new.self.trail.items c.in-Some.ensures.items gone.trail
+          c.loop-top.invariant.on_list;
       seen = same_seen _ c.go_on.new.self.marks.items c.args.start gone.marks
           (seen_set s.marks.items c.in-Unseen.next c.args.start mark.Open within (λ e. cc) c.loop-top.invariant.seen);
     }
@@ -180,21 +170,13 @@ loop-top-preserved-in-Steps c =
             c.loop-top.invariant.wide.0 c.args.folds.now c.loop-top.invariant.wide.1 s.trail.items c.pop.new.self.items
             c.in-Some.top c.in-Some.ensures.items c.loop-top.invariant.surveying c.loop-top.invariant.wide.2),
       );
-      kept = keeps_set
-          (λ a. (last : ℕ) × IsFree c.args.image.now c.args.owner (reached_by c.args.walk.now) c.args.self.now.depth
-          c.args.self.now.goal last a)
-          c.args.self.now.marks.items s.marks.items c.close.new.self.marks.items c.in-Some.top (mark.Steps (c.in-Steps.steps + 1))
-          closed.marks (
-            c.loop-top.invariant.wide.0,
-            subst (λ d. IsFree c.args.image.now c.args.owner (reached_by c.args.walk.now) d c.args.self.now.goal
-                c.loop-top.invariant.wide.0 c.in-Some.top) c.loop-top.invariant.depth
-                (subst (λ (g : Option ℕ). IsFree c.args.image.now c.args.owner (reached_by c.args.walk.now) s.depth g
-                c.loop-top.invariant.wide.0 c.in-Some.top) c.loop-top.invariant.goal
-                (top_free c.args.image.now c.args.owner c.args.walk.now c.requires.checked c.requires.mapped s.depth s.goal
-                s.marks.items
-                c.loop-top.invariant.wide.0 c.args.folds.now c.loop-top.invariant.wide.1 s.trail.items c.pop.new.self.items
-                c.in-Some.top c.in-Some.ensures.items c.loop-top.invariant.surveying c.loop-top.invariant.wide.2)),
-          ) c.loop-top.invariant.kept;
+      listed = listed_again s.marks.items c.close.new.self.marks.items c.in-Some.top (mark.Steps (c.in-Steps.steps + 1))
+          closed.marks s.seen.items c.close.new.self.seen.items (ap (λ v. v.items) closed.seen)
+          (top_on_list c.in-Some.top s.seen.items s.trail.items c.pop.new.self.items c.in-Some.ensures.items
+          c.loop-top.invariant.on_list) c.loop-top.invariant.listed;
+      on_list = rest_on_list c.in-Some.top s.seen.items c.close.new.self.seen.items (ap (λ v. v.items) closed.seen)
+          s.trail.items c.pop.new.self.items c.close.new.self.trail.items c.in-Some.ensures.items
+          (ap (λ v. v.items) closed.trail) c.loop-top.invariant.on_list;
       seen = same_seen _ c.close.new.self.marks.items c.args.start closed.marks
           (seen_set s.marks.items c.in-Some.top c.args.start (mark.Steps (c.in-Steps.steps + 1)) within
           (steps_close (c.in-Steps.steps + 1)).0 c.loop-top.invariant.seen);
@@ -250,21 +232,13 @@ loop-top-preserved c =
             c.loop-top.invariant.wide.0 c.args.folds.now c.loop-top.invariant.wide.1 s.trail.items c.pop.new.self.items
             c.in-Some.top c.in-Some.ensures.items c.loop-top.invariant.surveying c.loop-top.invariant.wide.2),
       );
-      kept = keeps_set
-          (λ a. (last : ℕ) × IsFree c.args.image.now c.args.owner (reached_by c.args.walk.now) c.args.self.now.depth
-          c.args.self.now.goal last a)
-          c.args.self.now.marks.items s.marks.items c.close-in-Loop.new.self.marks.items c.in-Some.top (mark.Loop c.in-Loop.address)
-          closed.marks (
-            c.loop-top.invariant.wide.0,
-            subst (λ d. IsFree c.args.image.now c.args.owner (reached_by c.args.walk.now) d c.args.self.now.goal
-                c.loop-top.invariant.wide.0 c.in-Some.top) c.loop-top.invariant.depth
-                (subst (λ (g : Option ℕ). IsFree c.args.image.now c.args.owner (reached_by c.args.walk.now) s.depth g
-                c.loop-top.invariant.wide.0 c.in-Some.top) c.loop-top.invariant.goal
-                (top_free c.args.image.now c.args.owner c.args.walk.now c.requires.checked c.requires.mapped s.depth s.goal
-                s.marks.items
-                c.loop-top.invariant.wide.0 c.args.folds.now c.loop-top.invariant.wide.1 s.trail.items c.pop.new.self.items
-                c.in-Some.top c.in-Some.ensures.items c.loop-top.invariant.surveying c.loop-top.invariant.wide.2)),
-          ) c.loop-top.invariant.kept;
+      listed = listed_again s.marks.items c.close-in-Loop.new.self.marks.items c.in-Some.top (mark.Loop c.in-Loop.address)
+          closed.marks s.seen.items c.close-in-Loop.new.self.seen.items (ap (λ v. v.items) closed.seen)
+          (top_on_list c.in-Some.top s.seen.items s.trail.items c.pop.new.self.items c.in-Some.ensures.items
+          c.loop-top.invariant.on_list) c.loop-top.invariant.listed;
+      on_list = rest_on_list c.in-Some.top s.seen.items c.close-in-Loop.new.self.seen.items (ap (λ v. v.items) closed.seen)
+          s.trail.items c.pop.new.self.items c.close-in-Loop.new.self.trail.items c.in-Some.ensures.items
+          (ap (λ v. v.items) closed.trail) c.loop-top.invariant.on_list;
       seen = same_seen _ c.close-in-Loop.new.self.marks.items c.args.start closed.marks
           (seen_set s.marks.items c.in-Some.top c.args.start (mark.Loop c.in-Loop.address) within
           (loop_closes c.in-Loop.address).0 c.loop-top.invariant.seen);

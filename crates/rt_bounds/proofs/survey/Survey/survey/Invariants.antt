@@ -1,9 +1,8 @@
 use Rattle.std.proofs.Common.{◌≡◌, ◌+◌, ◌*◌, ℕ, length}
-use Rattle.std.specs.List.{AllByRecursion}
+use Rattle.std.specs.List.{AllByRecursion, Contains}
 use Rattle.rt_judge.specs.Inside.Walks.{reached_by}
 use Rattle.rt_bounds.specs.Inside.Aheads.{AreFolds, IsFree}
-use Rattle.rt_bounds.specs.Inside.Surveys.{IsSurveying, IsSeen, unseen}
-use Rattle.rt_bounds.proofs.Steps.{KeepsBut}
+use Rattle.rt_bounds.specs.Inside.Surveys.{IsSurveying, IsListed, IsSeen, unseen}
 use Rattle.rt_bounds.proofs.survey.Survey.survey.Given as goal
 
 abbrev pub invariant-loop-top : goal.invariant-loop-top
@@ -14,9 +13,8 @@ invariant-loop-top l = record {
       l.self.trail.items;
   wide : (last : ℕ) × AreFolds l.image l.owner (reached_by l.walk) last l.folds
       × AllByRecursion (IsFree l.image l.owner (reached_by l.walk) l.self.depth l.self.goal last) l.self.trail.items;
-  kept : KeepsBut
-      (λ a. (last : ℕ) × IsFree l.image l.owner (reached_by l.walk) l.fn.self.depth l.fn.self.goal last a)
-      l.fn.self.marks.items l.self.marks.items;
+  listed : IsListed l.self.marks.items l.self.seen.items;
+  on_list : AllByRecursion (λ a. Contains l.self.seen.items a) l.self.trail.items;
   seen : IsSeen l.self.marks.items l.start;
 }
 
