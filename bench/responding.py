@@ -1,13 +1,14 @@
 #!/usr/bin/env python3
 """Tries the answers of `rticx respond` on random applications whose bodies pend interrupts and spawn messages. Each
 runs under scripts that keep its limits, and no response that a run shows may exceed its bound; no interrupt may be
-requested while it is pending where the report has no `merge`. With a reference each report is compared with its own.
+requested while it is pending where the report has no `merge`, and no task may be full where it has room. With a
+reference each report is compared with its own.
 
     python3 responding.py PROGRAM RTIC FOLDER [KIND [COUNT [SEED [REFERENCE]]]]
 
 PROGRAM is rticx, RTIC is rtic, FOLDER takes the texts. KIND is `hardware` or `messages`. REFERENCE is a program that
-takes the same two texts and writes the same report and status; the order of its lines `from` may differ, and its lines
-`room` are passed over. The last lines count. The status is 1 where something is wrong, and its texts stay in FOLDER.
+takes the same two texts and writes the same report and status; the order of its lines `from` may differ. The last lines
+count. The status is 1 where something is wrong, and its texts stay in FOLDER.
 """
 import collections
 import concurrent.futures
@@ -40,9 +41,8 @@ def told(*words):
 
 
 def alike(report, other):
-    """Two reports say the same, but for the order of `from` lines, and `room` lines of the second."""
+    """Two reports say the same, but for the order of `from` lines."""
     first, second = (text.splitlines() for text in (report, other))
-    second = [line for line in second if not line.startswith("room ")]
     rest = [[line for line in lines if not line.startswith("from ")] for lines in (first, second)]
     return sorted(first) == sorted(second) and rest[0] == rest[1]
 

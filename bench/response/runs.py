@@ -1,5 +1,6 @@
-"""What a trace shows of response times: for each request how long it took to be served, for each message from where it
-is ready to its end, and for each job how long before a request came that it comes of."""
+"""What a trace shows of response times and room: for each request how long it took to be served, for each message from
+where it is ready to its end, for each job how long before a request came that it comes of, and for each task how many
+places were out at once."""
 import collections
 import dataclasses
 
@@ -22,6 +23,7 @@ class Reader:
         self.bound, self.levels = set(app.bound), app.levels
         self.stack, self.pending, self.ready = [Job()], {}, collections.defaultdict(list)
         self.seen, self.merged, self.jobs = collections.Counter(), set(), 0
+        self.out, self.full = collections.Counter(), set()
 
     def line(self, line):
         """Reads a line of the trace."""
@@ -65,6 +67,19 @@ class Reader:
         if job.irq in self.bound:
             self.done(f"irq {job.irq}", job, step + 1)
 
+    def on_ok(self, step, task):
+        """A place of a task is taken."""
+        self.out[task] += 1
+        self.seen[f"room {task}"] = max(self.seen[f"room {task}"], self.out[task])
+
+    def on_free(self, step, task):
+        """A place is given back."""
+        self.out[task] -= 1
+
+    def on_full(self, step, task):
+        """No place is left."""
+        self.full.add(task)
+
     def on_ready(self, step, task):
         """A message is ready."""
         self.ready[self.levels[task]].append(Job(task, step + 1, dict(self.stack[-1].roots)))
@@ -90,6 +105,8 @@ def bounds(report):
         word, *rest = line.split(" ")
         if word in ("irq", "task"):
             found[f"{word} {rest[0]}"] = int(rest[2]) if rest[2] != "-" else None
+        elif word == "room":
+            found[f"room {rest[0]}"] = int(rest[1]) if rest[1] != "-" else None
         elif word == "from":
             found[" ".join((word, *rest[:2]))] = int(rest[2]) if rest[2] != "-" else None
     return found
@@ -101,4 +118,7 @@ def exceeding(reader, report):
     wrong = [f"{words}: {seen}, and no such line" for words, seen in reader.seen.items() if words not in told]
     wrong += [f"{words}: {seen} where {told[words]} is the bound" for words, seen in reader.seen.items()
               if told.get(words) is not None and seen > told[words]]
+    rooms = [line.split(" ")[1:] for line in report.splitlines() if line.startswith("room ")]
+    roomy = {task for task, most, capacity in rooms if most != "-" and int(most) <= int(capacity)}
+    wrong += [f"{task} is full" for task in sorted(reader.full & roomy)]
     return wrong + [f"{irq} is requested while it is pending" for irq in sorted(reader.merged - loose)]

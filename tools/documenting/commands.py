@@ -112,7 +112,7 @@ def faults_of(path, program, text=None):
 # The documents that quote lines of what these commands write, and what such a line looks like.
 QUOTING = {
     "docs/MACHINE.md": ("build pump", "check pump", "build serial", "build station"),
-    "docs/BOUNDS.md": ("check station", "check forms"),
+    "docs/BOUNDS.md": ("check station", "check forms", "check three", "deepest three", "run three three"),
     "docs/EXAMPLES.md": (
         "check serial", "check timeout", "run serial serial", "run serial burst", "run timeout timeout",
         *(f"check from_rtic/{name}" for name in ("hardware", "preempt", "locks", "spawn", "message", "schedule")),

@@ -2,7 +2,7 @@
 GRAMMAR, FORMS = ("LANGUAGE", "Applications"), ("LANGUAGE", "Each form by an example")
 NAMES, USERS = ("LANGUAGE", "What names mean"), ("LANGUAGE", "Who may use a resource")
 REFUSALS = ("LANGUAGE", "Refusals")
-RESPOND = ("TIMES", "Where bodies pend or spawn: `rticx respond`")
+RESPOND = ("RESPOND", "The report")
 OF_RULES = {
     5: NAMES, 6: NAMES, 7: USERS, 8: USERS, 9: USERS, 10: USERS, 11: USERS, 12: FORMS, 13: USERS, 14: USERS, 15: USERS,
     16: ("LANGUAGE", "Messages that wait"), 17: ("BOUNDS", "Costs: core steps of a run that is not interrupted"),
@@ -13,7 +13,7 @@ OF_LINES = {
     "image": ("LANGUAGE", "Listings"), "board": ("RTICX", "A board, a script and a trace"), "limits beside": RESPOND,
 }
 AUDITS, COMMANDS = ("LANGUAGE", "Audits"), ("LANGUAGE", "What each command takes")
-OF_FORMS = {"times": ("TIMES", "For which applications"), "deepest": ("DEEPEST", "For which applications"),
+OF_FORMS = {"times": ("TIMES", "For which applications"), "deepest": ("BOUNDS", "For which applications of `deepest`"),
             "rticx respond": RESPOND}
 VERIFY, VERIFY_TIMES = ("VERIFY", "The seven rules"), ("VERIFY", "How long it takes: `rticx bounds`")
 

@@ -54,23 +54,23 @@ def try_rows(starter, told):
 
 
 def shown_run(starter, told):
-    """The trace that docs/RTICX.md shows is that of the example, and so are the reports that docs/TIMES.md shows."""
+    """The trace that docs/RTICX.md shows is that of the example, and so are the reports that docs/RESPOND.md shows."""
     files = [str(ROOT / "examples" / f"echo.{ending}") for ending in ("rtic", "board", "script")]
     trace = starter.ended(["run", *files]).output.decode().partition("trace\n")
     page = (ROOT / "docs" / "RTICX.md").read_text(encoding="utf-8")
     if not trace[2] or textwrap.indent(trace[1] + trace[2], "    ") not in page:
         told.differs(f"docs/RTICX.md does not show {trace[2]!r}")
-    page = (ROOT / "docs" / "TIMES.md").read_text(encoding="utf-8")
+    page = (ROOT / "docs" / "RESPOND.md").read_text(encoding="utf-8")
     for name in ("order", "serial"):
         files = [str(ROOT / "examples" / f"{name}.{ending}") for ending in ("rtic", "limits")]
         report = starter.ended(["respond", *files]).output.decode()
         if not report or textwrap.indent(report, "    ") not in page:
-            told.differs(f"docs/TIMES.md does not show {report!r}")
+            told.differs(f"docs/RESPOND.md does not show {report!r}")
     shown_view(starter, told, page, report)
 
 
 def shown_view(starter, told, page, report):
-    """The table of `tools/view` that docs/TIMES.md shows, where the first program is built."""
+    """The tables of `tools/view` that docs/RESPOND.md shows, where the first program is built."""
     program = asked_program("rtic")
     if program is None:
         told.says("view: skipped in part: the first program is not built")
@@ -82,9 +82,10 @@ def shown_view(starter, told, page, report):
     shown = io.StringIO()
     with contextlib.redirect_stdout(shown):
         status = view(paths)
-    table = "steps of" + shown.getvalue().partition("steps of")[2].partition("\n\n")[0] + "\n"
-    if status or textwrap.indent(table, "    ") not in page:
-        told.differs(f"docs/TIMES.md does not show {table!r}")
+    for head in ("steps of", "messages of"):
+        table = head + shown.getvalue().partition(head)[2].partition("\n\n")[0] + "\n"
+        if status or textwrap.indent(table, "    ") not in page:
+            told.differs(f"docs/RESPOND.md does not show {table!r}")
 
 
 def strange_words(starter, told):

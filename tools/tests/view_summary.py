@@ -21,8 +21,8 @@ from viewing.responses import read_responses
 RUNS = ("two", "pump", "four", "serial", "burst", "station", "names")
 # What `rticx respond` says of the application of `burst`, by an independent implementation, under `every UART0 500`,
 # `every KEY 50` and `deadline digest 480`.
-RESPONSES = ("irq UART0 3 204\ntask digest 1 493\nirq KEY 2 234\nmerge KEY\nfrom UART0 digest 493\nload 986\n"
-             "late digest 480\n")
+RESPONSES = ("irq UART0 3 204\ntask digest 1 493\nroom digest 1 4\nirq KEY 2 234\nmerge KEY\nfrom UART0 digest 493\n"
+             "load 986\nlate digest 480\n")
 faults = []
 
 
@@ -163,8 +163,9 @@ def compare_words():
 
 
 def compare_responses():
-    """Beside a report of `respond` stands each bound; a response over its bound is named, and one of `init` counts from
-    its end. A report of another application, or that is none, is told."""
+    """Beside a report of `respond` stands each bound, and the room of messages; a response over its bound is named, and
+    one of `init` counts from its end, and a task with more places out than its room. A report of another application,
+    or that is none, is told."""
     files = [os.path.join(DATA, "burst." + ending) for ending in ("run", "check")]
     alone, beside = view(*files), view(*files, "-", text=RESPONSES)
     expect(f"responses: {beside[0]} {beside[2]}", beside[0] == 0 and beside[2] == "")
@@ -178,15 +179,22 @@ def compare_responses():
     expect(f"bounds: {got}", [got[name][1] for name in ("byte", "key", "digest")] == ["204", "234", "493"])
     over = f"a response of digest took {want['digest']} steps, over its bound 493: its requests, or those of others, "
     expect("responses: what is over", beside[1].count("over its bound") == 1 and over in beside[1])
-    expect("responses: without a report", "bound" not in alone[1])
+    heads, rows = next(table for table in tables(beside[1]) if table[0][0] == "messages of")
+    expect(f"room: {heads}", heads[4:7] == ["most places out", "room", "capacity"])
+    expect(f"room: {rows}", [row[4:7] for row in rows] == [["4", "1", "4"]])
+    over = "digest had 4 places out, over its room 1: its requests, or those of others, "
+    expect("room: what is over", beside[1].count("over its room") == 1 and over in beside[1])
+    expect("responses: without a report", "bound" not in alone[1] and "room" not in alone[1])
     for text, status, words in ((RESPONSES.replace("digest", "other"), 4, "the run has no `other`"),
-                                (RESPONSES + "irq UART0 3\n", 3, "8: no line of an output of `respond`"),
+                                (RESPONSES + "irq UART0 3\n", 3, "9: no line of an output of `respond`"),
                                 ("limits:1 2 words\n", 3, "the limits were refused"), ("", 5, "is empty")):
         got = view(*files, "-", text=text)
         expect(f"responses {text!r}: {got}", got[0] == status and words in got[2] and got[1] == "")
     for task in ("- cycle", "- over", "- form"):
         got = view(*files, "-", text=RESPONSES.replace("1 493", f"1 {task}", 1))
         expect(f"responses {task}: {got[0]} {got[2]}", got[0] == 0 and "over its bound" not in got[1])
+    got = view(*files, "-", text=RESPONSES.replace("room digest 1", "room digest -"))
+    expect(f"room -: {got[0]} {got[2]}", got[0] == 0 and "over its room" not in got[1])
     expect("an output of `respond` as a run", view("-", text=RESPONSES)[0] == 3)
     bounds = read_responses("-", "task A 1 284\nirq A 3 4\n").bounds
     expect(f"a task and an interrupt of one name: {bounds}", bounds == {("task", "A"): 284, ("irq", "A"): 4})

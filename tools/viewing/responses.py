@@ -1,4 +1,4 @@
-"""Reads an output of `rticx respond`: how long a response of each task takes at most."""
+"""Reads an output of `rticx respond`: how long a response of each task takes at most, and the room of its messages."""
 import re
 
 from .reading import NAME, NUMBER, tell_in_place
@@ -7,21 +7,27 @@ from .told import BAD_LINE, NOT_A_RUN, Told
 BOUND = rf"(?:{NUMBER}|- (?:cycle|over|form))"
 LINE = re.compile(
     rf"(irq|task) ({NAME}) {NUMBER} ({BOUND})|(?:met|late) {NAME} {NUMBER}|(?:never|merge) {NAME}"
-    rf"|from {NAME} {NAME} {BOUND}|load (?:{NUMBER}|-)"
+    rf"|room ({NAME}) ({NUMBER}|-) {NUMBER}|from {NAME} {NAME} {BOUND}|load (?:{NUMBER}|-)"
 )
 
 
 class Responses:
     """What `respond` printed: the most core steps that a response takes, or None where there is no such number, by the
-    word and the name of its line: `irq` and the interrupt of a hardware task, or `task` and a software task."""
+    word and the name of its line: `irq` and the interrupt of a hardware task, or `task` and a software task; and the
+    most places that are out at once, or None, by the software task."""
 
     def __init__(self, name):
         self.name = name
         self.bounds = {}
+        self.rooms = {}
 
     def bound(self, task):
         """The bound of a task, or None."""
         return self.bounds.get(self.key(task))
+
+    def room(self, task):
+        """The most places of a software task that are out at once, or None."""
+        return self.rooms.get(task.name)
 
     @staticmethod
     def key(task):
@@ -46,4 +52,6 @@ def read_responses(name, text):
             raise Told(BAD_LINE, f"{name}:{number}: no line of an output of `respond`: {line[:60]!r}")
         if match[1]:
             found.bounds[match[1], match[2]] = int(match[3]) if match[3].isdigit() else None
+        if match[4]:
+            found.rooms[match[4]] = int(match[5]) if match[5].isdigit() else None
     return found

@@ -2,6 +2,7 @@
 from .application import DISPATCHER, SOFTWARE, THREAD, UNSERVED, WAITING
 
 ABSENT = "-"
+TOO_OFTEN = "its requests, or those of others, come more often than the limits say"
 
 
 class Figure(str):
@@ -74,10 +75,16 @@ def steps(history):
     return heads, rows
 
 
+def roomy(history, row):
+    """Beside a report of `respond` the most places that it says are out at once."""
+    return (history.responses.room(row.task),) if history.responses is not None else ()
+
+
 def messages(history):
     """A row for each task that takes messages."""
-    heads = ("messages of", "sent", "started", "refused as full", "most places out", "capacity")
-    rows = [(row.task.name, row.sent, row.started, row.refused, row.most_out, row.task.capacity)
+    room = ("room",) if history.responses is not None else ()
+    heads = ("messages of", "sent", "started", "refused as full", "most places out", *room, "capacity")
+    rows = [(row.task.name, row.sent, row.started, row.refused, row.most_out, *roomy(history, row), row.task.capacity)
             for row in history.rows if row.task.kind == SOFTWARE]
     return heads, rows
 
@@ -141,14 +148,17 @@ def over(history):
 
 
 def late(history):
-    """A line for each response that took longer than `respond` says: then the requests did not keep the limits."""
+    """A line for each response that took longer than `respond` says, and for each task of which more places were out:
+    then the requests did not keep the limits."""
     found = []
     for row in measured(history) if history.responses is not None else ():
         bound = history.responses.bound(row.task)
         taken = max(row.longest_after_init or 0, row.unanswered_after_init or 0)
         if bound is not None and taken > bound:
-            found.append(f"a response of {row.task.name} took {taken} steps, over its bound {bound}: "
-                         "its requests, or those of others, come more often than the limits say")
+            found.append(f"a response of {row.task.name} took {taken} steps, over its bound {bound}: {TOO_OFTEN}")
+        room = history.responses.room(row.task) if row.task.kind == SOFTWARE else None
+        if room is not None and row.most_out > room:
+            found.append(f"{row.task.name} had {row.most_out} places out, over its room {room}: {TOO_OFTEN}")
     return found
 
 

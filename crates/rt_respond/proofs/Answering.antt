@@ -12,6 +12,7 @@ use Rattle.rt_respond.specs.Report.{IsJudged, is_within, judged_handlers}
 use Rattle.rt_respond.specs.Response.{needed, Suffices, IsResponse}
 use Rattle.rt_respond.specs.Rows.{BelongEach}
 use Rattle.rt_respond.specs.declared.answer.Answer.{Answer}
+use Rattle.rt_respond.specs.declared.handler.Quantity.TheVariants as counted
 use Rattle.rt_respond.specs.declared.handler.Handler.{Handler}
 use Rattle.rt_respond.specs.declared.report.Judged.{Judged}
 use Rattle.rt_respond.specs.declared.response.Response.{Response}
@@ -27,12 +28,15 @@ one_number o a b first second = cc
 
 module _ (app : App) (limits : Limits) (fine : AreLimits app limits) where
   -- where a number is missing at first, it is missing in more core steps
-  never : (i : Handler) (steps : ℕ) → needed app limits.every i 1 ≡ None → Suffices app limits.every i steps → ⊥
+  never : (i : Handler) (steps : ℕ) → needed app limits.every counted.Steps i 1 ≡ None
+      → Suffices app limits.every i steps → ⊥
   never i steps none enough =
       let some = enough.some in
-      missing (needed app limits.every i 1) none
-      (some_before (needed app limits.every i 1) (needed app limits.every i steps) enough.need
-      (needed_rises app limits.every i 1 steps (omega arith) (omega (arith, some)) fine.every.positive) enough.needs)
+      missing (needed app limits.every counted.Steps i 1) none
+      (some_before (needed app limits.every counted.Steps i 1)
+      (needed app limits.every counted.Steps i steps) enough.need
+      (needed_rises app limits.every counted.Steps i 1 steps (omega arith) (omega
+      (arith, some)) fine.every.positive) enough.needs)
 
   one_response : (i : Handler) (a b : Response) → IsResponse app limits.every i a → IsResponse app limits.every i b
       → a ≡ b
@@ -42,9 +46,9 @@ module _ (app : App) (limits : Limits) (fine : AreLimits app limits) where
   one_response i (response.Steps n) response.Over x y = absurd (y.1 n x.1 x.0)
   one_response i response.Cycle (response.Steps m) x y = absurd (never i m x y.0)
   one_response i response.Cycle response.Cycle x y = refl
-  one_response i response.Cycle response.Over x y = absurd (missing (needed app limits.every i 1) x y.0)
+  one_response i response.Cycle response.Over x y = absurd (missing (needed app limits.every counted.Steps i 1) x y.0)
   one_response i response.Over (response.Steps m) x y = absurd (x.1 m y.1 y.0)
-  one_response i response.Over response.Cycle x y = absurd (missing (needed app limits.every i 1) y x.0)
+  one_response i response.Over response.Cycle x y = absurd (missing (needed app limits.every counted.Steps i 1) y x.0)
   one_response i response.Over response.Over x y = refl
 
   one_is_met : (h : Handler) (row other : Judged) → IsJudged app limits h row → IsJudged app limits h other

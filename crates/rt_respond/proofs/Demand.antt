@@ -18,6 +18,7 @@ use Rattle.rt_respond.specs.Handlers.{handlers, is_at}
 use Rattle.rt_respond.specs.Work.{work}
 use Rattle.rt_respond.specs.Response.{requests_ask, limit_demand, demand, backlog, needed}
 use Rattle.rt_respond.specs.Inside.Searching.{ArePositive}
+use Rattle.rt_respond.specs.declared.handler.Quantity.{Quantity}
 use Rattle.rt_respond.specs.declared.handler.Handler.{Handler}
 use Rattle.rt_respond.proofs.Numbers.{plus_regrouped, plus_alone}
 
@@ -55,34 +56,36 @@ times_rises n m (Some w) some less = let most = mul-le-mul_right w less in omega
 some_request : (steps every : ℕ) → 1 ≤ every → 1 ≤ steps → 1 ≤ most_requests steps every
 some_request steps every some steps_some = le-div 1 (steps + (every - 1)) every some (omega arith)
 
-module _ (app : App) (limits : List Limit) (i : Handler) (steps more : ℕ) (some : 1 ≤ steps) (less : steps ≤ more) where
+module _ (app : App) (limits : List Limit) (what : Quantity) (i : Handler) (steps more : ℕ) (some : 1 ≤ steps)
+    (less : steps ≤ more) where
   ask_rises : (n m : ℕ) (o : Option Handler) → 1 ≤ n → n ≤ m
-      → Rises (requests_ask app limits i n o) (requests_ask app limits i m o)
+      → Rises (requests_ask app limits what i n o) (requests_ask app limits what i m o)
   ask_rises n m None one fewer = omega arith
   ask_rises n m (Some h) one fewer = by (is_at i h)
     where
-      by : (b : Bool) → Rises (if b then times n (work app i h) else Some 0)
-          (if b then times m (work app i h) else Some 0)
-      by true = times_rises n m (work app i h) one fewer
+      by : (b : Bool) → Rises (if b then times n (work app what i h) else Some 0)
+          (if b then times m (work app what i h) else Some 0)
+      by true = times_rises n m (work app what i h) one fewer
       by false = omega arith
 
   limit_rises : (limit : Limit) → 1 ≤ limit.every
-      → Rises (limit_demand app limits i steps limit) (limit_demand app limits i more limit)
+      → Rises (limit_demand app limits what i steps limit) (limit_demand app limits what i more limit)
   limit_rises limit every =
       ask_rises (most_requests steps limit.every) (most_requests more limit.every)
       (find (λ h. h.number == limit.irq) (handlers app)) (some_request steps limit.every every some)
       (begun_more steps more limit.every every less)
 
   all_rise : (ls : List Limit) → ArePositive ls
-      → Rises (total_of (map (limit_demand app limits i steps) ls)) (total_of (map (limit_demand app limits i more) ls))
+      → Rises (total_of (map (limit_demand app limits what i steps) ls)) (total_of (map
+      (limit_demand app limits what i more) ls))
   all_rise [] positive = omega arith
   all_rise (limit ∷ ls) positive =
-      plus_rises (limit_demand app limits i steps limit) (limit_demand app limits i more limit) _ _
+      plus_rises (limit_demand app limits what i steps limit) (limit_demand app limits what i more limit) _ _
       (limit_rises limit positive.0) (all_rise ls positive.1)
 
-  pub needed_rises : ArePositive limits → Rises (needed app limits i steps) (needed app limits i more)
+  pub needed_rises : ArePositive limits → Rises (needed app limits what i steps) (needed app limits what i more)
   needed_rises positive =
-      plus_rises (backlog app limits i) (backlog app limits i) _ _ (rises_same (backlog app limits i))
+      plus_rises (backlog app limits what i) (backlog app limits what i) _ _ (rises_same (backlog app limits what i))
       (all_rise limits positive)
 
 -- one more of a list
@@ -114,17 +117,19 @@ less_before (Some k) (Some j) n m rise first second =
     let one : k ≡ n = cc in let other : j ≡ m = cc in omega (arith, rise, one, other)
 
 -- what a limit asks for, by the tables of the code
-module _ (app : App) (limits : List Limit) (i : Handler) (steps : ℕ) (limit : Limit) (hs : List Handler)
-    (ws : List (Option ℕ)) (hs_are : hs ≡ handlers app) (ws_are : ws ≡ map (work app i) (handlers app)) where
+module _ (app : App) (limits : List Limit) (what : Quantity) (i : Handler) (steps : ℕ) (limit : Limit)
+    (hs : List Handler)
+    (ws : List (Option ℕ)) (hs_are : hs ≡ handlers app) (ws_are : ws ≡ map (work app what i) (handlers app)) where
   found : (place : Option ℕ) → place ≡ position (λ h. h.number == limit.irq) hs
       → find (λ h. h.number == limit.irq) (handlers app) ≡ option_and_then (slice_get hs) place
   found place is =
       ap (find (λ h. h.number == limit.irq)) (sym hs_are) ∙ find_by_position (λ h. h.number == limit.irq) hs
       ∙ ap (option_and_then (slice_get hs)) (sym is)
 
-  pub asks_nothing : None ≡ position (λ h. h.number == limit.irq) hs → Some 0 ≡ limit_demand app limits i steps limit
+  pub asks_nothing : None ≡ position (λ h. h.number == limit.irq) hs
+      → Some 0 ≡ limit_demand app limits what i steps limit
   asks_nothing none =
-      sym (ap (requests_ask app limits i (most_requests steps limit.every)) (found None none))
+      sym (ap (requests_ask app limits what i (most_requests steps limit.every)) (found None none))
 
   at_place : (place : ℕ) (h : Handler) → Some place ≡ position (λ h. h.number == limit.irq) hs → place < length hs
       → h ≡ get_or hs place h → find (λ h. h.number == limit.irq) (handlers app) ≡ Some h
@@ -132,30 +137,31 @@ module _ (app : App) (limits : List Limit) (i : Handler) (steps : ℕ) (limit : 
       found (Some place) is ∙ slice_get-get_or hs place h within ∙ ap Some (sym h_is)
 
   pub asks_not : (place : ℕ) (h : Handler) → Some place ≡ position (λ h. h.number == limit.irq) hs → place < length hs
-      → h ≡ get_or hs place h → is_at i h ≡ false → Some 0 ≡ limit_demand app limits i steps limit
+      → h ≡ get_or hs place h → is_at i h ≡ false → Some 0 ≡ limit_demand app limits what i steps limit
   asks_not place h is within h_is behind =
-      sym (ap (requests_ask app limits i (most_requests steps limit.every)) (at_place place h is within h_is)
-      ∙ ap (λ b. if b then times (most_requests steps limit.every) (work app i h) else Some 0) behind)
+      sym (ap (requests_ask app limits what i (most_requests steps limit.every)) (at_place place h is within h_is)
+      ∙ ap (λ b. if b then times (most_requests steps limit.every) (work app what i h) else Some 0) behind)
 
   pub asks_so : (place : ℕ) (h : Handler) (w d : Option ℕ) → Some place ≡ position (λ h. h.number == limit.irq) hs
       → place < length hs → h ≡ get_or hs place h → w ≡ get_or ws place d → is_at i h ≡ true
-      → times (most_requests steps limit.every) w ≡ limit_demand app limits i steps limit
+      → times (most_requests steps limit.every) w ≡ limit_demand app limits what i steps limit
   asks_so place h w d is within h_is w_is at =
-      sym (ap (requests_ask app limits i (most_requests steps limit.every)) (at_place place h is within h_is)
-      ∙ ap (λ b. if b then times (most_requests steps limit.every) (work app i h) else Some 0) at
+      sym (ap (requests_ask app limits what i (most_requests steps limit.every)) (at_place place h is within h_is)
+      ∙ ap (λ b. if b then times (most_requests steps limit.every) (work app what i h) else Some 0) at
       ∙ ap (times (most_requests steps limit.every)) (sym work_at))
     where
-      work_at : w ≡ work app i h
+      work_at : w ≡ work app what i h
       work_at =
-          w_is ∙ ap (λ xs. get_or xs place d) (ws_are ∙ ap (map (work app i)) (sym hs_are))
-          ∙ get_or-map (work app i) hs place h d within ∙ ap (work app i) (sym h_is)
+          w_is ∙ ap (λ xs. get_or xs place d) (ws_are ∙ ap (map (work app what i)) (sym hs_are))
+          ∙ get_or-map (work app what i) hs place h d within ∙ ap (work app what i) (sym h_is)
 
 -- the number that the code finds needed is the definition's
-pub needed_is : (app : App) (limits : List Limit) (i : Handler) (steps : ℕ) (before asked found : Option ℕ)
-    → found ≡ plus before asked → before ≡ backlog app limits i → asked ≡ demand app limits i steps
-    → needed app limits i steps ≡ found
-needed_is app limits i steps before asked found is before_is asked_is =
-    sym (is ∙ ap (λ b. plus b asked) before_is ∙ ap (plus (backlog app limits i)) asked_is)
+pub needed_is : (app : App) (limits : List Limit) (what : Quantity) (i : Handler) (steps : ℕ)
+    (before asked found : Option ℕ)
+    → found ≡ plus before asked → before ≡ backlog app limits what i → asked ≡ demand app limits what i steps
+    → needed app limits what i steps ≡ found
+needed_is app limits what i steps before asked found is before_is asked_is =
+    sym (is ∙ ap (λ b. plus b asked) before_is ∙ ap (plus (backlog app limits what i)) asked_is)
 
 pub place_within : (limit : Limit) (hs : List Handler) (place : ℕ) → Some place
     ≡ position (λ h. h.number == limit.irq) hs → place < length hs

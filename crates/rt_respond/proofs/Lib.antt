@@ -6,6 +6,7 @@ mod Levels
 pub mod Sends
 pub mod Holding
 pub mod Blocked
+pub mod Transit
 pub mod Demand
 pub mod Pending
 pub mod Tables

@@ -10,8 +10,9 @@ use Rattle.rt_frames.proofs.Sums.{block_more}
 use Rattle.rt_respond.specs.Number.{plus, greater_of, times}
 use Rattle.rt_respond.specs.Handlers.{handlers, handled_block, is_at}
 use Rattle.rt_respond.specs.Work.{spawn_sends, value_sends, statement_sends, block_sends, handler_asks, takes}
-use Rattle.rt_respond.specs.Work.{work_within}
+use Rattle.rt_respond.specs.Work.{weight, work_within}
 use Rattle.rt_respond.specs.Inside.Works.{table_asks, next_work, table_within}
+use Rattle.rt_respond.specs.declared.handler.Quantity.{Quantity}
 use Rattle.rt_respond.specs.declared.handler.Handler.{Handler}
 use Rattle.rt_respond.specs.declared.handler.Release.{Release}
 use Rattle.rt_respond.specs.declared.handler.Release.TheVariants as released
@@ -68,26 +69,27 @@ table_is works (h ∷ hs) r = by (takes r h) (table_is works hs r)
     by true rest = refl
     by false rest = rest
 
-module _ (app : App) (i : Handler) where
+module _ (app : App) (what : Quantity) (i : Handler) where
   pub next_is : (depth : ℕ) (h : Handler)
-      → next_work app i (table_within app i depth) h ≡ work_within app i (suc depth) h
+      → next_work app what i (table_within app what i depth) h ≡ work_within app what i (suc depth) h
   unfolding work_within
   next_is depth h =
-      ap (λ w. if is_at i h then plus (Some (h.steps + 1)) w else Some 0)
-      (block_alike _ _ (table_is (work_within app i depth) (handlers app)) (handled_block app h))
+      ap (λ w. if is_at i h then plus (Some (weight what h)) w else Some 0)
+      (block_alike _ _ (table_is (work_within app what i depth) (handlers app)) (handled_block app h))
 
-  pub table_next : (depth : ℕ) → map (next_work app i (table_within app i depth)) (handlers app)
-      ≡ table_within app i (depth + 1)
+  pub table_next : (depth : ℕ) → map (next_work app what i (table_within app what i depth)) (handlers app)
+      ≡ table_within app what i (depth + 1)
   table_next depth =
       let e : suc depth ≡ depth + 1 = omega arith in
-      map_alike (next_work app i (table_within app i depth)) (work_within app i (suc depth)) (next_is depth)
+      map_alike (next_work app what i (table_within app what i depth)) (work_within app what i (suc depth))
+      (next_is depth)
       (handlers app)
-      ∙ ap (table_within app i) e
+      ∙ ap (table_within app what i) e
 
-  none_of : (hs : List Handler) → replicate (length hs) None ≡ map (work_within app i 0) hs
+  none_of : (hs : List Handler) → replicate (length hs) None ≡ map (work_within app what i 0) hs
   unfolding work_within
   none_of [] = refl
   none_of (h ∷ hs) = ap (λ ws. None ∷ ws) (none_of hs)
 
-  pub table_start : replicate (length (handlers app)) None ≡ table_within app i 0
+  pub table_start : replicate (length (handlers app)) None ≡ table_within app what i 0
   table_start = none_of (handlers app)

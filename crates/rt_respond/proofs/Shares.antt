@@ -18,6 +18,7 @@ use Rattle.rt_respond.specs.Work.{work}
 use Rattle.rt_respond.specs.Load.{share_of, is_exact, has_number, has_numbers, sum_of, IsRoundedUp, IsLoadAt}
 use Rattle.rt_respond.specs.Load.{IsLast, IsLoad}
 use Rattle.rt_respond.specs.Inside.Places.{IsSmall, share_for, exact_share, table_shares, table_has_numbers}
+use Rattle.rt_respond.specs.declared.handler.Quantity.TheVariants as counted
 use Rattle.rt_respond.specs.declared.handler.Handler.{Handler}
 use Rattle.rt_respond.specs.declared.load.Share.{Share}
 use Rattle.rt_respond.specs.declared.number.TheConstants.{MOST_WORK}
@@ -178,35 +179,39 @@ load_is app limits last load is_last at = (
         numbers : (other : Handler) → (last.priority ≡ other.priority) × (last.number ≡ other.number)
             → has_numbers app limits last ≡ has_numbers app limits other
         numbers other alike =
-            all_alike (λ h. has_number (every_of limits h.number) (work app last h))
-            (λ h. has_number (every_of limits h.number) (work app other h))
-            (λ h. ap (has_number (every_of limits h.number)) (works_alike app last other alike.0 alike.1 h))
+            all_alike (λ h. has_number (every_of limits h.number) (work app counted.Steps last h))
+            (λ h. has_number (every_of limits h.number) (work app counted.Steps other h))
+            (λ h. ap (has_number (every_of limits h.number))
+            (works_alike app counted.Steps last other alike.0 alike.1 h))
             (handlers app)
     same other alike (Some n) at = (
-      sym (all_alike (λ h. has_number (every_of limits h.number) (work app last h))
-          (λ h. has_number (every_of limits h.number) (work app other h))
-          (λ h. ap (has_number (every_of limits h.number)) (works_alike app last other alike.0 alike.1 h))
+      sym (all_alike (λ h. has_number (every_of limits h.number) (work app counted.Steps last h))
+          (λ h. has_number (every_of limits h.number) (work app counted.Steps other h))
+          (λ h. ap (has_number (every_of limits h.number)) (works_alike app counted.Steps last other alike.0 alike.1 h))
           (handlers app)) ∙ at.0,
       subst (λ ss. IsRoundedUp (sum_of ss) n)
-          (flat_map_alike (λ h. share_of (every_of limits h.number) (work app last h))
-          (λ h. share_of (every_of limits h.number) (work app other h))
-          (λ h. ap (share_of (every_of limits h.number)) (works_alike app last other alike.0 alike.1 h))
+          (flat_map_alike (λ h. share_of (every_of limits h.number) (work app counted.Steps last h))
+          (λ h. share_of (every_of limits h.number) (work app counted.Steps other h))
+          (λ h. ap (share_of (every_of limits h.number)) (works_alike app counted.Steps last other alike.0 alike.1 h))
           (handlers app)) at.1,
     )
 
 -- what the code's table of shares says is the load
-pub shares_none : (app : App) (limits : Limits) (last : Handler) (ws : List (Option ℕ)) → ws ≡ map (work app last)
+pub shares_none : (app : App) (limits : Limits) (last : Handler) (ws : List (Option ℕ))
+    → ws ≡ map (work app counted.Steps last)
     (handlers app) → table_has_numbers limits (handlers app) ws ≡ false → has_numbers app limits last ≡ false
 shares_none app limits last ws are none =
-    sym (numbers_are limits (work app last) (handlers app)) ∙ ap (table_has_numbers limits (handlers app)) (sym are)
+    sym (numbers_are limits (work app counted.Steps last) (handlers app))
+    ∙ ap (table_has_numbers limits (handlers app)) (sym are)
     ∙ none
 
 pub shares_some : (app : App) (limits : Limits) (last : Handler) (ws : List (Option ℕ)) (n : ℕ) → ws
-    ≡ map (work app last) (handlers app) → table_has_numbers limits (handlers app) ws ≡ true
+    ≡ map (work app counted.Steps last) (handlers app) → table_has_numbers limits (handlers app) ws ≡ true
     → IsRoundedUp (sum_of (table_shares limits (handlers app) ws)) n → IsLoadAt app limits last (Some n)
 shares_some app limits last ws n are exact up = (
-  sym (numbers_are limits (work app last) (handlers app)) ∙ ap (table_has_numbers limits (handlers app)) (sym are)
+  sym (numbers_are limits (work app counted.Steps last) (handlers app))
+      ∙ ap (table_has_numbers limits (handlers app)) (sym are)
       ∙ exact,
   subst (λ ss. IsRoundedUp (sum_of ss) n)
-      (ap (table_shares limits (handlers app)) are ∙ table_is limits (work app last) (handlers app)) up,
+      (ap (table_shares limits (handlers app)) are ∙ table_is limits (work app counted.Steps last) (handlers app)) up,
 )

@@ -5,6 +5,7 @@ pub mod Handlers
 pub mod Work
 pub mod Blocking
 pub mod Response
+pub mod Room
 pub mod Pends
 pub mod Path
 pub mod Load

@@ -1,4 +1,4 @@
--- How the answers are printed: a line or two for each hardware task, a line for each software task, a line for each
+-- How the answers are printed: a line or two for each hardware task, two lines for each software task, a line for each
 -- task whose jobs come of limited requests, the load, and the deadlines. A hardware task is named by the interrupt that
 -- it binds.
 use Rattle.std.specs.Prelude.{ℕ, List, [], ◌++◌, codes, decimal, flat_map, slice_get, Option, Some, None}
@@ -68,9 +68,22 @@ module _ (app : App) where
       answer_word (slice_get app.tasks row.task) ++ (task_text row.task ++ (codes " " ++ (decimal row.priority
       ++ (codes " " ++ (response_text row.response ++ codes "\n")))))
 
+  -- the line of the room that a task's messages need, and of its capacity
+  unfoldable pub room_text : Served → List ℕ
+  room_text row =
+      codes "room " ++ (task_text row.task ++ (codes " " ++ (steps_text row.room
+      ++ (codes " " ++ (decimal row.capacity ++ codes "\n")))))
+
+  -- the line of the messages of a software task
+  abbrev pub messages_text : Requests → Served → List ℕ
+  messages_text requests.Messages row = room_text row
+  messages_text requests.Never row = []
+  messages_text requests.Merge row = []
+  messages_text requests.Apart row = []
+
   -- the lines of a task
   unfoldable pub served_text : Served → List ℕ
-  served_text row = answer_text row ++ requests_text row.requests row.task
+  served_text row = answer_text row ++ (requests_text row.requests row.task ++ messages_text row.requests row)
 
   -- the line of what comes of requests
   unfoldable pub caused_text : Caused → List ℕ

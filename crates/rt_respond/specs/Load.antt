@@ -11,6 +11,7 @@ use Rattle.rt_app.specs.Tree.{App}
 use Rattle.rt_respond.specs.Limits.{Limits, every_of}
 use Rattle.rt_respond.specs.Handlers.{handlers, is_at}
 use Rattle.rt_respond.specs.Work.{work}
+use Rattle.rt_respond.specs.declared.handler.Quantity.TheVariants as counted
 use Rattle.rt_respond.specs.declared.handler.Handler.{Handler}
 use Rattle.rt_respond.specs.declared.load.Share.{Share}
 use Rattle.rt_respond.specs.declared.number.TheConstants.{MOST_WORK}
@@ -52,11 +53,11 @@ has_number (Some every) work = is_exact work
 
 module _ (app : App) (limits : Limits) (last : Handler) where
   abbrev pub shares : List Share
-  shares = flat_map (λ h. share_of (every_of limits h.number) (work app last h)) (handlers app)
+  shares = flat_map (λ h. share_of (every_of limits h.number) (work app counted.Steps last h)) (handlers app)
 
   -- the works of handlers that are requested are numbers that did not stop
   abbrev pub has_numbers : Bool
-  has_numbers = list_all (λ h. has_number (every_of limits h.number) (work app last h)) (handlers app)
+  has_numbers = list_all (λ h. has_number (every_of limits h.number) (work app counted.Steps last h)) (handlers app)
 
   -- the load at this handler
   abbrev pub IsLoadAt : Option ℕ → Type 0

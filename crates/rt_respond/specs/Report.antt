@@ -2,12 +2,14 @@
 use Rattle.std.specs.Prelude.{◌≡◌, ℕ, ◌==◌, ◌⊎◌, Bool, false, not, nat_le, if◌then◌else◌, List, [], ◌∷◌, filter}
 use Rattle.std.specs.Prelude.{find, flat_map, map, Option, Some, None}
 use Rattle.rt_app.specs.Tree.{App}
+use Rattle.rt_app.specs.Sending.{capacity_of}
 use Rattle.rt_respond.specs.Limits.{Limits, every_of, deadline_of}
 use Rattle.rt_respond.specs.Handlers.{handlers}
 use Rattle.rt_respond.specs.Pends.{is_pended}
 use Rattle.rt_respond.specs.Path.{Leads, IsLowest}
 use Rattle.rt_respond.specs.Load.{IsLoad}
 use Rattle.rt_respond.specs.Response.{IsResponse}
+use Rattle.rt_respond.specs.Room.{room}
 use Rattle.rt_respond.specs.Rows.{BelongEach}
 use Rattle.rt_respond.specs.declared.handler.Handler.{Handler}
 use Rattle.rt_respond.specs.declared.response.Response.{Response}
@@ -43,6 +45,8 @@ module _ (app : App) (limits : Limits) where
     pub priority : row.priority ≡ h.priority
     pub response : IsResponse app limits.every h row.response
     pub requests : row.requests ≡ requests_of h row.response
+    pub needs : row.room ≡ (if h.is_dispatcher then room app limits.every h row.response else None)
+    pub capacity : row.capacity ≡ capacity_of app h.task
 
   -- the row of two handlers, of the first of which requests come; the response time is that of the last in the order of
   -- all on paths between them

@@ -13,15 +13,17 @@ use Rattle.rt_respond.specs.Number.{plus, greater_of, times, total_of}
 use Rattle.rt_respond.specs.Handlers.{handlers, is_at}
 use Rattle.rt_respond.specs.Work.{work, start}
 use Rattle.rt_respond.specs.Blocking.{blocking}
+use Rattle.rt_respond.specs.declared.handler.Quantity.{Quantity}
+use Rattle.rt_respond.specs.declared.handler.Quantity.TheVariants as counted
 use Rattle.rt_respond.specs.declared.handler.Handler.{Handler}
 use Rattle.rt_respond.specs.declared.response.Response.{Response}
 use Rattle.rt_respond.specs.declared.response.Response.TheVariants as response
 
-module _ (app : App) (limits : List Limit) (i : Handler) where
+module _ (app : App) (limits : List Limit) (what : Quantity) (i : Handler) where
   -- what so many requests of a handler ask for, where there is one and it is at this one
   abbrev pub requests_ask : ℕ → Option Handler → Option ℕ
   requests_ask n None = Some 0
-  requests_ask n (Some h) = if is_at i h then times n (work app i h) else Some 0
+  requests_ask n (Some h) = if is_at i h then times n (work app what i h) else Some 0
 
   -- what the requests under one limit ask for in so many core steps
   abbrev pub limit_demand : ℕ → Limit → Option ℕ
@@ -34,17 +36,18 @@ module _ (app : App) (limits : List Limit) (i : Handler) where
 
   -- what a busy period begins with
   abbrev pub backlog : Option ℕ
-  backlog = greater_of (blocking app i) (start app i)
+  backlog = greater_of (blocking app what i) (start app what i)
 
   -- all that there is to be room for in so many core steps
   abbrev pub needed : ℕ → Option ℕ
   needed steps = plus backlog (demand steps)
 
+module _ (app : App) (limits : List Limit) (i : Handler) where
   -- the recurrence of response-time analysis as an inequality: there is room in so many core steps
   pub record Suffices (steps : ℕ) : Type 0 where
     pub some : 1 ≤ steps
     pub need : ℕ
-    pub needs : needed steps ≡ Some need
+    pub needs : needed app limits counted.Steps i steps ≡ Some need
     pub covers : need ≤ steps
 
   -- the response time: the least number of core steps that suffices; none where a release comes back to itself, so that
@@ -52,5 +55,6 @@ module _ (app : App) (limits : List Limit) (i : Handler) where
   abbrev pub IsResponse : Response → Type 0
   IsResponse (response.Steps least) =
       Suffices least × (least ≤ MOST_STEPS) × ((steps : ℕ) → Suffices steps → least ≤ steps)
-  IsResponse response.Cycle = needed 1 ≡ None
-  IsResponse response.Over = IsSome (needed 1) × ((steps : ℕ) → steps ≤ MOST_STEPS → ¬ Suffices steps)
+  IsResponse response.Cycle = needed app limits counted.Steps i 1 ≡ None
+  IsResponse response.Over =
+      IsSome (needed app limits counted.Steps i 1) × ((steps : ℕ) → steps ≤ MOST_STEPS → ¬ Suffices steps)

@@ -1,14 +1,17 @@
--- What a request asks for at a handler of the order: the core steps of all jobs at it that come of the request. This is
--- a transaction of Tindell and Clark (Holistic Schedulability Analysis for Distributed Hard Real-Time Systems, 1994),
--- in which a job releases others, by a `pend` or by a message that is ready at once. A release downwards is counted
--- with its root, so it has no jitter. What is below the handler asks for nothing there. A step more than the cost takes
--- the interrupt.
-use Rattle.std.specs.Prelude.{ℕ, zero, suc, ◌+◌, ◌-◌, ◌==◌, Bool, length, find, Option, Some, None, if◌then◌else◌}
+-- What a request asks for at a handler of the order, with all jobs at it that come of the request: core steps, or
+-- messages of a task. This is a transaction of Tindell and Clark (Holistic Schedulability Analysis for Distributed Hard
+-- Real-Time Systems, 1994), in which a job releases others, by a `pend` or by a message that is ready at once. A
+-- release downwards is counted with its root, so it has no jitter. What is below the handler asks for nothing there. A
+-- step more than the cost takes the interrupt.
+use Rattle.std.specs.Prelude.{ℕ, zero, suc, ◌+◌, ◌-◌, ◌==◌, ◌&&◌, Bool, length, find, Option, Some, None}
+use Rattle.std.specs.Prelude.{if◌then◌else◌}
 use Rattle.rt_app.specs.Tree.{Spawn, Soon, After, Cancel, Move, Value, Calc, Now, Call}
 use Rattle.rt_app.specs.Tree.{Statement, Bind, Assign, Branch, Repeat, Locked, Emit, Pend, Spawns, Block, Empty, Then}
 use Rattle.rt_app.specs.Tree.{Body, App}
 use Rattle.rt_respond.specs.Number.{plus, greater_of, times}
 use Rattle.rt_respond.specs.Handlers.{handlers, handled_block, is_at}
+use Rattle.rt_respond.specs.declared.handler.Quantity.{Quantity}
+use Rattle.rt_respond.specs.declared.handler.Quantity.TheVariants as counted
 use Rattle.rt_respond.specs.declared.handler.Handler.{Handler}
 use Rattle.rt_respond.specs.declared.handler.Release.{Release}
 use Rattle.rt_respond.specs.declared.handler.Release.TheVariants as released
@@ -64,14 +67,24 @@ takes (released.Message task) h = h.task == task
 abbrev pub release_asks : App → (Handler → Option ℕ) → Release → Option ℕ
 release_asks app works r = handler_asks works (find (takes r) (handlers app))
 
+-- what counts of a job: its core steps with the step of the take, or whether it runs a message of a task
+abbrev pub weight : Quantity → Handler → ℕ
+weight counted.Steps h = h.steps + 1
+weight (counted.Messages task) h = if h.is_dispatcher && (h.task == task) then 1 else 0
+
+-- what counts of core steps
+abbrev pub steps_weight : Quantity → ℕ → ℕ
+steps_weight counted.Steps steps = steps
+steps_weight (counted.Messages task) steps = 0
+
 -- at a handler
-module _ (app : App) (i : Handler) where
+module _ (app : App) (what : Quantity) (i : Handler) where
   -- The work of a request, where one job after another releases the next so many times at most. There is no number
   -- where they go on.
   unfoldable pub work_within : ℕ → Handler → Option ℕ
   work_within zero h = None
   work_within (suc depth) h =
-      if is_at i h then plus (Some (h.steps + 1))
+      if is_at i h then plus (Some (weight what h))
       (block_sends (release_asks app (work_within depth)) (handled_block app h))
       else Some 0
 

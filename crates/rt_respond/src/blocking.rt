@@ -1,6 +1,6 @@
 // What holds a handler off that is later in the order.
 
-ghost use Rattle.std.specs.Prelude.{◌≡◌, ◌≤◌, ◌==◌, ℕ, length, map, get_or, find, option_map};
+ghost use Rattle.std.specs.Prelude.{◌≡◌, ◌≤◌, ◌==◌, ℕ, not, length, map, count_by, get_or, find, option_map};
 ghost use Rattle.rt_app.specs.View.{spawn_of, value_of, statement_of, block_of, body_of, task_of, app_of};
 ghost use Rattle.rt_app.specs.Tree.{Locked};
 ghost use Rattle.rt_app.specs.Bodies as bodies;
@@ -12,7 +12,7 @@ ghost use Rattle.rt_respond.specs.Number as number;
 ghost use Rattle.rt_respond.specs.Inside.Holding as spec;
 
 use crate::dispatcher::dispatcher_section;
-use crate::handler::{Handler, Release, stands_before};
+use crate::handler::{Handler, Quantity, Release, stands_before, steps_weight};
 use crate::number::{greater_of, plus};
 use crate::work::{Works, block_sends, handler_sends, release_asks};
 use rt_app::costs::{FREE_COST, READY_COST};
@@ -24,13 +24,16 @@ use rt_ids::{ResId, TaskId};
 #[derive(Clone, Copy)]
 pub(crate) struct Held<'a> {
     pub(crate) this: &'a Handler,
+    pub(crate) counted: Quantity,
     pub(crate) all: Works<'a>,
     pub(crate) ceilings: &'a Ceilings,
     pub(crate) measure: &'a Measure,
+    /// The priorities at which a job below may have a place in transit of the messages that are counted.
+    pub(crate) transit: &'a [u8],
 }
 
-/// The ceiling of a resource. Where there is none of this index, it is 0: that is below each handler, so that no lock of
-/// it counts.
+/// The ceiling of a resource. Where there is none of this index, it is 0: that is below each handler, so that no lock
+/// of it counts.
 fn shared_ceiling(ceilings: &Ceilings, resource: ResId) -> u8
     ensures { result ≡ get_or ceilings.now.shared resource 0 }
 {
@@ -45,8 +48,9 @@ fn section_holds(app: &App, held: &Held, stmt: &Stmt, inner: &[Stmt]) -> Option<
     requires { (r at : ℕ) × (statement_of stmt.now ≡ Locked r (block_of inner.now) at) }
     ensures { result ≡ spec.held_section (app_of app.now) held.now (block_of inner.now) }
 {
-    let steps = u64::from(held.measure.statement(stmt).saturating_sub(1));
-    plus(Some(steps), block_sends(&held.all, inner))
+    let steps = held.measure.statement(stmt).saturating_sub(1);
+    let own = Some(steps_weight(held.counted, steps));
+    plus(own, block_sends(&held.all, inner))
 }
 
 /// The ceiling of the free places of a task. Where there is none of this number, or it is a hardware task, which has no
@@ -61,8 +65,8 @@ fn free_ceiling(ceilings: &Ceilings, task: TaskId) -> u8
     }
 }
 
-/// The ceiling of the first of these ready queues that is of this level. Where there is none, it is 0: that is below each
-/// handler, so that no section of it counts.
+/// The ceiling of the first of these ready queues that is of this level. Where there is none, it is 0: that is below
+/// each handler, so that no section of it counts.
 fn ready_in(queues: &[ReadyCeiling], level: u8) -> u8
     ensures { result ≡ waits.ceiling_or_zero (find (λ r. r.level == level) queues.now) }
 {
@@ -101,7 +105,8 @@ fn queue_holds(
     ensures { result ≡ spec.held_queue (app_of app.now) held.now ceiling steps released }
 {
     if held.this.priority <= ceiling {
-        plus(Some(u64::from(steps.saturating_sub(1))), released)
+        let own = steps_weight(held.counted, steps.saturating_sub(1));
+        plus(Some(own), released)
     } else {
         Some(0)
     }
@@ -209,13 +214,34 @@ fn task_holds(app: &App, held: &Held, task: &Task) -> Option<u64>
     }
 }
 
+/// How many places are in transit at other priorities than this one.
+fn others_in_transit(transit: &[u8], priority: u8) -> u64
+    ensures { result ≡ count_by (λ other. not (other == priority)) transit.now }
+{
+    let mut count = 0;
+    for other in transit {
+        if *other != priority {
+            count += 1;
+        }
+    }
+    count
+}
+
+/// The most that a body of this priority holds off, with the places in transit at the other priorities.
+fn with_transit(held: &Held, priority: u8, most: Option<u64>) -> Option<u64>
+    ensures { result ≡ spec.with_transit held.now.transit.now priority most }
+{
+    plus(Some(others_in_transit(held.transit, priority)), most)
+}
+
 /// The most that one of these tasks holds off.
 fn tasks_hold(app: &App, held: &Held, tasks: &[Task]) -> Option<u64>
-    ensures { result ≡ number.greatest_of (map (λ t. spec.held_task (app_of app.now) held.now (task_of t)) tasks.now) }
+    ensures { result ≡ number.greatest_of (map (λ t. spec.whole_task (app_of app.now) held.now (task_of t)) tasks.now) }
 {
     let mut most = Some(0);
     for task in tasks {
-        most = greater_of(most, task_holds(app, held, task));
+        let own = task_holds(app, held, task);
+        most = greater_of(most, with_transit(held, task.priority, own));
     }
     most
 }
@@ -223,11 +249,11 @@ fn tasks_hold(app: &App, held: &Held, tasks: &[Task]) -> Option<u64>
 /// What a handler of the same priority holds off that stands behind: its whole job, and what it releases.
 fn equal_holds(app: &App, held: &Held, handler: &Handler) -> Option<u64>
     ensures { let asked = spec.asked_for (app_of app.now) held.now in
-        result ≡ spec.equal_most (app_of app.now) asked held.now.this.now handler.now }
+        result ≡ spec.equal_most (app_of app.now) held.now.counted asked held.now.this.now handler.now }
 {
     if handler.priority == held.this.priority && stands_before(held.this, handler) {
-        let steps = Some(u64::from(handler.steps));
-        plus(steps, handler_sends(app, &held.all, handler))
+        let own = Some(steps_weight(held.counted, handler.steps));
+        plus(own, handler_sends(app, &held.all, handler))
     } else {
         Some(0)
     }
@@ -262,12 +288,13 @@ fn handler_holds(app: &App, held: &Held, handler: &Handler) -> Option<u64>
 /// The most that one of these handlers holds off.
 fn handlers_hold(app: &App, held: &Held) -> Option<u64>
     requires { length (app_of app.now).tasks ≤ TASKS }
-    ensures { let most = spec.held_handler (app_of app.now) held.now in
+    ensures { let most = spec.whole_handler (app_of app.now) held.now in
         result ≡ number.greatest_of (map most held.now.all.handlers.now) }
 {
     let mut most = Some(0);
     for handler in held.all.handlers {
-        most = greater_of(most, handler_holds(app, held, handler));
+        let own = handler_holds(app, held, handler);
+        most = greater_of(most, with_transit(held, handler.priority, own));
     }
     most
 }
@@ -276,11 +303,11 @@ fn handlers_hold(app: &App, held: &Held) -> Option<u64>
 pub(crate) fn blocking(app: &App, held: &Held) -> Option<u64>
     requires accepted { IsAccepted (app_of app.now) }
     requires held { spec.IsHeld (app_of app.now) held.now }
-    ensures { result ≡ definition.blocking (app_of app.now) held.now.this.now }
+    ensures { result ≡ definition.blocking (app_of app.now) held.now.counted held.now.this.now }
 {
-    let lower = greater_of(
-        idle_holds(app, held, &app.idle),
-        tasks_hold(app, held, &app.tasks),
-    );
-    greater_of(lower, handlers_hold(app, held))
+    let idle = with_transit(held, 0, idle_holds(app, held, &app.idle));
+    let jobs = greater_of(tasks_hold(app, held, &app.tasks), handlers_hold(app, held));
+    let places = Some(held.transit.len() as u64);
+    let lower = greater_of(idle, jobs);
+    greater_of(places, lower)
 }

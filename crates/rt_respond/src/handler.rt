@@ -40,6 +40,35 @@ pub enum Release {
     Message(TaskId),
 }
 
+/// What is counted of jobs.
+#[derive(Clone, Copy)]
+pub enum Quantity {
+    /// Core steps, with the step that takes the interrupt.
+    Steps,
+    /// Messages of a task.
+    Messages(TaskId),
+}
+
+/// What counts of a job of a handler.
+pub(crate) fn weight(counted: &Quantity, handler: &Handler) -> u64
+    ensures { result ≡ works.weight counted.now handler.now }
+{
+    match counted {
+        Quantity::Steps => u64::from(handler.steps) + 1,
+        Quantity::Messages(task) => u64::from(handler.is_dispatcher && handler.task == *task),
+    }
+}
+
+/// What counts of core steps.
+pub(crate) fn steps_weight(counted: Quantity, steps: u32) -> u64
+    ensures { result ≡ works.steps_weight counted steps }
+{
+    match counted {
+        Quantity::Steps => u64::from(steps),
+        Quantity::Messages(_task) => 0,
+    }
+}
+
 /// Whether a handler is that of a release.
 pub(crate) fn takes(release: &Release, handler: &Handler) -> bool
     ensures { result ≡ works.takes release.now handler.now }

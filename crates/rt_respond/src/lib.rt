@@ -19,6 +19,7 @@ mod reading;
 pub mod refusal;
 pub mod report;
 pub mod response;
+mod room;
 pub mod text;
 mod work;
 

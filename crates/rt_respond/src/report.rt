@@ -1,30 +1,35 @@
 // What is answered: response times, what comes of requests, the load, and deadlines.
 
 ghost use Rattle.std.specs.Prelude.{◌≡◌, ◌<◌, ◌≤◌, ◌++◌, [], not, true, List, length, slice_get};
-ghost use Rattle.std.specs.Prelude.{None, IfOk, IfSome, OnOk};
+ghost use Rattle.std.specs.Prelude.{None, IfOk, IfSome, OnOk, if◌then◌else◌};
 ghost use Rattle.std.specs.List.{list_any};
 ghost use Rattle.rt_ids.specs.declared.limits.TheConstants.{TASKS};
 ghost use Rattle.rt_app.specs.Tree as tree;
 ghost use Rattle.rt_app.specs.View.{app_of};
 ghost use Rattle.rt_app.specs.Accepted.{IsAccepted};
+ghost use Rattle.rt_app.specs.Ceiling as ceiling;
+ghost use Rattle.rt_app.specs.Sending as capacities;
 ghost use Rattle.rt_respond.specs.Form.{is_of_form};
 ghost use Rattle.rt_respond.specs.Handlers as handler;
 ghost use Rattle.rt_respond.specs.Limits.{Limits, AreLimits};
 ghost use Rattle.rt_respond.specs.Load.{IsLast, IsLoad};
 ghost use Rattle.rt_respond.specs.Report as spec;
 ghost use Rattle.rt_respond.specs.Response.{IsResponse};
+ghost use Rattle.rt_respond.specs.Room as rooms;
 ghost use Rattle.rt_respond.specs.Rows.{BelongEach};
 ghost use Rattle.rt_respond.specs.Inside.Causing as inner;
 ghost use Rattle.rt_respond.specs.declared.handler.Handler.{Handler};
 
-use crate::handler::{Handler, handlers, stands_before};
+use crate::handler::{Handler, Quantity, handlers, stands_before};
 use crate::limits::Limits;
 use crate::load::{shares_of, sum_of};
 use crate::path::{all_edges, all_reached, lowest_on};
 use crate::pend::is_pended;
 use crate::response::{Response, place_of, responses};
+use crate::room::room_of;
 use crate::work::works_at;
-use rt_app::App;
+use rt_app::{App, Ceilings};
+use rt_ceil::ceilings;
 use rt_ids::{NoMemory, TaskId};
 use std::alloc::Global;
 
@@ -48,6 +53,11 @@ pub struct Served {
     pub priority: u8,
     pub response: Response,
     pub requests: Requests,
+    /// Of a software task, how many of its messages have their places out at once, at most; None where there is no
+    /// number.
+    pub room: Option<u64>,
+    /// Of a software task, how many may.
+    pub capacity: u8,
 }
 
 /// How long a request takes at most until a job that comes of it is done.
@@ -131,6 +141,82 @@ fn requests_of(app: &App, limits: &Limits, handler: &Handler, response: Response
     }
 }
 
+/// How many messages of a task may have their places out at once: 0 of a number that is no task's.
+fn capacity_of(app: &App, task: TaskId) -> u8
+    ensures { result ≡ capacities.capacity_of (app_of app.now) task }
+{
+    match app.task(task) {
+        None => 0,
+        Some(task) => task.capacity,
+    }
+}
+
+/// The room that the task of a handler needs, where that is a dispatcher.
+fn room_for(
+    alloc: Global,
+    app: &App,
+    limits: &Limits,
+    ceilings: &Ceilings,
+    handlers: &[Handler],
+    this: &Handler,
+    response: Response,
+) -> Result<Option<u64>, NoMemory>
+    requires accepted { IsAccepted (app_of app.now) }
+    requires limits { AreLimits (app_of app.now) limits.now }
+    requires ceilings { ceilings.now ≡ ceiling.ceilings (app_of app.now) }
+    requires handlers { handlers.now ≡ handler.handlers (app_of app.now) }
+    ensures { let room = rooms.room (app_of app.now) limits.now.every this.now response in
+        IfOk result (λ most. most ≡ (if this.now.is_dispatcher then room else None)) }
+{
+    if this.is_dispatcher {
+        room_of(
+            alloc,
+            app,
+            limits.every(),
+            ceilings,
+            handlers,
+            this,
+            response,
+        )
+    } else {
+        Ok(None)
+    }
+}
+
+/// The answers for the tasks, by the ceilings.
+fn served_under(
+    alloc: Global,
+    app: &App,
+    limits: &Limits,
+    ceilings: &Ceilings,
+    handlers: &[Handler],
+    responses: &[Response],
+) -> Result<Vec<Served>, NoMemory>
+    requires accepted { IsAccepted (app_of app.now) }
+    requires limits { AreLimits (app_of app.now) limits.now }
+    requires ceilings { ceilings.now ≡ ceiling.ceilings (app_of app.now) }
+    requires handlers { handlers.now ≡ handler.handlers (app_of app.now) }
+    requires responses { BelongEach (IsResponse (app_of app.now) limits.now.every) handlers.now responses.now }
+    ensures { IfOk result (λ rows.
+        BelongEach (spec.IsServed (app_of app.now) limits.now) handlers.now rows.items) }
+{
+    let mut rows = Vec::new(alloc);
+    for index in 0..handlers.len() {
+        let handler = handlers[index];
+        let response = responses[index];
+        let room = room_for(alloc, app, limits, ceilings, handlers, &handler, response)?;
+        rows.push(Served {
+            task: handler.task,
+            priority: handler.priority,
+            response,
+            requests: requests_of(app, limits, &handler, response),
+            room,
+            capacity: capacity_of(app, handler.task),
+        })?;
+    }
+    Ok(rows)
+}
+
 /// The answers for the tasks.
 fn served_rows(
     alloc: Global,
@@ -139,21 +225,15 @@ fn served_rows(
     handlers: &[Handler],
     responses: &[Response],
 ) -> Result<Vec<Served>, NoMemory>
-    requires { BelongEach (IsResponse (app_of app.now) limits.now.every) handlers.now responses.now }
+    requires accepted { IsAccepted (app_of app.now) }
+    requires limits { AreLimits (app_of app.now) limits.now }
+    requires handlers { handlers.now ≡ handler.handlers (app_of app.now) }
+    requires responses { BelongEach (IsResponse (app_of app.now) limits.now.every) handlers.now responses.now }
     ensures { IfOk result (λ rows.
         BelongEach (spec.IsServed (app_of app.now) limits.now) handlers.now rows.items) }
 {
-    let mut rows = Vec::new(alloc);
-    for index in 0..handlers.len() {
-        let handler = handlers[index];
-        rows.push(Served {
-            task: handler.task,
-            priority: handler.priority,
-            response: responses[index],
-            requests: requests_of(app, limits, &handler, responses[index]),
-        })?;
-    }
-    Ok(rows)
+    let ceilings = ceilings(alloc, app)?;
+    served_under(alloc, app, limits, &ceilings, handlers, responses)
 }
 
 /// Appends what comes of the requests of a handler.
@@ -239,7 +319,7 @@ fn load_of(
     let Some(last) = last_of(handlers) else {
         return Ok(Some(0));
     };
-    let works = works_at(alloc, app, handlers, &last)?;
+    let works = works_at(alloc, app, handlers, &last, &Quantity::Steps)?;
     match shares_of(alloc, limits, handlers, &works)? {
         None => Ok(None),
         Some(shares) => Ok(Some(sum_of(alloc, &shares)?)),
@@ -280,7 +360,7 @@ fn report_of(
     handlers: &[Handler],
     responses: &[Response],
 ) -> Result<Report, NoMemory>
-    requires few { length (app_of app.now).tasks ≤ TASKS }
+    requires accepted { IsAccepted (app_of app.now) }
     requires limits { AreLimits (app_of app.now) limits.now }
     requires handlers { handlers.now ≡ handler.handlers (app_of app.now) }
     requires responses { BelongEach (IsResponse (app_of app.now) limits.now.every) handlers.now responses.now }

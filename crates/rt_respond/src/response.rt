@@ -1,19 +1,23 @@
 // Finds the response times.
 
-ghost use Rattle.std.specs.Prelude.{◌≡◌, ◌≤◌, ◌-◌, ◌^◌, ◌==◌, min, position, IfOk};
+ghost use Rattle.std.specs.Prelude.{◌≡◌, ◌≤◌, ◌-◌, ◌^◌, ◌==◌, min, position, List, IfOk};
 ghost use Rattle.rt_app.specs.View.{app_of};
 ghost use Rattle.rt_app.specs.Tree as tree;
 ghost use Rattle.rt_app.specs.Accepted.{IsAccepted};
 ghost use Rattle.rt_app.specs.BodyCost.{cost_measure};
 ghost use Rattle.rt_app.specs.Ceiling as ceiling;
 ghost use Rattle.rt_rta.specs.Response as rta;
+ghost use Rattle.rt_rta.specs.declared.limits.Limit as rows;
 ghost use Rattle.rt_respond.specs.Handlers as order;
 ghost use Rattle.rt_respond.specs.Response as spec;
 ghost use Rattle.rt_respond.specs.Rows.{BelongEach};
+ghost use Rattle.rt_respond.specs.Inside.Holding.{IsHeld};
 ghost use Rattle.rt_respond.specs.Inside.Searching.{ArePositive, HasTables, IsAsked};
+ghost use Rattle.rt_respond.specs.declared.handler.Quantity.{Quantity};
+ghost use Rattle.rt_respond.specs.declared.handler.Quantity.TheVariants as count;
 
 use crate::blocking::{Held, blocking};
-use crate::handler::{Handler, is_at};
+use crate::handler::{Handler, Quantity, is_at};
 use crate::number::{greater_of, plus, times};
 use crate::work::{Works, body_sends, works_at};
 use rt_app::{App, Ceilings};
@@ -37,12 +41,12 @@ pub enum Response {
 
 /// What is asked for at a handler.
 #[derive(Clone, Copy)]
-struct Asked<'a> {
-    this: &'a Handler,
-    all: Works<'a>,
-    limits: &'a [Limit],
+pub(crate) struct Asked<'a> {
+    pub(crate) this: &'a Handler,
+    pub(crate) all: Works<'a>,
+    pub(crate) limits: &'a [Limit],
     /// What a busy period begins with.
-    backlog: Option<u64>,
+    pub(crate) backlog: Option<u64>,
 }
 
 /// How many requests fall into so many core steps at most.
@@ -66,8 +70,8 @@ pub(crate) fn place_of(handlers: &[Handler], limit: &Limit) -> Option<usize>
 fn limit_demand(asked: &Asked, steps: u32, limit: &Limit) -> Option<u64>
     requires positive { 1 ≤ limit.now.every }
     requires tables { HasTables asked.now }
-    ensures { (app : tree.App) → IsAsked app asked.now →
-        result ≡ spec.limit_demand app asked.now.limits.now asked.now.this.now steps limit.now }
+    ensures { (app : tree.App) → (what : Quantity) → IsAsked app what asked.now →
+        result ≡ spec.limit_demand app asked.now.limits.now what asked.now.this.now steps limit.now }
 {
     let Some(place) = place_of(asked.all.handlers, limit) else {
         return Some(0);
@@ -82,14 +86,23 @@ fn limit_demand(asked: &Asked, steps: u32, limit: &Limit) -> Option<u64>
 /// What all requests ask for in so many core steps.
 fn demand(asked: &Asked, steps: u32) -> Option<u64>
     requires tables { HasTables asked.now }
-    ensures { (app : tree.App) → IsAsked app asked.now →
-        result ≡ spec.demand app asked.now.limits.now asked.now.this.now steps }
+    ensures { (app : tree.App) → (what : Quantity) → IsAsked app what asked.now →
+        result ≡ spec.demand app asked.now.limits.now what asked.now.this.now steps }
 {
     let mut sum = Some(0);
     for limit in asked.limits {
         sum = plus(sum, limit_demand(asked, steps, limit));
     }
     sum
+}
+
+/// All that there is to be room for in so many core steps.
+pub(crate) fn needed_within(asked: &Asked, steps: u32) -> Option<u64>
+    requires tables { HasTables asked.now }
+    ensures { (app : tree.App) → (what : Quantity) → IsAsked app what asked.now →
+        result ≡ spec.needed app asked.now.limits.now what asked.now.this.now steps }
+{
+    plus(asked.backlog, demand(asked, steps))
 }
 
 /// Core steps as a number of 32 bits: the greatest one where they are above that.
@@ -102,12 +115,12 @@ fn saturated_steps(steps: u64) -> u32
 /// The least number of core steps up to a million in which there is room for all that is asked for.
 fn search(asked: &Asked) -> Response
     requires tables { HasTables asked.now }
-    ensures { (app : tree.App) → IsAsked app asked.now →
+    ensures { (app : tree.App) → IsAsked app count.Steps asked.now →
         spec.IsResponse app asked.now.limits.now asked.now.this.now result }
 {
     let mut steps: u32 = 1;
     while steps <= MOST_STEPS {
-        let Some(needed) = plus(asked.backlog, demand(asked, steps)) else {
+        let Some(needed) = needed_within(asked, steps) else {
             return Response::Cycle;
         };
         if needed <= u64::from(steps) {
@@ -116,6 +129,16 @@ fn search(asked: &Asked) -> Response
         steps = saturated_steps(needed);
     }
     Response::Over
+}
+
+/// What a busy period of a handler begins with.
+pub(crate) fn backlog_of(app: &App, held: &Held) -> Option<u64>
+    requires accepted { IsAccepted (app_of app.now) }
+    requires held { IsHeld (app_of app.now) held.now }
+    ensures { (limits : List rows.Limit) →
+        result ≡ spec.backlog (app_of app.now) limits held.now.counted held.now.this.now }
+{
+    greater_of(blocking(app, held), body_sends(&held.all, &app.init))
 }
 
 /// The response time of a handler.
@@ -135,18 +158,20 @@ fn response_of<'a>(
     requires handlers { handlers.now ≡ order.handlers (app_of app.now) }
     ensures { IfOk result (λ response. spec.IsResponse (app_of app.now) limits.now this.now response) }
 {
-    let works = works_at(alloc, app, handlers, this)?;
+    let works = works_at(alloc, app, handlers, this, &Quantity::Steps)?;
     let all = Works {
         handlers,
         works: &works,
     };
     let held = Held {
         this,
+        counted: Quantity::Steps,
         all,
         ceilings,
         measure,
+        transit: &[],
     };
-    let backlog = greater_of(blocking(app, &held), body_sends(&all, &app.init));
+    let backlog = backlog_of(app, &held);
     Ok(search(&Asked {
         this,
         all,

@@ -108,13 +108,41 @@ fn push_answer(out: &mut Vec<u8>, app: &App, row: &Served) -> Result<(), NoMemor
     push_bytes(out, b"\n")
 }
 
+/// Appends the line of the room that a task's messages need, and of its capacity.
+#[tactic(auto, unfolding(crate::specs::Lines::room_text))]
+fn push_room(out: &mut Vec<u8>, app: &App, row: &Served) -> Result<(), NoMemory>
+    ensures { OnOk result (out.new.items ≡ out.old.items ++ spec.room_text (app_of app.now) row.now) }
+{
+    push_bytes(out, b"room ")?;
+    push_task(out, app, row.task)?;
+    push_bytes(out, b" ")?;
+    push_load(out, row.room)?;
+    push_bytes(out, b" ")?;
+    push_number(out, u32::from(row.capacity))?;
+    push_bytes(out, b"\n")
+}
+
+/// Appends the line of a task's messages, where it is a software task.
+fn push_messages(out: &mut Vec<u8>, app: &App, row: &Served) -> Result<(), NoMemory>
+    ensures { OnOk result (out.new.items
+        ≡ out.old.items ++ spec.messages_text (app_of app.now) row.now.requests row.now) }
+{
+    match row.requests {
+        Requests::Messages => push_room(out, app, row),
+        Requests::Never => Ok(()),
+        Requests::Merge => Ok(()),
+        Requests::Apart => Ok(()),
+    }
+}
+
 /// Appends the lines of a task.
 #[tactic(auto, unfolding(crate::specs::Lines::served_text))]
 fn push_served(out: &mut Vec<u8>, app: &App, row: &Served) -> Result<(), NoMemory>
     ensures { OnOk result (out.new.items ≡ out.old.items ++ spec.served_text (app_of app.now) row.now) }
 {
     push_answer(out, app, row)?;
-    push_requests(out, app, row.requests, row.task)
+    push_requests(out, app, row.requests, row.task)?;
+    push_messages(out, app, row)
 }
 
 /// Appends the line of what comes of a request.

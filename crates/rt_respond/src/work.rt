@@ -6,7 +6,7 @@ ghost use Rattle.rt_respond.specs.Handlers as order;
 ghost use Rattle.rt_respond.specs.Work as spec;
 ghost use Rattle.rt_respond.specs.Inside.Works as inner;
 
-use crate::handler::{Handler, Release, is_at, takes};
+use crate::handler::{Handler, Quantity, Release, is_at, takes, weight};
 use crate::number::{greater_of, plus, times};
 use rt_app::{App, Body, Spawn, Stmt, Value};
 use rt_ids::NoMemory;
@@ -118,12 +118,18 @@ pub(crate) fn handler_sends(app: &App, all: &Works, handler: &Handler) -> Option
 }
 
 /// The work of a request of a handler, where a release asks for what the table says.
-fn next_work(app: &App, this: &Handler, all: &Works, handler: &Handler) -> Option<u64>
+fn next_work(
+    app: &App,
+    this: &Handler,
+    counted: &Quantity,
+    all: &Works,
+    handler: &Handler,
+) -> Option<u64>
     requires { all.now.handlers.now ≡ order.handlers (app_of app.now) }
-    ensures { result ≡ inner.next_work (app_of app.now) this.now all.now.works.now handler.now }
+    ensures { result ≡ inner.next_work (app_of app.now) counted.now this.now all.now.works.now handler.now }
 {
     if is_at(this, handler) {
-        let own = Some(u64::from(handler.steps) + 1);
+        let own = Some(weight(counted, handler));
         plus(own, handler_sends(app, all, handler))
     } else {
         Some(0)
@@ -135,15 +141,16 @@ fn next_works(
     alloc: Global,
     app: &App,
     this: &Handler,
+    counted: &Quantity,
     all: &Works,
 ) -> Result<Vec<Option<u64>>, NoMemory>
     requires { all.now.handlers.now ≡ order.handlers (app_of app.now) }
-    ensures { let of = inner.next_work (app_of app.now) this.now all.now.works.now in
+    ensures { let of = inner.next_work (app_of app.now) counted.now this.now all.now.works.now in
         IfOk result (λ works. works.items ≡ map of (order.handlers (app_of app.now))) }
 {
     let mut works = Vec::new(alloc);
     for handler in all.handlers {
-        works.push(next_work(app, this, all, handler))?;
+        works.push(next_work(app, this, counted, all, handler))?;
     }
     Ok(works)
 }
@@ -159,17 +166,18 @@ fn no_works(alloc: Global, handlers: &[Handler]) -> Result<Vec<Option<u64>>, NoM
     Ok(works)
 }
 
-/// The work of a request of each handler, in order, at this one. The time grows with the square of the number of
+/// What a request of each handler asks for at this one, in order. The time grows with the square of the number of
 /// handlers, and with the text.
 pub(crate) fn works_at(
     alloc: Global,
     app: &App,
     handlers: &[Handler],
     this: &Handler,
+    counted: &Quantity,
 ) -> Result<Vec<Option<u64>>, NoMemory>
     requires { handlers.now ≡ order.handlers (app_of app.now) }
     ensures { IfOk result (λ works.
-        works.items ≡ map (spec.work (app_of app.now) this.now) (order.handlers (app_of app.now))) }
+        works.items ≡ map (spec.work (app_of app.now) counted.now this.now) (order.handlers (app_of app.now))) }
 {
     let mut works = no_works(alloc, handlers)?;
     for _round in 0..handlers.len() {
@@ -177,6 +185,7 @@ pub(crate) fn works_at(
             alloc,
             app,
             this,
+            counted,
             &Works {
                 handlers,
                 works: &works,

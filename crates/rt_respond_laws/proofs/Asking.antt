@@ -1,8 +1,9 @@
 -- Hardware tasks' handlers and the numbers of their interrupts, which differ; and what a post of an interrupt asks for,
 -- by its number, and a message that becomes ready, by its task.
-use Rattle.std.proofs.Common.{◌≡◌, ℕ, zero, suc, ◌<◌, ◌==◌, ◌&&◌, ◌||◌, Bool, true, false, not, if◌then◌else◌, Contains}
+use Rattle.std.proofs.Common.{◌≡◌, ℕ, zero, suc, ◌-◌, ◌≤◌, ◌<◌, ◌==◌, ◌&&◌, ◌||◌, Bool, true, false, not, if◌then◌else◌}
+use Rattle.std.proofs.Common.{Contains}
 use Rattle.std.proofs.Common.{List, [], ◌∷◌, length, filter, find, slice_get, option_map, Option, Some, None, refl, sym}
-use Rattle.std.proofs.Common.{ap, ◌∙◌, eq-eqb}
+use Rattle.std.proofs.Common.{ap, ◌∙◌, eq-eqb, arith}
 use Rattle.std.specs.List.{AllByRecursion, list_any}
 use Rattle.std.proofs.lemmas.Bool.{eqb-true}
 use Rattle.std.proofs.lemmas.Option.{same_Some, none-some}
@@ -16,15 +17,19 @@ use Rattle.rt_app.specs.Accepted.{IsAccepted}
 use Rattle.rt_app.specs.Level.{levels}
 use Rattle.rt_app.specs.Handlers.{Runs, irq_number}
 use Rattle.rt_app.specs.Sending.{dispatcher_number}
+use Rattle.rt_laws.specs.Places.{Hand}
 use Rattle.rt_laws.specs.Services.{service_at}
 use Rattle.rt_laws.proofs.FineHandlers.{all_in}
 use Rattle.rt_respond.specs.Form.{is_of_form}
 use Rattle.rt_respond.specs.Handlers.{handlers}
 use Rattle.rt_respond.specs.Pends.{block_pends, body_pends, is_pended}
 use Rattle.rt_respond.specs.Work.{handler_asks, release_work, work}
+use Rattle.rt_respond.specs.declared.handler.Quantity.{Quantity}
+use Rattle.rt_respond.specs.declared.handler.Quantity.TheVariants as counted
 use Rattle.rt_respond.specs.declared.handler.Handler.{Handler}
 use Rattle.rt_respond.specs.declared.handler.Release.TheVariants as released_by
-use Rattle.rt_respond_laws.proofs.Sending.{Posting, Agrees, PendsOnly}
+use Rattle.rt_respond_laws.proofs.Weights.{placed}
+use Rattle.rt_respond_laws.proofs.Sending.{Posting, head_in, Split, Agrees, PendsOnly}
 use Rattle.rt_respond_laws.proofs.Tasks.{same_irq, named, not_bound}
 use Rattle.rt_respond_laws.proofs.Handled.{handler_of_task, of_level, binds_own, handler_serves, same_by_task, Apart}
 use Rattle.rt_respond_laws.proofs.Handled.{apart}
@@ -224,23 +229,35 @@ module _ (app : App) (accepted : IsAccepted app) (form : is_of_form app ≡ true
       pended_allowed j (or_left (body_pends j app.init || body_pends j app.idle) _
       (or_right (body_pends j app.init) (body_pends j app.idle) (ap (body_pends j) is ∙ there)))
 
-  module _ (i : Handler) where
-    -- what a post of an interrupt of this number asks for, and a message of a task
+  module _ (what : Quantity) (i : Handler) where
+    -- what a post of an interrupt of this number asks for, and a message of a task, of which its place is taken before
     abbrev pub posts : Posting
     posts = record {
-      irq = λ n. handler_asks (work app i) (find (λ h. h.number == n) wired);
-      task = λ t. release_work app i (released_by.Message t);
+      irq = λ n. handler_asks (work app what i) (find (λ h. h.number == n) wired);
+      task = λ t. option_map (λ k. k - placed what t) (release_work app what i (released_by.Message t));
+      place = placed what;
     }
 
-    pub posts_are : (h : Handler) → IsIn wired h → posts.irq h.number ≡ work app i h
-    posts_are h is = ap (handler_asks (work app i)) (find_wired h is)
+    pub posts_are : (h : Handler) → IsIn wired h → posts.irq h.number ≡ work app what i h
+    posts_are h is = ap (handler_asks (work app what i)) (find_wired h is)
 
-    pub sends_are : (h : Handler) → IsIn (handlers app) h → posts.task h.task ≡ work app i h
-    sends_are h is = ap (handler_asks (work app i)) (find_task h is)
+    pub sends_are : (h : Handler) → IsIn (handlers app) h → posts.task h.task
+        ≡ option_map (λ k. k - placed what h.task) (work app what i h)
+    sends_are h is =
+        ap (λ o. option_map (λ k. k - placed what h.task) (handler_asks (work app what i) o)) (find_task h is)
+
+    -- a message's parts, where its place is part of what it asks for
+    sends_split : ((m k : ℕ) → release_work app what i (released_by.Message m) ≡ Some k → placed what m ≤ k)
+        → (n k : ℕ) → release_work app what i (released_by.Message n) ≡ Some k → Split posts n k
+    sends_split places n k asked = record {
+      ready = k - placed what n;
+      is = ap (option_map (λ k. k - placed what n)) asked;
+      sum = let enough = places n k asked in omega (arith, enough);
+    }
 
     -- it is what a `pend` of its index asks for
     pends_agree : (j : ℕ) → j < length app.irqs → Allowed j
-        → posts.irq (or_zero (irq_number app j)) ≡ release_work app i (released_by.Request j)
+        → posts.irq (or_zero (irq_number app j)) ≡ release_work app what i (released_by.Request j)
     pends_agree j within allowed = go (irq_number app j) refl
       where
         there : irq_number app j ≡ None → ⊥
@@ -258,10 +275,10 @@ module _ (app : App) (accepted : IsAccepted app) (form : is_of_form app ≡ true
             (λ same. same_Some h.number n (sym (number_of h is) ∙ ap (irq_number app) same ∙ number))
 
         go : (o : Option ℕ) → irq_number app j ≡ o
-            → posts.irq (or_zero o) ≡ release_work app i (released_by.Request j)
+            → posts.irq (or_zero o) ≡ release_work app what i (released_by.Request j)
         go None none = absurd (there none)
         go (Some n) number =
-            ap (handler_asks (work app i))
+            ap (handler_asks (work app what i))
             (find_filter is_wired (λ h. h.number == n) (handlers app)
             ∙ find_alike (λ h. is_wired h && (h.number == n)) (λ h. h.irq == j) (handlers app)
             (all_in (λ h. (is_wired h && (h.number == n)) ≡ (h.irq == j)) (handlers app) (λ h is.
@@ -272,7 +289,7 @@ module _ (app : App) (accepted : IsAccepted app) (form : is_of_form app ≡ true
     turn_asks r known = go (find (λ h. h.number == dispatcher_number app r) wired) refl
       where
         go : (o : Option Handler) → find (λ h. h.number == dispatcher_number app r) wired ≡ o
-            → handler_asks (work app i) o ≡ Some 0
+            → handler_asks (work app what i) o ≡ Some 0
         go None is = refl
         go (Some h) is =
             let there = found_wired (dispatcher_number app r) h is in
@@ -281,5 +298,13 @@ module _ (app : App) (accepted : IsAccepted app) (form : is_of_form app ≡ true
             absurd (not_bound app accepted form r known h.task of.row h.irq of.at (binds_own app accepted h of own.1)
             (of.number ∙ ap Some there.1))
 
-    pub agree : Agrees app (release_work app i) posts Allowed
-    agree = record { pends = pends_agree; sends = λ n. refl; turns = turn_asks }
+    pub agree : ((m k : ℕ) → release_work app what i (released_by.Message m) ≡ Some k → placed what m ≤ k)
+        → Agrees app (release_work app what i) posts Allowed
+    agree places = record { pends = pends_agree; sends = sends_split places; turns = turn_asks }
+
+-- of core steps no place counts
+pub steps_hand : (app : App) (accepted : IsAccepted app) (form : is_of_form app ≡ true) (i : Handler)
+    (hands : List Hand) → head_in (posts app accepted form counted.Steps i) hands ≡ 0
+steps_hand app accepted form i [] = refl
+steps_hand app accepted form i (None ∷ hands) = refl
+steps_hand app accepted form i (Some t ∷ hands) = refl

@@ -27,14 +27,18 @@ use Rattle.rt_app.specs.Sending.{Rest, act, act_all}
 use Rattle.rt_app.specs.Variables.{variables}
 use Rattle.rt_app.proofs.Sound.{accepted_are_sound}
 use Rattle.rt_laws.proofs.Fine.{OfLevel, Queued}
+use Rattle.rt_laws.proofs.Hands.{Bare, GivesBack}
 use Rattle.rt_respond.specs.Form.{is_of_form}
 use Rattle.rt_respond.specs.Handlers.{block_of_task}
-use Rattle.rt_respond.specs.Work.{block_sends, body_sends}
+use Rattle.rt_respond.specs.Work.{steps_weight, block_sends, body_sends}
+use Rattle.rt_respond.specs.declared.handler.Quantity.{Quantity}
 use Rattle.rt_respond.specs.declared.handler.Release.{Release}
 use Rattle.rt_respond.specs.declared.number.TheConstants.{MOST_WORK}
+use Rattle.rt_respond_laws.proofs.Weights.{placed}
 use Rattle.rt_respond_laws.proofs.Turning.{behind_start}
 use Rattle.rt_respond_laws.proofs.Sending.{Posting, AtMost, at_most_more, RestAtMost, Agrees, PendsOnly, block_at_most}
-use Rattle.rt_respond_laws.proofs.Holding.{Outside, Inside, Holds, BlockWithin, LowAsksNone, block_out, enters_out}
+use Rattle.rt_respond_laws.proofs.Modes.{Outside, Inside, Holds, BlockWithin, LowAsksNone}
+use Rattle.rt_respond_laws.proofs.Holding.{block_out, enters_out}
 
 -- every body pends such interrupts alone
 pub record AllPendOnly (app : App) (Allowed : ℕ → Type 0) : Type 0 where
@@ -56,12 +60,13 @@ task_of app q m of = go (slice_get app.tasks m.task) refl of
     go (Some t) at is = record { task = t; at = at; of = is }
 
 -- what is counted of a lower dispatcher: its section, and of each task of the level that of its places and its body
-pub record LevelWithin (app : App) (asks : Release → Option ℕ) (p most q : ℕ) : Type 0 where
-  pub turn : p ≤ ceiling app (section.Ready q) → dispatcher_section_cost app q - 1 ≤ most
+pub record LevelWithin (app : App) (what : Quantity) (asks : Release → Option ℕ) (p most q : ℕ) : Type 0 where
+  pub turn : p ≤ ceiling app (section.Ready q) → steps_weight what (dispatcher_section_cost app q - 1) ≤ most
   pub free : (n : ℕ) (t : Task) → slice_get app.tasks n ≡ Some t → is_of_level q t ≡ true
-      → p ≤ ceiling app (section.Free n) → FREE_COST - 1 ≤ most
+      → p ≤ ceiling app (section.Free n) → steps_weight what (FREE_COST - 1) ≤ most
+  pub quiet : (n : ℕ) (t : Task) → slice_get app.tasks n ≡ Some t → is_of_level q t ≡ true → placed what n ≡ 0
   pub each : (n : ℕ) (t : Task) → slice_get app.tasks n ≡ Some t → is_of_level q t ≡ true
-      → BlockWithin app p asks most t.body.block
+      → BlockWithin app what p asks most t.body.block
 
 module _ (app : App) (asks : Release → Option ℕ) (posts : Posting) where
   -- what the body of a task releases
@@ -186,12 +191,13 @@ module _ (app : App) (accepted : IsAccepted app) (form : is_of_form app ≡ true
     nothing_found q k vs =
         (0, k, refl, omega arith, λ a ws good. (0, k, refl, omega arith, λ b xs fine. tt))
 
-    -- a dispatcher's, where each body of the level releases no more
+    -- a dispatcher's, where no message of the level has a place that counts, and each body of it releases no more
     pub dispatcher_at_most : (q k : ℕ) → Contains (levels app) q
+        → ((n : ℕ) (t : Task) → slice_get app.tasks n ≡ Some t → is_of_level q t ≡ true → posts.place n ≡ 0)
         → ((n : ℕ) (t : Task) → slice_get app.tasks n ≡ Some t → is_of_level q t ≡ true
         → (s : ℕ) × (block_sends asks t.body.block ≡ Some s) × (s ≤ k)) → k < MOST_WORK
         → RestAtMost app posts k (dispatcher_doing app q)
-    dispatcher_at_most q k known each below vs =
+    dispatcher_at_most q k known quiet each below vs =
         (0, k, refl, omega arith, λ a ws good. go (messages (ws (Guarded (section.Ready q)))) (good.ready q) ws)
       where
         go : (ms : List Message) → AllByRecursion (OfLevel app q) ms → RestAtMost app posts k (start_doing app q ms)
@@ -199,11 +205,12 @@ module _ (app : App) (accepted : IsAccepted app) (form : is_of_form app ≡ true
         go (m ∷ more) of ws =
             let task = task_of app q m of.0 in
             let one = each m.task task.task task.at task.of in
-            let few = one.2 in (
-              0,
+            let few = one.2 in
+            let none = quiet m.task task.task task.at task.of in (
+              posts.place m.task,
               k,
               refl,
-              omega arith,
+              omega (arith, none),
               λ a xs good. at_most_more app posts one.0 k _
                   (start_at_most q known m more task.task task.at one.0 one.1 (omega (arith, few, below)) xs) few,
             )
@@ -255,15 +262,16 @@ module _ (app : App) (accepted : IsAccepted app) (form : is_of_form app ≡ true
             (act (Ends body.Idle) nothing) k 0 (only.idle b there) (ends (Ends body.Idle) body.Idle refl) some below vs)
             (omega arith)
 
-    module _ (p most : ℕ) (low : LowAsksNone app p posts) where
+    module _ (what : Quantity) (p most : ℕ) (low : LowAsksNone app what p posts) where
       abbrev RestHolds : Rest → Type 0
-      RestHolds rest = (vs : Values) → Holds app p most posts Outside (rest vs)
+      RestHolds rest = (vs : Values) → Holds app what p most posts Bare Outside (rest vs)
 
       body_holds : (id : BodyId) (m : Member) → member_at app id ≡ Some m → (args : List ℕ) (rest : Rest)
-          → PendsOnly Allowed m.body.block → RestHolds rest → BlockWithin app p asks most m.body.block
+          → PendsOnly Allowed m.body.block → RestHolds rest → BlockWithin app what p asks most m.body.block
           → RestHolds (declared_doing app (Some m.body) args rest)
       body_holds id m at args rest pends later within vs =
-          block_out app accepted form m p asks posts most Allowed agree low m.body.block m.args [] [] (λ vars. rest)
+          block_out app accepted form m what p asks posts most Allowed agree low m.body.block m.args [] []
+          (λ vars. rest)
           ((accepted_are_sound app accepted).bodies id m at) pends within (λ vars. later)
           (args ++ replicate (variables m.body.block) 0) vs
 
@@ -274,28 +282,33 @@ module _ (app : App) (accepted : IsAccepted app) (form : is_of_form app ≡ true
       returns_holds vs = (0, Outside, refl, (omega arith, refl), λ answer ws good. tt)
 
       run_holds : (n : ℕ) (t : Task) → slice_get app.tasks n ≡ Some t → (args : List ℕ) (rest : Rest) → RestHolds rest
-          → BlockWithin app p asks most t.body.block → RestHolds (task_doing app n args rest)
+          → BlockWithin app what p asks most t.body.block → RestHolds (task_doing app n args rest)
       run_holds n t at args rest later within vs =
-          subst (λ o. Holds app p most posts Outside (declared_doing app (then_from o (λ t. Some t.body)) args rest vs))
+          subst (λ o. Holds app what p most posts Bare Outside (declared_doing app (then_from o
+          (λ t. Some t.body)) args rest vs))
           (sym at)
           (body_holds (body.Task n) (task_member n t) (ap (option_map (task_member n)) at) args rest
           (only.tasks n t at) later within vs)
 
       -- a lower hardware task's
-      pub task_holds_off : (n : ℕ) (t : Task) → slice_get app.tasks n ≡ Some t → BlockWithin app p asks most
+      pub task_holds_off : (n : ℕ) (t : Task) → slice_get app.tasks n ≡ Some t → BlockWithin app what p asks most
           t.body.block
           → RestHolds (handler_doing app (Runs n))
       task_holds_off n t at within = run_holds n t at [] (act Returns nothing) returns_holds within
 
       -- behind its section
-      ran_holds : (q : ℕ) → LevelWithin app asks p most q → (m : Message) → TaskOf app q m
-          → RestHolds (act_all (Enters (section.Free m.task) FREE_COST ∷ Frees m.task ∷ Leaves (section.Free m.task)
-          ∷ []) (task_doing app m.task m.args (act_all (Ends (body.Task m.task) ∷ Returns ∷ []) nothing)))
+      ran_holds : (q : ℕ) → LevelWithin app what asks p most q → (m : Message) → TaskOf app q m
+          → (vs : Values) → Holds app what p most posts (GivesBack m.task) Outside
+          (act_all (Enters (section.Free m.task) FREE_COST ∷ Frees m.task ∷ Leaves (section.Free m.task) ∷ [])
+          (task_doing app m.task m.args (act_all (Ends (body.Task m.task) ∷ Returns ∷ []) nothing)) vs)
       ran_holds q within m task vs =
-          enters_out app accepted form nobody p asks posts most Allowed agree low (section.Free m.task) FREE_COST 0
+          enters_out app accepted form nobody what p asks posts most Allowed agree low (GivesBack m.task)
+          (section.Free m.task)
+          FREE_COST 0
           (λ answer. act_all (Frees m.task ∷ Leaves (section.Free m.task) ∷ [])
           (task_doing app m.task m.args (act_all (Ends (body.Task m.task) ∷ Returns ∷ []) nothing))) vs
-          (λ high. let few = within.free m.task task.task task.at task.of high in omega (arith, few))
+          (omega (arith, none))
+          (λ high. let few = within.free m.task task.task task.at task.of high in omega (arith, few, none))
           (λ high a ws. (
             0,
             Inside 0 0,
@@ -308,11 +321,14 @@ module _ (app : App) (accepted : IsAccepted app) (form : is_of_form app ≡ true
             0,
             Outside,
             refl,
-            (omega arith, refl),
+            (omega (arith, none), refl),
             λ b xs good.
                 (0, Outside, refl, (omega arith, refl), λ c ys fine. last ys),
           ))
         where
+          none : posts.place m.task ≡ 0
+          none = low.counts m.task ∙ within.quiet m.task task.task task.at task.of
+
           nobody : Member
           nobody = task_member m.task task.task
 
@@ -322,28 +338,32 @@ module _ (app : App) (accepted : IsAccepted app) (form : is_of_form app ≡ true
               (within.each m.task task.task task.at task.of)
 
       -- a lower dispatcher's
-      pub dispatcher_holds_off : (q : ℕ) → Contains (levels app) q → LevelWithin app asks p most q → RestHolds
+      pub dispatcher_holds_off : (q : ℕ) → Contains (levels app) q → LevelWithin app what asks p most q → RestHolds
           (dispatcher_doing app q)
       dispatcher_holds_off q known within vs = by (nat_le p (ceiling app (section.Ready q))) refl
         where
+          -- a message of it has no place that counts
+          quiet : (m : Message) → TaskOf app q m → posts.place m.task ≡ 0
+          quiet m task = low.counts m.task ∙ within.quiet m.task task.task task.at task.of
+
           -- inside its section
           held : (ms : List Message) → AllByRecursion (OfLevel app q) ms → (ws : Values)
-              → Holds app p most posts (Inside 0 0) (start_doing app q ms ws)
+              → Holds app what p most posts Bare (Inside 0 0) (start_doing app q ms ws)
           held [] of ws =
               (0, Outside, refl, (0, omega arith, refl), λ a xs good. returns_holds xs)
           held (m ∷ []) of ws = (
-            0,
+            posts.place m.task,
             Inside 0 0,
             refl,
-            (0, omega arith, refl),
+            (0, let none = quiet m (task_of app q m of.0) in omega (arith, none), refl),
             λ a xs good.
                 (0, Outside, refl, (0, omega arith, refl), λ b ys fine. ran_holds q within m (task_of app q m of.0) ys),
           )
           held (m ∷ n ∷ more) of ws = (
-            0,
+            posts.place m.task,
             Inside 0 0,
             refl,
-            (0, omega arith, refl),
+            (0, let none = quiet m (task_of app q m of.0) in omega (arith, none), refl),
             λ a xs good. (
               0,
               Inside 0 0,
@@ -362,33 +382,43 @@ module _ (app : App) (accepted : IsAccepted app) (form : is_of_form app ≡ true
 
           -- where the section does not count
           free : (ms : List Message) → AllByRecursion (OfLevel app q) ms → (ws : Values)
-              → Holds app p most posts Outside (start_doing app q ms ws)
+              → Holds app what p most posts Bare Outside (start_doing app q ms ws)
           free [] of ws = (0, Outside, refl, (omega arith, refl), λ a xs good. returns_holds xs)
           free (m ∷ []) of ws = (
-            0,
+            posts.place m.task,
             Outside,
             refl,
-            (omega arith, refl),
-            λ a xs good.
-                (0, Outside, refl, (omega arith, refl), λ b ys fine. ran_holds q within m (task_of app q m of.0) ys),
+            (let none = quiet m (task_of app q m of.0) in omega (arith, none), refl),
+            λ a xs good. (
+              0,
+              Outside,
+              refl,
+              (let none = quiet m (task_of app q m of.0) in omega (arith, none), refl),
+              λ b ys fine. ran_holds q within m (task_of app q m of.0) ys,
+            ),
           )
           free (m ∷ n ∷ more) of ws = (
-            0,
+            posts.place m.task,
             Outside,
             refl,
-            (omega arith, refl),
+            (let none = quiet m (task_of app q m of.0) in omega (arith, none), refl),
             λ a xs good. (
               0,
               Outside,
               agree.turns q known,
-              (omega arith, refl),
-              λ c us fit.
-                  (0, Outside, refl, (omega arith, refl), λ b ys fine. ran_holds q within m (task_of app q m of.0) ys),
+              (let none = quiet m (task_of app q m of.0) in omega (arith, none), refl),
+              λ c us fit. (
+                0,
+                Outside,
+                refl,
+                (let none = quiet m (task_of app q m of.0) in omega (arith, none), refl),
+                λ b ys fine. ran_holds q within m (task_of app q m of.0) ys,
+              ),
             ),
           )
 
           by : (b : Bool) → nat_le p (ceiling app (section.Ready q)) ≡ b
-              → Holds app p most posts Outside (dispatcher_doing app q vs)
+              → Holds app what p most posts Bare Outside (dispatcher_doing app q vs)
           by true test =
               let high = leb-true p (ceiling app (section.Ready q)) test in
               let few = within.turn high in (
@@ -408,12 +438,12 @@ module _ (app : App) (accepted : IsAccepted app) (form : is_of_form app ≡ true
               )
 
       -- of `idle`
-      pub idle_holds_off : ((b : Body) → app.idle ≡ Some b → BlockWithin app p asks most b.block)
+      pub idle_holds_off : ((b : Body) → app.idle ≡ Some b → BlockWithin app what p asks most b.block)
           → RestHolds (idle_doing app)
       idle_holds_off within vs = go app.idle refl
         where
           go : (o : Option Body) → app.idle ≡ o
-              → Holds app p most posts Outside (declared_doing app o [] (act (Ends body.Idle) nothing) vs)
+              → Holds app what p most posts Bare Outside (declared_doing app o [] (act (Ends body.Idle) nothing) vs)
           go None there = ends_holds body.Idle vs
           go (Some b) there =
               body_holds body.Idle (thread_member body.Idle b) (ap (option_map (thread_member body.Idle)) there) []

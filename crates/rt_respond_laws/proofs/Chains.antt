@@ -141,8 +141,8 @@ asks_but true g = but_message g.task
 asks_but false g = but_request g.irq
 
 abbrev pub posts_but : Bool → Handler → Posting
-posts_but true g = record { irq = λ n. Some 0; task = λ t. if t == g.task then None else Some 0 }
-posts_but false g = record { irq = λ n. if n == g.number then None else Some 0; task = λ t. Some 0 }
+posts_but true g = record { irq = λ n. Some 0; task = λ t. if t == g.task then None else Some 0; place = λ t. 0 }
+posts_but false g = record { irq = λ n. if n == g.number then None else Some 0; task = λ t. Some 0; place = λ t. 0 }
 
 module _ (app : App) (accepted : IsAccepted app) (form : is_of_form app ≡ true) (g : Handler)
     (declared : IsIn (handlers app) g) where
@@ -157,10 +157,18 @@ module _ (app : App) (accepted : IsAccepted app) (form : is_of_form app ≡ true
       else block_pends g.irq (handled_block app h)) kind) ∙ none)
 
   pub agree_but : (b : Bool) → g.is_dispatcher ≡ b → Agrees app (asks_but b g) (posts_but b g) Any
-  agree_but true kind = record { pends = λ k within allowed. refl; sends = λ t. refl; turns = λ r known. refl }
+  agree_but true kind = record {
+    pends = λ k within allowed. refl;
+    sends = λ n k asked. record {
+      ready = k;
+      is = asked;
+      sum = omega arith;
+    };
+    turns = λ r known. refl;
+  }
   agree_but false kind = record {
     pends = λ k within allowed. go k within (irq_number app k) refl;
-    sends = λ t. refl;
+    sends = λ n k asked. record { ready = k; is = asked; sum = omega arith };
     turns = λ r known.
         ap (λ b. if b then None else Some 0)
         (not_so (dispatcher_number app r == g.number) (λ is.

@@ -26,17 +26,21 @@ use Rattle.rt_rta.proofs.Beginning.{next_well}
 use Rattle.rt_rta.proofs.Spacing.{Waits, requested, a_step_on, KeptFrom, spaced}
 use Rattle.rt_respond.specs.Form.{is_of_form}
 use Rattle.rt_respond.specs.Handlers.{handlers}
+use Rattle.rt_respond.specs.declared.handler.Quantity.TheVariants as counted
 use Rattle.rt_respond.specs.declared.handler.Handler.{Handler}
 use Rattle.rt_respond_laws.specs.Moments.{NothingIsLeft, ComesToNothing}
 use Rattle.rt_respond_laws.specs.Laws.{RunsComeToNothing}
+use Rattle.rt_respond_laws.proofs.Weights.{steps_timed}
 use Rattle.rt_respond_laws.proofs.Asking.{posts}
 use Rattle.rt_respond_laws.proofs.Cases.{StepCase, step_case}
 use Rattle.rt_respond_laws.proofs.Levels.{ready_same}
 use Rattle.rt_respond_laws.proofs.Waits.{nothing_left}
 use Rattle.rt_respond_laws.proofs.Paying.{paid_behind, paid_on}
-use Rattle.rt_respond_laws.proofs.Stretch.{Bounded, bounded, load_now, Short, Stretch, on_request, Behind}
-use Rattle.rt_respond_laws.proofs.Stretch.{Over, On, behind_left, lowers_left, any_step, calm_behind}
+use Rattle.rt_respond_laws.proofs.Stretch.{Bounded, bounded, load_now, Short, Stretch, on_request}
+use Rattle.rt_respond_laws.proofs.Stretch.{request_paid, request_more, lowers_left}
+use Rattle.rt_respond_laws.proofs.Onward.{Behind, Over, On, behind_left, any_step, calm_behind}
 use Rattle.rt_respond_laws.proofs.Early.{Moment, At, from_reset}
+use Rattle.rt_rta.proofs.Owing.{one_more}
 
 module _ (app : App) (accepted : IsAccepted app) (form : is_of_form app ≡ true) (limits : List Limit)
     (fine : rta.AreLimits app limits) (i : Handler) (declared : IsIn (handlers app) i) (least : ℕ)
@@ -53,7 +57,7 @@ module _ (app : App) (accepted : IsAccepted app) (form : is_of_form app ≡ true
   abbrev asks : State → (ℕ → ℕ) → ℕ
   asks = load_now app accepted form limits fine i declared least bound
 
-  short_on : (waits : Waits) → Brief waits → Brief (a_step_on waits)
+  pub short_on : (waits : Waits) → Brief waits → Brief (a_step_on waits)
   short_on waits short irq every row =
       let few = short irq every row in let less = few.0 in (omega (arith, less), few.1)
 
@@ -69,7 +73,7 @@ module _ (app : App) (accepted : IsAccepted app) (form : is_of_form app ≡ true
       by false test = short irq n is
 
   -- a label on
-  on_tick : (s : State) (v : Observer) (waits : Waits) (labels : List Label) → Now s v waits (Ticked ∷ labels)
+  pub on_tick : (s : State) (v : Observer) (waits : Waits) (labels : List Label) → Now s v waits (Ticked ∷ labels)
       → Now (after app s Ticked) (sees app v Ticked) waits labels
   on_tick s v waits labels now = record {
     well = next_well app accepted s v Ticked now.well now.runs.0;
@@ -81,26 +85,40 @@ module _ (app : App) (accepted : IsAccepted app) (form : is_of_form app ≡ true
     unspent = λ n. now.unspent (suc n);
   }
 
-  in_tick : (s : State) (v : Observer) (waits : Waits) (steps : ℕ) (labels : List Label)
+  pub in_tick : (s : State) (v : Observer) (waits : Waits) (steps : ℕ) (labels : List Label)
       → Now s v waits (Ticked ∷ labels) → In s waits steps → In (after app s Ticked) waits steps
   in_tick s v waits steps labels now stretch = record {
     short_of = stretch.short_of;
     counts = stretch.counts;
     paid = paid_behind app Ticked stretch.paid;
-    now = paid_on app accepted form i declared bound.hold bound.hold_is bound.few limits fine s v now.well Ticked
+    now = paid_on app accepted form counted.Steps i declared bound.hold bound.hold_is bound.few limits fine s v
+        now.well Ticked
         now.runs.0 (λ irq is. cc) stretch.paid stretch.now stretch.now.numbered stretch.now.known;
     reserve = stretch.reserve;
     all = stretch.all;
     within = stretch.within;
     owe = stretch.owe;
     owing =
-        let same = ready_same app i (posts app accepted form i) s.values s.values stretch.paid
+        let same = ready_same app counted.Steps i
+        (posts app accepted form counted.Steps i) s.values s.values stretch.paid
         (paid_behind app Ticked stretch.paid) (λ q. refl) (λ q at. omega arith) in
         let owing = stretch.owing in omega (arith, same, owing);
     fits = stretch.fits;
   }
 
-  on_arrival : (s : State) (v : Observer) (waits : Waits) (irq : ℕ) (labels : List Label)
+  pub tick_paid : (s : State) (v : Observer) (waits : Waits) (steps : ℕ) (labels : List Label)
+      (now : Now s v waits (Ticked ∷ labels)) (stretch : In s waits steps)
+      → (in_tick s v waits steps labels now stretch).paid ≡ paid_behind app Ticked stretch.paid
+  unfolding in_tick
+  tick_paid s v waits steps labels now stretch = refl
+
+  pub tick_counts : (s : State) (v : Observer) (waits : Waits) (steps : ℕ) (labels : List Label)
+      (now : Now s v waits (Ticked ∷ labels)) (stretch : In s waits steps)
+      → (in_tick s v waits steps labels now stretch).counts ≡ stretch.counts
+  unfolding in_tick
+  tick_counts s v waits steps labels now stretch = refl
+
+  pub on_arrival : (s : State) (v : Observer) (waits : Waits) (irq : ℕ) (labels : List Label)
       → (now : Now s v waits (Arrived irq ∷ labels))
       → Now (after app s (Arrived irq)) (sees app v (Arrived irq)) (requested irq now.spaced.0 waits) labels
   on_arrival s v waits irq labels now = record {
@@ -113,7 +131,7 @@ module _ (app : App) (accepted : IsAccepted app) (form : is_of_form app ≡ true
     unspent = λ n. now.unspent (suc n);
   }
 
-  in_arrival : (s : State) (v : Observer) (waits : Waits) (irq steps : ℕ) (labels : List Label)
+  pub in_arrival : (s : State) (v : Observer) (waits : Waits) (irq steps : ℕ) (labels : List Label)
       → (now : Now s v waits (Arrived irq ∷ labels)) → In s waits steps
       → In (after app s (Arrived irq)) (requested irq now.spaced.0 waits) steps
   in_arrival s v waits irq steps labels now stretch =
@@ -121,14 +139,30 @@ module _ (app : App) (accepted : IsAccepted app) (form : is_of_form app ≡ true
       now.short
       now.runs.0 now.spaced.1 now.spaced.2 stretch
 
-  no_ring : (s : State) (v : Observer) (waits : Waits) (labels : List Label) → Now s v waits (Rang ∷ labels) → ⊥
+  pub arrival_paid : (s : State) (v : Observer) (waits : Waits) (irq steps : ℕ) (labels : List Label)
+      (now : Now s v waits (Arrived irq ∷ labels)) (stretch : In s waits steps)
+      → (in_arrival s v waits irq steps labels now stretch).paid ≡ paid_behind app (Arrived irq) stretch.paid
+  unfolding in_arrival
+  arrival_paid s v waits irq steps labels now stretch =
+      request_paid app accepted form limits fine i declared least bound s v now.well waits steps irq now.spaced.0
+      now.short now.runs.0 now.spaced.1 now.spaced.2 stretch
+
+  pub arrival_counts : (s : State) (v : Observer) (waits : Waits) (irq steps : ℕ) (labels : List Label)
+      (now : Now s v waits (Arrived irq ∷ labels)) (stretch : In s waits steps)
+      → (in_arrival s v waits irq steps labels now stretch).counts ≡ one_more irq stretch.counts
+  unfolding in_arrival
+  arrival_counts s v waits irq steps labels now stretch =
+      request_more app accepted form limits fine i declared least bound s v now.well waits steps irq now.spaced.0
+      now.short now.runs.0 now.spaced.1 now.spaced.2 stretch
+
+  pub no_ring : (s : State) (v : Observer) (waits : Waits) (labels : List Label) → Now s v waits (Rang ∷ labels) → ⊥
   no_ring s v waits labels now = true_and_false s.owing now.runs.0 now.not_owing
 
-  case_at : (s : State) (v : Observer) (waits : Waits) (shown : Option What) (labels : List Label)
+  pub case_at : (s : State) (v : Observer) (waits : Waits) (shown : Option What) (labels : List Label)
       → Now s v waits (Stepped shown ∷ labels) → StepCase app accepted s v shown
   case_at s v waits shown labels now = step_case app accepted s v now.well shown now.runs.0
 
-  on_core_step : (s : State) (v : Observer) (waits : Waits) (shown : Option What) (steps : ℕ) (labels : List Label)
+  pub on_core_step : (s : State) (v : Observer) (waits : Waits) (shown : Option What) (steps : ℕ) (labels : List Label)
       → Now s v waits (Stepped shown ∷ labels) → In s waits steps
       → Now (after app s (Stepped shown)) (sees app v (Stepped shown)) (a_step_on waits) labels
   on_core_step s v waits shown steps labels now stretch =
@@ -170,7 +204,8 @@ module _ (app : App) (accepted : IsAccepted app) (form : is_of_form app ≡ true
     behind = labels;
     parts = refl;
     in_time = omega arith;
-    nothing = nothing_left app accepted form i declared bound.hold bound.hold_is bound.few s stretch.paid
+    nothing = nothing_left app accepted form counted.Steps i declared bound.hold bound.hold_is bound.few
+        (steps_timed app) s stretch.paid
         stretch.reserve
         stretch.all (now.unspent 0) stretch.owe stretch.now (omega (arith, none)) (omega (arith, none));
   }
@@ -219,7 +254,8 @@ module _ (app : App) (accepted : IsAccepted app) (form : is_of_form app ≡ true
         behind = labels;
         parts = refl;
         in_time = omega arith;
-        nothing = nothing_left app accepted form i declared bound.hold bound.hold_is bound.few
+        nothing = nothing_left app accepted form counted.Steps i declared bound.hold bound.hold_is bound.few
+            (steps_timed app)
             (after app s (Stepped shown)) paid reserve all (next.unspent 0) owe paid_now none clear;
       }
       by later (On on more) = one_on s (Stepped shown) labels k (suc k) (omega arith) (later on)
@@ -260,7 +296,7 @@ module _ (app : App) (accepted : IsAccepted app) (form : is_of_form app ≡ true
       })
 
   -- requests behind the end of `init` are apart as the limits say
-  spaced_behind : (labels during behind : List Label) → Kept limits labels → labels ≡ during ++ end_of_init ∷ behind
+  pub spaced_behind : (labels during behind : List Label) → Kept limits labels → labels ≡ during ++ end_of_init ∷ behind
       → KeptFrom limits (λ irq. 0) behind
   spaced_behind labels during behind kept parts = record {
     near = λ between rest irq is. omega arith;

@@ -13,12 +13,13 @@ use Rattle.rt_actions.specs.Location.{Guarded}
 use Rattle.rt_actions.specs.Content.{Message, Values, messages}
 use Rattle.rt_app.specs.declared.costs.TheConstants.{PRIORITIES}
 use Rattle.rt_app.specs.Tree.{App}
-use Rattle.rt_app.specs.BodyCost.{dispatcher_cost}
 use Rattle.rt_app.specs.Level.{is_of_level, levels}
 use Rattle.rt_app.proofs.SoundCeilings.{those_all}
 use Rattle.rt_respond.specs.Handlers.{handlers, is_at}
 use Rattle.rt_respond.specs.Work.{release_work}
+use Rattle.rt_respond.specs.declared.handler.Quantity.{Quantity}
 use Rattle.rt_respond.specs.declared.handler.Handler.{Handler}
+use Rattle.rt_respond_laws.proofs.Weights.{turn_weight}
 use Rattle.rt_respond_laws.proofs.Sending.{Posting}
 use Rattle.rt_respond_laws.proofs.Bodies.{sends_of}
 use Rattle.rt_respond_laws.proofs.Claims.{IsLevelAt}
@@ -114,7 +115,7 @@ level_small app q known =
     (those_all (λ p. p < PRIORITIES) (λ p. list_any (is_of_level p) app.tasks) PRIORITIES (λ p below is. below))
     there.1
 
-module _ (app : App) (i : Handler) (posts : Posting) where
+module _ (app : App) (what : Quantity) (i : Handler) (posts : Posting) where
   -- a level whose dispatcher is at the handler
   abbrev is_its : ℕ → Handler → Bool
   is_its q h = (h.is_dispatcher && (h.priority == q)) && is_at i h
@@ -145,7 +146,7 @@ module _ (app : App) (i : Handler) (posts : Posting) where
 
   -- what the bodies of messages release
   abbrev pub extra : Message → ℕ
-  extra m = or_zero (sends_of app (release_work app i) posts m.task)
+  extra m = or_zero (sends_of app (release_work app what i) posts m.task)
 
   abbrev pub extras : List Message → ℕ
   extras [] = 0
@@ -157,7 +158,7 @@ module _ (app : App) (i : Handler) (posts : Posting) where
 
   -- a turn of a level's dispatcher
   abbrev pub turn_cost : ℕ → ℕ
-  turn_cost q = dispatcher_cost app q + 1
+  turn_cost q = turn_weight app what q
 
   -- what these ready messages of a level ask for, where so many turns are paid
   abbrev pub level_owes : ℕ → List Message → ℕ → ℕ
@@ -363,9 +364,9 @@ module _ (app : App) (i : Handler) (posts : Posting) where
   ]
 
   -- where they ask for nothing, as many turns are taken as there are
-  pub all_taken : (vs : Values) (taken : ℕ → ℕ) → owed_ready vs taken ≡ 0 → (q : ℕ) → IsLevelAt app i q
-      → q < PRIORITIES → length (messages (vs (Guarded (section.Ready q)))) ≤ taken q
-  all_taken vs taken none q at small =
+  pub all_taken : ((q : ℕ) → 0 < turn_cost q) → (vs : Values) (taken : ℕ → ℕ) → owed_ready vs taken ≡ 0 → (q : ℕ)
+      → IsLevelAt app i q → q < PRIORITIES → length (messages (vs (Guarded (section.Ready q)))) ≤ taken q
+  all_taken costs vs taken none q at small =
       let part = part_within (λ q. level_owes q (messages (vs (Guarded (section.Ready q)))) (taken q)) q PRIORITIES
       small
       in
@@ -381,4 +382,4 @@ module _ (app : App) (i : Handler) (posts : Posting) where
       by (suc k) is few =
           let product = ap (λ n. n * turn_cost q) is in
           let some : turn_cost q ≤ suc k * turn_cost q = omega arith in
-          absurd (omega (arith, few, product, some))
+          let cost = costs q in absurd (omega (arith, few, product, some, cost))

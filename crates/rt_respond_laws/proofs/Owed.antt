@@ -19,14 +19,15 @@ use Rattle.rt_respond.specs.Number.{times, total_of}
 use Rattle.rt_respond.specs.Handlers.{handlers, is_at}
 use Rattle.rt_respond.specs.Work.{handler_asks, work}
 use Rattle.rt_respond.specs.Response.{requests_ask, limit_demand}
+use Rattle.rt_respond.specs.declared.handler.Quantity.{Quantity}
 use Rattle.rt_respond.specs.declared.handler.Handler.{Handler}
 use Rattle.rt_respond.specs.declared.number.TheConstants.{MOST_WORK}
 use Rattle.rt_respond_laws.proofs.Sending.{sums, multiple}
 use Rattle.rt_respond_laws.proofs.Asking.{Distinct}
 
-module _ (app : App) (i : Handler) where
+module _ (app : App) (what : Quantity) (i : Handler) where
   abbrev asks : Handler → ℕ
-  asks h = or_zero (work app i h)
+  asks h = or_zero (work app what i h)
 
   -- what these handlers ask for, where their interrupts are pending
   abbrev pub owed_pending : List Bool → List Handler → ℕ
@@ -39,13 +40,13 @@ module _ (app : App) (i : Handler) where
   asks_in n (h ∷ hs) = if h.number == n then asks h else asks_in n hs
 
   pub asks_is : (n : ℕ) (hs : List Handler) → asks_in n hs
-      ≡ or_zero (handler_asks (work app i) (find (λ h. h.number == n) hs))
+      ≡ or_zero (handler_asks (work app what i) (find (λ h. h.number == n) hs))
   asks_is n [] = refl
   asks_is n (h ∷ hs) = by (h.number == n) (asks_is n hs)
     where
-      by : (b : Bool) → asks_in n hs ≡ or_zero (handler_asks (work app i) (find (λ h. h.number == n) hs))
+      by : (b : Bool) → asks_in n hs ≡ or_zero (handler_asks (work app what i) (find (λ h. h.number == n) hs))
           → (if b then asks h else asks_in n hs)
-          ≡ or_zero (handler_asks (work app i) (if b then Some h else find (λ h. h.number == n) hs))
+          ≡ or_zero (handler_asks (work app what i) (if b then Some h else find (λ h. h.number == n) hs))
       by true rest = refl
       by false rest = rest
 
@@ -142,7 +143,7 @@ module _ (app : App) (i : Handler) where
     pub handler : Handler
     pub there : IsIn hs handler
     pub set : slice_index_or ps handler.number false ≡ true
-    pub some : 0 < or_zero (work app i handler)
+    pub some : 0 < or_zero (work app what i handler)
 
   pub one_asks : (ps : List Bool) (hs : List Handler) → 0 < owed_pending ps hs → IsAsked ps hs
   one_asks ps [] some = absurd (omega (arith, some))
@@ -210,20 +211,20 @@ module _ (app : App) (i : Handler) where
             let here = mul-le-mul_right (asks_in limit.irq wires) (counted irq limit.irq counts) in
             omega (arith, rest, here)
 
-    module _ (behind_asks : (h : Handler) → IsIn wires h → is_at i h ≡ false → work app i h ≡ Some 0)
+    module _ (behind_asks : (h : Handler) → IsIn wires h → is_at i h ≡ false → work app what i h ≡ Some 0)
         (found : (n : ℕ) (h : Handler) → find (λ h. h.number == n) wires ≡ Some h → IsIn wires h)
         (limits : List Limit) (steps : ℕ) where
       -- so many requests of a handler ask for no more than that
       asks_within : (irq count n x : ℕ) (o : Option Handler) → find (λ h. h.number == irq) wires ≡ o
-          → 1 ≤ n → count ≤ n → requests_ask app limits i n o ≡ Some x → x < MOST_WORK
-          → (count * or_zero (handler_asks (work app i) o) ≤ x) × IsSome (handler_asks (work app i) o)
+          → 1 ≤ n → count ≤ n → requests_ask app limits what i n o ≡ Some x → x < MOST_WORK
+          → (count * or_zero (handler_asks (work app what i) o) ≤ x) × IsSome (handler_asks (work app what i) o)
       asks_within irq count n x None there some few is below = (omega arith, refl)
       asks_within irq count n x (Some h) there some few is below = by (is_at i h) refl is
         where
-          by : (b : Bool) → is_at i h ≡ b → (if b then times n (work app i h) else Some 0) ≡ Some x
-              → (count * or_zero (work app i h) ≤ x) × IsSome (work app i h)
+          by : (b : Bool) → is_at i h ≡ b → (if b then times n (work app what i h) else Some 0) ≡ Some x
+              → (count * or_zero (work app what i h) ≤ x) × IsSome (work app what i h)
           by true at all =
-              let many = multiple n (work app i h) x some all below in
+              let many = multiple n (work app what i h) x some all below in
               let one = ap or_zero many.one_is in
               let most = mul-le-mul_right many.one few in
               let sum = many.all in
@@ -233,7 +234,7 @@ module _ (app : App) (i : Handler) where
               )
           by false behind all =
               let none = behind_asks h (found irq h there) behind in
-              let zero_is : count * or_zero (work app i h) ≡ count * 0 = ap (λ o. count * or_zero o) none in (
+              let zero_is : count * or_zero (work app what i h) ≡ count * 0 = ap (λ o. count * or_zero o) none in (
                 omega (arith, zero_is),
                 subst IsSome (sym none) refl,
               )
@@ -242,18 +243,19 @@ module _ (app : App) (i : Handler) where
       pub raised_within : (counts : Counts) (ls : List Limit) (all : ℕ)
           → AllByRecursion (λ l. (1 ≤ most_requests steps l.every) × (counts l.irq ≤ most_requests steps l.every)
           × (find (λ h. h.number == l.irq) (handlers app) ≡ find (λ h. h.number == l.irq) wires)) ls
-          → total_of (map (limit_demand app limits i steps) ls) ≡ Some all → all < MOST_WORK
-          → (raised counts ls ≤ all) × AllByRecursion (λ l. IsSome (handler_asks (work app i)
+          → total_of (map (limit_demand app limits what i steps) ls) ≡ Some all → all < MOST_WORK
+          → (raised counts ls ≤ all) × AllByRecursion (λ l. IsSome (handler_asks (work app what i)
           (find (λ h. h.number == l.irq) wires))) ls
       raised_within counts [] all few is below = (omega arith, tt)
       raised_within counts (limit ∷ ls) all few is below =
-          let parts = sums (limit_demand app limits i steps limit) (total_of (map (limit_demand app limits i steps) ls))
+          let parts = sums (limit_demand app limits what i steps limit) (total_of (map
+          (limit_demand app limits what i steps) ls))
           all is below in
           let sum = parts.sum in
           let rest = raised_within counts ls parts.second few.1 parts.second_is (omega (arith, sum, below)) in
           let here = asks_within limit.irq (counts limit.irq) (most_requests steps limit.every) parts.first
           (find (λ h. h.number == limit.irq) wires) refl few.0.0 few.0.1
-          (sym (ap (requests_ask app limits i (most_requests steps limit.every)) few.0.2) ∙ parts.first_is)
+          (sym (ap (requests_ask app limits what i (most_requests steps limit.every)) few.0.2) ∙ parts.first_is)
           (omega (arith, sum, below)) in
           let own = ap (λ m. counts limit.irq * m) (asks_is limit.irq wires) in
           let first = here.0 in

@@ -1,5 +1,5 @@
 -- How turns of dispatchers are paid from one moment of a run to the next.
-use Rattle.std.proofs.Common.{◌≡◌, ℕ, ◌+◌, ◌-◌, ◌<◌, true, Contains, List, [], Some, IsSome, ap, arith}
+use Rattle.std.proofs.Common.{◌≡◌, ℕ, ◌+◌, ◌-◌, true, Contains, List, [], Some, IsSome, ap, arith}
 use Rattle.rt_lemmas.proofs.Lists.{find_has}
 use Rattle.rt_ids.specs.Choice.{IsIn}
 use Rattle.rt_ids.specs.declared.ids.Section.TheVariants as section
@@ -26,8 +26,9 @@ use Rattle.rt_rta.specs.declared.limits.Limit.{Limit}
 use Rattle.rt_respond.specs.Blocking.{blocking}
 use Rattle.rt_respond.specs.Form.{is_of_form}
 use Rattle.rt_respond.specs.Handlers.{handlers}
+use Rattle.rt_respond.specs.declared.handler.Quantity.{Quantity}
 use Rattle.rt_respond.specs.declared.handler.Handler.{Handler}
-use Rattle.rt_respond.specs.declared.number.TheConstants.{MOST_WORK}
+use Rattle.rt_respond_laws.proofs.Weights.{Weighs}
 use Rattle.rt_respond_laws.proofs.Passing.{SameReady}
 use Rattle.rt_respond_laws.proofs.Turning.{turn}
 use Rattle.rt_respond_laws.proofs.Turns.{OneOn, one_label, other_request}
@@ -49,14 +50,15 @@ take_same app accepted s queued irq x at q =
     → IsFine app (Serving irq) x.priority n [] vs (handler_doing app x.handler vs)) _ (services app) x
     (services_fine app accepted irq) at 0 s.values queued) (section.Ready q) tt)
 
-module _ (app : App) (accepted : IsAccepted app) (form : is_of_form app ≡ true) (i : Handler)
-    (declared : IsIn (handlers app) i) (hold : ℕ) (hold_is : blocking app i ≡ Some hold) (few : hold < MOST_WORK)
+module _ (app : App) (accepted : IsAccepted app) (form : is_of_form app ≡ true) (what : Quantity) (i : Handler)
+    (declared : IsIn (handlers app) i) (hold : ℕ) (hold_is : blocking app what i ≡ Some hold)
+    (few : Weighs app what i hold)
     (limits : List Limit) (fine : rta.AreLimits app limits) where
   abbrev PaidIn : State → (ℕ → ℕ) → Type 0
-  PaidIn = Paid app accepted form i declared hold hold_is few
+  PaidIn = Paid app accepted form what i declared hold hold_is few
 
   abbrev PaysIn : Label → (ℕ → ℕ) → (ℕ → ℕ) → Type 0
-  PaysIn = Pays app accepted form i declared hold hold_is few
+  PaysIn = Pays app accepted form what i declared hold hold_is few
 
   -- a label's request is of an interrupt with a limit
   abbrev pub IsLimited : Label → Type 0
@@ -72,14 +74,14 @@ module _ (app : App) (accepted : IsAccepted app) (form : is_of_form app ≡ true
 
     pub pays_on : PaysIn label paid (paid_behind app label paid)
     pays_on q at =
-        let level = at_known app accepted form i declared hold hold_is few q at in
+        let level = at_known app accepted form what i declared hold hold_is few q at in
         let count = (one q level).count in
         let same = now.counts q level in
         omega (arith, count, same)
 
     -- with what is known of the interrupts and messages behind it
-    pub paid_on : Numbered app accepted form i declared hold hold_is few (after app s label).pending
-        → Knows app accepted form i declared hold hold_is few (after app s label).values
+    pub paid_on : Numbered app accepted form what i declared hold hold_is few (after app s label).pending
+        → Knows app accepted form what i declared hold hold_is few (after app s label).values
         → PaidIn (after app s label) (paid_behind app label paid)
     paid_on numbered known = record {
       numbered = numbered;

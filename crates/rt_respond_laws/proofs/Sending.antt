@@ -9,8 +9,11 @@ use Rattle.rt_lemmas.proofs.Bools.{or_left, or_right}
 use Rattle.rt_ids.specs.Lists.{or_zero}
 use Rattle.rt_ids.specs.declared.ids.Section.TheVariants as section
 use Rattle.rt_actions.specs.Content.{Message, Values}
-use Rattle.rt_actions.specs.Action.{Action, Leaves, Posts, Places, FindsFull, Readies, SetsAlarm}
+use Rattle.rt_actions.specs.Action.{Action, Leaves, Posts, Places, FindsFull, Readies, Starts, Frees, Arms}
+use Rattle.rt_actions.specs.Action.{Fires, Cancels, SetsAlarm}
 use Rattle.rt_actions.specs.Doing.{Doing, over, does}
+use Rattle.rt_trace.specs.declared.item.What.{What}
+use Rattle.rt_trace.specs.declared.item.What.TheVariants as what
 use Rattle.rt_app.specs.declared.expr.Atom.{Atom}
 use Rattle.rt_app.specs.declared.expr.Atom.TheVariants as atom
 use Rattle.rt_app.specs.Tree.{Expression, Spawn, Soon, After, Cancel, Move, Calc, Now, Call, Statement, Bind, Assign}
@@ -25,6 +28,8 @@ use Rattle.rt_app.specs.Sending.{spawn_actions}
 use Rattle.rt_app.specs.Meaning.{Later, value_in, assign, turns_from, run, run_block}
 use Rattle.rt_app.specs.Sound.{IsSoundSpawn, IsSoundStatement, IsSoundBlock}
 use Rattle.rt_laws.proofs.Fine.{Queued}
+use Rattle.rt_laws.specs.Places.{Hand}
+use Rattle.rt_laws.proofs.Hands.{InTransit, Bare, Forwards, GivesBack, hand_of, transit_then}
 use Rattle.rt_respond.specs.Form.{is_of_form}
 use Rattle.rt_respond.specs.Number.{plus, greater_of, times}
 use Rattle.rt_respond.specs.Pends.{statement_pends, block_pends}
@@ -34,17 +39,63 @@ use Rattle.rt_respond.specs.declared.handler.Release.TheVariants as released_by
 use Rattle.rt_respond.specs.declared.number.TheConstants.{MOST_WORK}
 use Rattle.rt_respond_laws.proofs.Tasks.{software_level, task_priority_is, no_mono}
 
--- what a post of an interrupt of this number asks for, and a message of this task that becomes ready
+-- what a post of an interrupt of this number asks for, a message of this task that becomes ready, and a place of it
+-- that is asked for
 pub record Posting : Type 0 where
   pub irq : ℕ → Option ℕ
   pub task : ℕ → Option ℕ
+  pub place : ℕ → ℕ
 
--- what an action releases; one that sets the alarm has no number, since no code does where there is no monotonic
+-- what an action releases: one that asks for a place, whether it is there or all are out, or leaves one in the hands of
+-- its job, releases that place; one that sets the alarm has no number, since no code does where there is no monotonic
 abbrev pub released : Posting → Action → Option ℕ
 released posts (Posts irq) = posts.irq irq
 released posts (Readies q m) = posts.task m.task
+released posts (Places n) = Some (posts.place n)
+released posts (FindsFull n) = Some (posts.place n)
+released posts (Starts q m) = Some (posts.place m.task)
+released posts (Fires m) = Some (posts.place m.task)
+released posts (Cancels n h) = Some (posts.place n)
 released posts SetsAlarm = None
 released posts action = Some 0
+
+-- what counts of the place that a job has in its hands
+abbrev pub place_of : Posting → InTransit → ℕ
+place_of posts Bare = 0
+place_of posts (Forwards t) = posts.place t
+place_of posts (GivesBack t) = posts.place t
+
+abbrev pub in_hand : Posting → Hand → ℕ
+in_hand posts None = 0
+in_hand posts (Some t) = posts.place t
+
+pub in_hand_is : (posts : Posting) (hand : InTransit) → in_hand posts (hand_of hand) ≡ place_of posts hand
+in_hand_is posts Bare = refl
+in_hand_is posts (Forwards t) = refl
+in_hand_is posts (GivesBack t) = refl
+
+-- of that in the hands of the running job
+abbrev pub head_in : Posting → List Hand → ℕ
+head_in posts [] = 0
+head_in posts (hand ∷ hands) = in_hand posts hand
+
+-- an action puts no more in the hands than it releases
+pub held_more : (posts : Posting) (hand : InTransit) (action : Action) (now : ℕ) → released posts action ≡ Some now
+    → place_of posts (transit_then hand action) ≤ place_of posts hand + now
+held_more posts hand (Places n) now is = let same = same_Some (posts.place n) now is in omega (arith, same)
+held_more posts hand (Starts q m) now is = let same = same_Some (posts.place m.task) now is in omega (arith, same)
+held_more posts hand (Fires m) now is = let same = same_Some (posts.place m.task) now is in omega (arith, same)
+held_more posts hand (Cancels n h) now is = let same = same_Some (posts.place n) now is in omega (arith, same)
+held_more posts hand (Readies q m) now is = omega arith
+held_more posts hand (Arms k m) now is = omega arith
+held_more posts hand (Frees n) now is = omega arith
+held_more posts hand action now is = omega arith
+
+-- the place that is asked for where this is shown, which is taken or not
+abbrev pub place_taken : Posting → Option What → ℕ
+place_taken posts (Some (what.Placed n)) = posts.place n
+place_taken posts (Some (what.Full n)) = posts.place n
+place_taken posts shown = 0
 
 -- a Doing releases at most so much: its next action a part of it, and all that follows at most another
 abbrev pub AtMost : App → Posting → ℕ → Doing Values → Type 0
@@ -122,12 +173,18 @@ multiple count (Some one) k some is below =
     let same : min (count * one) MOST_WORK ≡ k = same_Some (min (count * one) MOST_WORK) k is in
     record { one = one; one_is = refl; all = omega (arith, same, below) }
 
+-- what a message asks for, with its place, where a `spawn` asks for so much
+pub record Split (posts : Posting) (n k : ℕ) : Type 0 where
+  pub ready : ℕ
+  pub is : posts.task n ≡ Some ready
+  pub sum : posts.place n + ready ≤ k
+
 -- what posts and messages ask for is what `pend` and `spawn` statements do: of the interrupts that code may pend, and
 -- of all tasks; the dispatchers' interrupts, which go with messages, ask for nothing of their own
 pub record Agrees (app : App) (asks : Release → Option ℕ) (posts : Posting) (Allowed : ℕ → Type 0) : Type 0 where
   pub pends : (j : ℕ) → j < length app.irqs → Allowed j
       → posts.irq (or_zero (irq_number app j)) ≡ asks (released_by.Request j)
-  pub sends : (n : ℕ) → posts.task n ≡ asks (released_by.Message n)
+  pub sends : (n k : ℕ) → asks (released_by.Message n) ≡ Some k → Split posts n k
   pub turns : (r : ℕ) → Contains (levels app) r → posts.irq (dispatcher_number app r) ≡ Some 0
 
 -- a block pends such interrupts alone
@@ -209,15 +266,17 @@ module _ (app : App) (accepted : IsAccepted app) (form : is_of_form app ≡ true
   )
 
   place_at_most : (t n : ℕ) (granted refused : Rest) → RestAtMost app posts n granted → RestAtMost app posts n refused
-      → RestAtMost app posts n (place_actions app t granted refused)
+      → RestAtMost app posts (posts.place t + n) (place_actions app t granted refused)
   place_at_most t n granted refused first second vs =
-      (0, n, refl, omega arith, λ a us good. go (has_place app t us) us)
+      (0, posts.place t + n, refl, omega arith, λ a us good. go (has_place app t us) us)
     where
-      go : (b : Bool) (ws : Values) → AtMost app posts n
+      go : (b : Bool) (ws : Values) → AtMost app posts (posts.place t + n)
           (if b then act_all (Places t ∷ Leaves (section.Free t) ∷ []) granted ws
           else act_all (FindsFull t ∷ Leaves (section.Free t) ∷ []) refused ws)
-      go true ws = (0, n, refl, omega arith, λ b xs good. (0, n, refl, omega arith, λ c ys fine. first ys))
-      go false ws = (0, n, refl, omega arith, λ b xs good. (0, n, refl, omega arith, λ c ys fine. second ys))
+      go true ws =
+          (posts.place t, n, refl, omega arith, λ b xs good. (0, n, refl, omega arith, λ c ys fine. first ys))
+      go false ws =
+          (posts.place t, n, refl, omega arith, λ b xs good. (0, n, refl, omega arith, λ c ys fine. second ys))
 
   -- a spawn releases its message, where it finds a place
   spawn_at_most : (locked : List ℕ) (value : Expression → ℕ) (s : Spawn) (k n : ℕ) (rest : ℕ → Rest)
@@ -229,9 +288,13 @@ module _ (app : App) (accepted : IsAccepted app) (form : is_of_form app ≡ true
       subst (Contains (levels app)) (sym (task_priority_is app accepted t task sound.1.is_there))
       (software_level app accepted t task sound.1.is_there sound.1.software) in
       let message : Message = record { task = t; args = map value args } in
-      place_at_most t (k + n) (act_all (ready_actions app (task_priority app t) message) (rest 1)) (rest 0)
-      (ready_at_most (task_priority app t) message k n (rest 1) known (agree.sends t ∙ is) (later 1))
-      (λ vs. at_most_more app posts n (k + n) _ (later 0 vs) (omega arith))
+      let split = agree.sends t k is in
+      let sum = split.sum in λ vs.
+      at_most_more app posts (posts.place t + (split.ready + n)) (k + n)
+      (place_actions app t (act_all (ready_actions app (task_priority app t) message) (rest 1)) (rest 0) vs)
+      (place_at_most t (split.ready + n) (act_all (ready_actions app (task_priority app t) message) (rest 1)) (rest 0)
+      (ready_at_most (task_priority app t) message split.ready n (rest 1) known split.is (later 1))
+      (λ us. at_most_more app posts n (split.ready + n) _ (later 0 us) (omega arith)) vs) (omega (arith, sum))
   spawn_at_most locked value (After word delay t args at) k n rest sound is later =
       absurd (no_mono app accepted form sound.4.0 sound.4.1)
   spawn_at_most locked value (Cancel word t handle at) k n rest sound is later =

@@ -59,30 +59,32 @@ unfolding ends_init
 is_end = refl
 
 -- labels in which `init` ends have a first end
-pub first_end_in : (labels : List Label) → Contains labels end_of_init
-    → (during : List Label) × (behind : List Label) × InitEnds labels during behind
-first_end_in [] there = absurd (contains_none end_of_init there)
-first_end_in (label ∷ labels) there = by (λ deeper. first_end_in labels deeper) (ends_init label) refl
+abbrev EndsIn : List Label → Type 0
+EndsIn labels = (during : List Label) × (behind : List Label) × InitEnds labels during behind
+
+pub first_end_or_none : (labels : List Label) → (¬ Contains labels end_of_init) ⊎ EndsIn labels
+first_end_or_none [] = inl (contains_none end_of_init)
+first_end_or_none (label ∷ labels) = by (first_end_or_none labels) (ends_init label) refl
   where
-    by : (Contains labels end_of_init → (during : List Label) × (behind : List Label) × InitEnds labels during behind)
-        → (b : Bool) → ends_init label ≡ b
-        → (during : List Label) × (behind : List Label) × InitEnds (label ∷ labels) during behind
-    by next true test = (
+    other : ends_init label ≡ false → ¬ (label ≡ end_of_init)
+    other test same = true_and_false (ends_init label) (ap ends_init same ∙ is_end) test
+
+    by : (¬ Contains labels end_of_init) ⊎ EndsIn labels → (b : Bool) → ends_init label ≡ b
+        → (¬ Contains (label ∷ labels) end_of_init) ⊎ EndsIn (label ∷ labels)
+    by deeper true test = inr (
       [],
       labels,
       record { parts = ap (λ l. l ∷ labels) (end_is label test); first_end = contains_none end_of_init },
     )
-    by next false test = behind_it (contains_cases label labels end_of_init there)
-      where
-        other : ¬ (label ≡ end_of_init)
-        other same = true_and_false (ends_init label) (ap ends_init same ∙ is_end) test
+    by (inl none) false test = inl (λ there. elim (contains_cases label labels end_of_init there) [
+      | inl same ↦ other test same
+      | inr later ↦ none later
+    ])
+    by (inr ends) false test =
+        inr (label ∷ ends.0, ends.1, ends_on label labels ends.0 ends.1 (other test) ends.2)
 
-        behind_it : (label ≡ end_of_init) ⊎ Contains labels end_of_init
-            → (during : List Label) × (behind : List Label) × InitEnds (label ∷ labels) during behind
-        behind_it (inl same) = absurd (other same)
-        behind_it (inr deeper) =
-            let ends = next deeper in
-            (label ∷ ends.0, ends.1, ends_on label labels ends.0 ends.1 other ends.2)
+pub first_end_in : (labels : List Label) → Contains labels end_of_init → EndsIn labels
+first_end_in labels there = elim (first_end_or_none labels) [ inl none ↦ absurd (none there) | inr ends ↦ ends ]
 
 -- behind the front of a run
 pub record Reached (app : App) (s : State) (front behind : List Label) (long : ℕ) : Type 0 where

@@ -1,8 +1,8 @@
 -- A stretch of a run in which something is left of a handler: it is over before the response time has passed.
-use Rattle.std.proofs.Common.{◌≡◌, ℕ, suc, ◌+◌, ◌-◌, ◌*◌, ◌≤◌, ◌<◌, ◌==◌, inl, inr, Bool, true, false}
-use Rattle.std.proofs.Common.{if◌then◌else◌, Contains, List, find, slice_get, slice_set, option_map}
+use Rattle.std.proofs.Common.{◌≡◌, ℕ, suc, ◌+◌, ◌-◌, ◌*◌, ◌≤◌, ◌<◌, ◌==◌, Bool, true, false}
+use Rattle.std.proofs.Common.{if◌then◌else◌, Contains, List, map, find, slice_get, slice_set, option_map}
 use Rattle.std.proofs.Common.{Option, Some, None, IsSome, refl, sym, ap, subst, ◌∙◌, arith, eq-eqb}
-use Rattle.std.proofs.lemmas.Bool.{eqb-true, cases_lt}
+use Rattle.std.proofs.lemmas.Bool.{eqb-true}
 use Rattle.std.proofs.lemmas.Nat.{le-div}
 use Rattle.std.proofs.lemmas.Option.{same_Some, none-some}
 use Rattle.rt_lemmas.proofs.Bools.{true_and_false}
@@ -11,7 +11,9 @@ use Rattle.rt_lemmas.proofs.Membership.{all_at, any_one}
 use Rattle.rt_ids.specs.Choice.{IsIn}
 use Rattle.rt_ids.specs.Lists.{is_some_and, then_from}
 use Rattle.rt_trace.specs.Label.{Arrived, Stepped}
+use Rattle.rt_trace.specs.Label.{Label}
 use Rattle.rt_trace.specs.declared.item.What.{What}
+use Rattle.rt_trace.specs.declared.item.What.TheVariants as what
 use Rattle.rt_app.specs.Tree.{Task, App}
 use Rattle.rt_app.specs.Accepted.{IsAccepted}
 use Rattle.rt_app.specs.Handlers.{irq_number, bound_number}
@@ -28,44 +30,48 @@ use Rattle.rt_rta.specs.Response.{most_requests}
 use Rattle.rt_rta.specs.declared.limits.Limit.{Limit}
 use Rattle.rt_rta.specs.declared.response.TheConstants.{MOST_STEPS}
 use Rattle.rt_rta.proofs.Owing.{Counts, one_more, other_set}
-use Rattle.rt_rta.proofs.Spacing.{Waits, requested, a_step_on}
+use Rattle.rt_rta.proofs.Spacing.{Waits, requested}
 use Rattle.rt_respond.specs.Form.{is_of_form}
 use Rattle.rt_respond.specs.Handlers.{handlers}
 use Rattle.rt_respond.specs.Work.{handler_asks, work, start}
 use Rattle.rt_respond.specs.Blocking.{blocking}
 use Rattle.rt_respond.specs.Response.{demand, backlog, Suffices}
+use Rattle.rt_respond.specs.declared.handler.Quantity.TheVariants as counted
 use Rattle.rt_respond.specs.declared.handler.Handler.{Handler}
 use Rattle.rt_respond.specs.declared.number.TheConstants.{MOST_WORK}
-use Rattle.rt_respond_laws.proofs.Sending.{sums, both_within}
+use Rattle.rt_respond_laws.proofs.Weights.{room_at, Weighs, steps_weigh, steps_timed}
+use Rattle.rt_respond_laws.proofs.Sending.{place_taken, sums, both_within}
 use Rattle.rt_respond_laws.proofs.Works.{behind_asks}
 use Rattle.rt_respond_laws.proofs.Tasks.{not_bound}
 use Rattle.rt_respond_laws.proofs.Handled.{of_level}
-use Rattle.rt_respond_laws.proofs.Asking.{wired, distinct, posts, found_wired, found_alike}
-use Rattle.rt_respond_laws.proofs.Claims.{owe_more, sets_none}
+use Rattle.rt_respond_laws.proofs.Asking.{wired, distinct, posts, found_wired, found_alike, steps_hand}
+use Rattle.rt_laws.specs.Places.{Hand}
+use Rattle.rt_laws.proofs.Hands.{hand_of}
+use Rattle.rt_respond_laws.proofs.Claims.{hands_of, owe_more, sets_none}
 use Rattle.rt_respond_laws.proofs.Cases.{StepCase, Takes, Goes}
 use Rattle.rt_respond_laws.proofs.Turning.{turn}
 use Rattle.rt_respond_laws.proofs.Levels.{ready_same}
 use Rattle.rt_respond_laws.proofs.Owed.{asks_in, pend_raises, raised, raised_none, raised_one, raised_within}
 use Rattle.rt_respond_laws.proofs.Lowering.{load, Owes, Numbered, Knows, some_handlers}
-use Rattle.rt_respond_laws.proofs.Waits.{Paid, Pays, Lowers}
-use Rattle.rt_respond_laws.proofs.Taking.{take_lowers_it, take_quiet}
+use Rattle.rt_respond_laws.proofs.Waits.{Wanted, is_wanted, Paid, Pays, Lowers, spends_less}
+use Rattle.rt_respond_laws.proofs.Taking.{take_lowers_it, none_at, take_quiet}
 use Rattle.rt_respond_laws.proofs.Loads.{job_lowers, job_quiet}
 use Rattle.rt_respond_laws.proofs.Paying.{paid_behind, take_same, pays_on, paid_on, IsLimited}
 
 -- the numbers of a response time
 pub record Bounded (app : App) (limits : List Limit) (i : Handler) (least : ℕ) : Type 0 where
   pub hold : ℕ
-  pub hold_is : blocking app i ≡ Some hold
-  pub few : hold < MOST_WORK
+  pub hold_is : blocking app counted.Steps i ≡ Some hold
+  pub few : Weighs app counted.Steps i hold
   pub begin : ℕ
-  pub begin_is : start app i ≡ Some begin
+  pub begin_is : start app counted.Steps i ≡ Some begin
   pub base : ℕ
   pub hold_within : hold ≤ base
   pub begin_within : begin ≤ base
   pub demanded : ℕ
-  pub demand_is : demand app limits i least ≡ Some demanded
+  pub demand_is : demand app limits counted.Steps i least ≡ Some demanded
   pub room : base + demanded ≤ least
-  pub small : least < MOST_WORK
+  pub small : least + 1 < MOST_WORK
   pub some : 1 ≤ least
 
 pub bounded : (app : App) (limits : List Limit) (i : Handler) (least : ℕ) → Suffices app limits i least
@@ -73,16 +79,17 @@ pub bounded : (app : App) (limits : List Limit) (i : Handler) (least : ℕ) → 
 bounded app limits i least suffices within =
     let covers = suffices.covers in
     let some = suffices.some in
-    let small : least < MOST_WORK = below within in
-    let parts = sums (backlog app limits i) (demand app limits i least) suffices.need suffices.needs
+    let small : least + 1 < MOST_WORK = below within in
+    let parts = sums (backlog app limits counted.Steps i)
+    (demand app limits counted.Steps i least) suffices.need suffices.needs
     (omega (arith, covers, small)) in
     let sum = parts.sum in
-    let both = both_within (blocking app i) (start app i) parts.first parts.first_is in
+    let both = both_within (blocking app counted.Steps i) (start app counted.Steps i) parts.first parts.first_is in
     let first = both.first_within in
     record {
       hold = both.first;
       hold_is = both.first_is;
-      few = omega (arith, first, sum, covers, small);
+      few = steps_weigh app i both.first (omega (arith, first, sum, covers, small));
       begin = both.second;
       begin_is = both.second_is;
       base = parts.first;
@@ -95,7 +102,7 @@ bounded app limits i least suffices within =
       some = some;
     }
   where
-    below : least ≤ MOST_STEPS → least < MOST_WORK
+    below : least ≤ MOST_STEPS → least + 1 < MOST_WORK
     below within =
         let steps : MOST_STEPS ≡ 1000000 = refl in
         let work : MOST_WORK ≡ 1000000000000 = refl in omega (arith, within, steps, work)
@@ -110,7 +117,8 @@ pub fits_start : (o : Option ℕ) (waits : ℕ) → ((every : ℕ) → o ≡ Som
 fits_start None waits short = refl
 fits_start (Some every) waits short = let few = short every refl in (omega arith, few.0, few.1)
 
-fits_step : (o : Option ℕ) (count steps waits : ℕ) → Fits o count steps waits → Fits o count (steps + 1) (waits - 1)
+pub fits_step : (o : Option ℕ) (count steps waits : ℕ) → Fits o count steps waits
+    → Fits o count (steps + 1) (waits - 1)
 fits_step None count steps waits fits = fits
 fits_step (Some every) count steps waits fits =
     let few = fits.0 in
@@ -133,23 +141,28 @@ module _ (app : App) (accepted : IsAccepted app) (form : is_of_form app ≡ true
   abbrev hold : ℕ
   hold = bound.hold
 
-  abbrev wires : List Handler
+  abbrev pub wires : List Handler
   wires = wired app accepted form
 
   abbrev pub load_now : State → (ℕ → ℕ) → ℕ
-  load_now = load app accepted form i declared hold bound.hold_is bound.few
+  load_now = load app accepted form counted.Steps i declared hold bound.hold_is bound.few
 
   abbrev pub OweAt : ℕ → ℕ → State → Type 0
-  OweAt reserve all s = Owes app accepted form i declared hold bound.hold_is bound.few reserve all s.jobs
+  OweAt reserve all s = Owes app accepted form counted.Steps i declared hold bound.hold_is bound.few reserve all s.jobs
 
   abbrev pub PaidNow : State → (ℕ → ℕ) → Type 0
-  PaidNow = Paid app accepted form i declared hold bound.hold_is bound.few
+  PaidNow = Paid app accepted form counted.Steps i declared hold bound.hold_is bound.few
 
   abbrev pub HaveNumbers : List Bool → Type 0
-  HaveNumbers = Numbered app accepted form i declared hold bound.hold_is bound.few
+  HaveNumbers = Numbered app accepted form counted.Steps i declared hold bound.hold_is bound.few
 
-  abbrev Lowered : State → State → (ℕ → ℕ) → (ℕ → ℕ) → ℕ → ℕ → ℕ → Type 0
-  Lowered = Lowers app accepted form i declared hold bound.hold_is bound.few
+  abbrev pub HandsAt : (reserve all : ℕ) (s : State) → OweAt reserve all s → List Hand
+  HandsAt reserve all s owe =
+      map hand_of (hands_of app counted.Steps i (posts app accepted form counted.Steps i) (room_at app counted.Steps i
+      hold) reserve all s.jobs owe)
+
+  abbrev pub Lowered : State → State → List Hand → Label → (ℕ → ℕ) → (ℕ → ℕ) → ℕ → ℕ → ℕ → Type 0
+  Lowered = Lowers app accepted form counted.Steps i declared hold bound.hold_is bound.few
 
   -- every interrupt with a limit may be requested again within it
   abbrev pub Short : Waits → Type 0
@@ -165,7 +178,7 @@ module _ (app : App) (accepted : IsAccepted app) (form : is_of_form app ≡ true
     pub all : ℕ
     pub within : reserve ≤ hold
     pub owe : OweAt reserve all s
-    pub owing : all + load_now s paid + reserve + steps ≤ bound.base + raised app i wires counts limits
+    pub owing : all + load_now s paid + reserve + steps ≤ bound.base + raised app counted.Steps i wires counts limits
     pub fits : (irq : ℕ) → Fits (rta.every_of limits irq) (counts irq) steps (waits irq)
 
   -- a limit says what is said of its interrupt
@@ -216,50 +229,58 @@ module _ (app : App) (accepted : IsAccepted app) (form : is_of_form app ≡ true
       let some = bound.some in
       le-div 1 (least + (row.every - 1)) row.every positive (omega (arith, some, positive))
 
-  abbrev WithinAll : Counts → List Limit → Type 0
+  abbrev pub WithinAll : Counts → List Limit → Type 0
   WithinAll counts ls = AllByRecursion (λ l. (1 ≤ most_requests least l.every) × (counts l.irq ≤ most_requests least
       l.every)
       × (find (λ h. h.number == l.irq) (handlers app) ≡ find (λ h. h.number == l.irq) wires)) ls
 
   all_within : (counts : Counts) → WithinAll counts limits
-      → (raised app i wires counts limits ≤ bound.demanded) × AllByRecursion (λ l. IsSome (handler_asks (work app i)
+      → (raised app counted.Steps i wires counts limits ≤ bound.demanded) × AllByRecursion (λ l. IsSome (handler_asks
+      (work app counted.Steps i)
       (find (λ h. h.number == l.irq) wires))) limits
   all_within counts each =
       let room = bound.room in
       let small = bound.small in
-      raised_within app i wires (λ h there behind. behind_asks app i h
-      (some_handlers app accepted form i declared hold bound.hold_is bound.few) behind)
+      raised_within app counted.Steps i wires (λ h there behind. behind_asks app counted.Steps i h
+      (some_handlers app accepted form counted.Steps i declared hold bound.hold_is bound.few) behind)
       (λ n h is. (found_wired app accepted form n h is).0) limits least counts limits bound.demanded each
       bound.demand_is (omega (arith, room, small))
 
-  -- what was requested asks for no more than is demanded
-  demands : (waits : Waits) (steps : ℕ) (counts : Counts) → steps < least
-      → ((irq : ℕ) → Fits (rta.every_of limits irq) (counts irq) steps (waits irq))
-      → raised app i wires counts limits ≤ bound.demanded
-  demands waits steps counts short fits =
-      (all_within counts
-      (all_in (λ l. (1 ≤ most_requests least l.every) × (counts l.irq ≤ most_requests least l.every)
+  -- so many requests of each interrupt may begin
+  pub each_within : (waits : Waits) (steps : ℕ) (counts : Counts) → steps < least
+      → ((irq : ℕ) → Fits (rta.every_of limits irq) (counts irq) steps (waits irq)) → WithinAll counts limits
+  each_within waits steps counts short fits =
+      all_in (λ l. (1 ≤ most_requests least l.every) × (counts l.irq ≤ most_requests least l.every)
       × (find (λ h. h.number == l.irq) (handlers app) ≡ find (λ h. h.number == l.irq) wires)) limits
       (λ row there. (
         some_begin row there,
         fits_within (rta.every_of limits row.irq) row.every (counts row.irq) steps (waits row.irq) least
             (own_every row there) (fits row.irq) short,
         limited_alike row there,
-      )))).0
+      ))
+
+  -- what was requested asks for no more than is demanded
+  pub demands : (waits : Waits) (steps : ℕ) (counts : Counts) → steps < least
+      → ((irq : ℕ) → Fits (rta.every_of limits irq) (counts irq) steps (waits irq))
+      → raised app counted.Steps i wires counts limits ≤ bound.demanded
+  demands waits steps counts short fits = (all_within counts (each_within waits steps counts short fits)).0
 
   -- each interrupt that may be requested asks for a number
-  requests_ask : (irq every : ℕ) → rta.every_of limits irq ≡ Some every → IsSome ((posts app accepted form i).irq irq)
+  requests_ask : (irq every : ℕ) → rta.every_of limits irq ≡ Some every
+      → IsSome ((posts app accepted form counted.Steps i).irq irq)
   requests_ask irq every is = by (find (λ (l : Limit). l.irq == irq) limits) refl is
     where
       by : (o : Option Limit) → find (λ (l : Limit). l.irq == irq) limits ≡ o
-          → option_map (λ (l : Limit). l.every) o ≡ Some every → IsSome ((posts app accepted form i).irq irq)
+          → option_map (λ (l : Limit). l.every) o ≡ Some every
+          → IsSome ((posts app accepted form counted.Steps i).irq irq)
       by None none same = absurd (none-some every same)
       by (Some row) there same =
           let passes : row.irq ≡ irq = eqb-true row.irq irq
           (found_passes (λ (l : Limit). l.irq == irq) limits row there)
           in
-          subst (λ n. IsSome ((posts app accepted form i).irq n)) passes
-          (find_has (λ l. IsSome ((posts app accepted form i).irq l.irq)) (λ (l : Limit). l.irq == irq) limits row
+          subst (λ n. IsSome ((posts app accepted form counted.Steps i).irq n)) passes
+          (find_has (λ l. IsSome ((posts app accepted form counted.Steps i).irq l.irq)) (λ
+          (l : Limit). l.irq == irq) limits row
           (all_within (λ n. 0)
           (all_in (λ l. (1 ≤ most_requests least l.every) × (0 ≤ most_requests least l.every)
           × (find (λ h. h.number == l.irq) (handlers app) ≡ find (λ h. h.number == l.irq) wires)) limits
@@ -267,7 +288,7 @@ module _ (app : App) (accepted : IsAccepted app) (form : is_of_form app ≡ true
 
   -- what is asked for is a number that did not stop
   small_all : (s : State) (waits : Waits) (steps : ℕ) → (stretch : Stretch s waits steps)
-      → stretch.all + load_now s stretch.paid + stretch.reserve < MOST_WORK
+      → stretch.all + load_now s stretch.paid + stretch.reserve + 1 < MOST_WORK
   small_all s waits steps stretch =
       let owing = stretch.owing in
       let most = demands waits steps stretch.counts stretch.short_of stretch.fits in
@@ -280,7 +301,7 @@ module _ (app : App) (accepted : IsAccepted app) (form : is_of_form app ≡ true
   fresh s waits paid reserve all now short within owe none clear =
       let some = bound.some in
       let base = bound.hold_within in
-      let zero = raised_none app i wires limits in
+      let zero = raised_none app counted.Steps i wires limits in
       record {
         short_of = omega (arith, some);
         counts = λ irq. 0;
@@ -289,26 +310,43 @@ module _ (app : App) (accepted : IsAccepted app) (form : is_of_form app ≡ true
         reserve = hold;
         all = all;
         within = omega arith;
-        owe = owe_more app i (posts app accepted form i) hold reserve hold all s.jobs within owe;
+        owe = owe_more app counted.Steps i (posts app accepted form counted.Steps i)
+            (room_at app counted.Steps i hold) reserve hold all s.jobs within owe;
         owing = omega (arith, none, clear, base, zero);
         fits = λ irq. fits_start (rta.every_of limits irq) (waits irq) (short irq);
       }
+
+  pub fresh_counts : (r : State) (later : Waits) (paid : ℕ → ℕ) (reserve all : ℕ) (now : PaidNow r paid)
+      (short : Short later) (within : reserve ≤ hold) (owe : OweAt reserve all r) (none : all ≡ 0)
+      (clear : load_now r paid ≡ 0)
+      → (fresh r later paid reserve all now short within owe none clear).counts ≡ (λ irq. 0)
+  unfolding fresh
+  fresh_counts r later paid reserve all now short within owe none clear = refl
+
+  pub fresh_paid : (r : State) (later : Waits) (paid : ℕ → ℕ) (reserve all : ℕ) (now : PaidNow r paid)
+      (short : Short later) (within : reserve ≤ hold) (owe : OweAt reserve all r) (none : all ≡ 0)
+      (clear : load_now r paid ≡ 0)
+      → (fresh r later paid reserve all now short within owe none clear).paid ≡ paid
+  unfolding fresh
+  fresh_paid r later paid reserve all now short within owe none clear = refl
 
   -- a request
   pub on_request : (s : State) (v : Observer) → StateWell app s v → (waits : Waits) (steps irq every : ℕ) → Short waits
       → May app s (Arrived irq) → rta.every_of limits irq ≡ Some every → waits irq ≡ 0 → Stretch s waits steps
       → Stretch (after app s (Arrived irq)) (requested irq every waits) steps
   on_request s v well waits steps irq every short may row now stretch =
-      let raises = pend_raises app i s.pending irq wires (distinct app accepted form) in
+      let raises = pend_raises app counted.Steps i s.pending irq wires (distinct app accepted form) in
       let one = request_counts (find (λ (l : Limit). l.irq == irq) limits) refl row in
       let owing = stretch.owing in
-      let same_load = ready_same app i (posts app accepted form i) s.values s.values stretch.paid
+      let same_load = ready_same app counted.Steps i
+      (posts app accepted form counted.Steps i) s.values s.values stretch.paid
       (paid_behind app (Arrived irq) stretch.paid) (λ q. refl) (λ q at. omega arith) in
       record {
         short_of = stretch.short_of;
         counts = one_more irq stretch.counts;
         paid = paid_behind app (Arrived irq) stretch.paid;
-        now = paid_on app accepted form i declared hold bound.hold_is bound.few limits fine s v well (Arrived irq) may
+        now = paid_on app accepted form counted.Steps i declared hold bound.hold_is bound.few limits fine s v well
+            (Arrived irq) may
             limited stretch.paid stretch.now (numbers_requested stretch.now.numbered) stretch.now.known;
         reserve = stretch.reserve;
         all = stretch.all;
@@ -328,8 +366,9 @@ module _ (app : App) (accepted : IsAccepted app) (form : is_of_form app ≡ true
       numbers_requested : HaveNumbers s.pending → HaveNumbers (slice_set s.pending irq true)
       numbers_requested numbered n set = by (n == irq) refl
         where
-          by : (b : Bool) → (n == irq) ≡ b → IsSome ((posts app accepted form i).irq n)
-          by true test = subst (λ k. IsSome ((posts app accepted form i).irq k)) (sym (eqb-true n irq test))
+          by : (b : Bool) → (n == irq) ≡ b → IsSome ((posts app accepted form counted.Steps i).irq n)
+          by true test = subst (λ k. IsSome ((posts app accepted form counted.Steps i).irq k)) (sym
+              (eqb-true n irq test))
               (requests_ask irq every row)
           by false test =
               numbered n (sym (other_set s.pending irq n true
@@ -337,10 +376,10 @@ module _ (app : App) (accepted : IsAccepted app) (form : is_of_form app ≡ true
 
       request_counts : (o : Option Limit) → find (λ (l : Limit). l.irq == irq) limits ≡ o
           → option_map (λ (l : Limit). l.every) o ≡ Some every
-          → raised app i wires stretch.counts limits + asks_in app i irq wires
-          ≤ raised app i wires (one_more irq stretch.counts) limits
+          → raised app counted.Steps i wires stretch.counts limits + asks_in app counted.Steps i irq wires
+          ≤ raised app counted.Steps i wires (one_more irq stretch.counts) limits
       request_counts None none same = absurd (none-some every same)
-      request_counts (Some l) there same = raised_one app i wires irq stretch.counts limits l there
+      request_counts (Some l) there same = raised_one app counted.Steps i wires irq stretch.counts limits l there
 
       of_row : (o : Option ℕ) (count : ℕ) → o ≡ Some every → Fits o count steps 0 → (1 ≤ every)
           → Fits o (suc count) steps every
@@ -358,6 +397,22 @@ module _ (app : App) (accepted : IsAccepted app) (form : is_of_form app ≡ true
           (short irq every row).1
       by k false test = stretch.fits k
 
+  pub request_paid : (s : State) (v : Observer) (well : StateWell app s v) (waits : Waits) (steps irq every : ℕ)
+      (short : Short waits) (may : May app s (Arrived irq)) (row : rta.every_of limits irq ≡ Some every)
+      (now : waits irq ≡ 0) (stretch : Stretch s waits steps)
+      → (on_request s v well waits steps irq every short may row now stretch).paid
+      ≡ paid_behind app (Arrived irq) stretch.paid
+  unfolding on_request
+  request_paid s v well waits steps irq every short may row now stretch = refl
+
+  pub request_more : (s : State) (v : Observer) (well : StateWell app s v) (waits : Waits) (steps irq every : ℕ)
+      (short : Short waits) (may : May app s (Arrived irq)) (row : rta.every_of limits irq ≡ Some every)
+      (now : waits irq ≡ 0) (stretch : Stretch s waits steps)
+      → (on_request s v well waits steps irq every short may row now stretch).counts
+      ≡ one_more irq stretch.counts
+  unfolding on_request
+  request_more s v well waits steps irq every short may row now stretch = refl
+
   -- what a step lowers, while something is left
   module _ (s : State) (v : Observer) (well : StateWell app s v) (shown : Option What) (may : May app s (Stepped shown))
       (case : StepCase app accepted s v shown) (waits : Waits) (steps : ℕ) (stretch : Stretch s waits steps) where
@@ -371,161 +426,121 @@ module _ (app : App) (accepted : IsAccepted app) (form : is_of_form app ≡ true
     abbrev pub left : ℕ
     left = stretch.all + load_now s stretch.paid
 
-    no_request : IsLimited app accepted form i declared hold bound.hold_is bound.few limits fine (Stepped shown)
+    no_request : IsLimited app accepted form counted.Steps i declared hold bound.hold_is bound.few limits fine
+        (Stepped shown)
     no_request irq is = cc
 
-    pub paid_then : HaveNumbers t.pending → Knows app accepted form i declared hold bound.hold_is bound.few t.values
+    pub paid_then : HaveNumbers t.pending → Knows app accepted form counted.Steps i declared hold bound.hold_is
+        bound.few t.values
         → PaidNow t then_paid
     paid_then numbered known =
-        paid_on app accepted form i declared hold bound.hold_is bound.few limits fine s v well (Stepped shown) may
+        paid_on app accepted form counted.Steps i declared hold bound.hold_is bound.few limits fine s v well
+        (Stepped shown) may
         no_request stretch.paid stretch.now numbered known
 
-    pays : Pays app accepted form i declared hold bound.hold_is bound.few (Stepped shown) stretch.paid then_paid
-    pays = pays_on app accepted form i declared hold bound.hold_is bound.few limits fine s v well (Stepped shown) may
+    pays : Pays app accepted form counted.Steps i declared hold bound.hold_is bound.few
+        (Stepped shown) stretch.paid then_paid
+    pays = pays_on app accepted form counted.Steps i declared hold bound.hold_is bound.few limits fine s v well
+        (Stepped shown) may
         no_request stretch.paid stretch.now
 
-    pub lowers_left : 0 < left → Lowered s t stretch.paid then_paid stretch.reserve stretch.all 1
+    abbrev pub own_hands : List Hand
+    own_hands = HandsAt stretch.reserve stretch.all s stretch.owe
+
+    -- with all in reserve
+    pub full : OweAt hold stretch.all s
+    full = owe_more app counted.Steps i (posts app accepted form counted.Steps i) (room_at app counted.Steps i hold)
+        stretch.reserve hold stretch.all s.jobs stretch.within stretch.owe
+
+    abbrev pub full_hands : List Hand
+    full_hands = HandsAt hold stretch.all s full
+
+    pub lowers_left : 0 < left → Lowered s t own_hands
+        (Stepped shown) stretch.paid then_paid stretch.reserve stretch.all 1
     lowers_left some = by case
       where
-        small : stretch.all + load_now s stretch.paid + stretch.reserve < MOST_WORK
+        small : stretch.all + load_now s stretch.paid + stretch.reserve + 1 < MOST_WORK
         small = small_all s waits steps stretch
 
-        by : StepCase app accepted s v shown → Lowered s t stretch.paid then_paid stretch.reserve stretch.all 1
+        wanted : Wanted app i s
+        wanted =
+            is_wanted app accepted form counted.Steps i declared hold bound.hold_is bound.few s stretch.paid
+            stretch.reserve
+            stretch.all stretch.now stretch.owe some
+
+        by : StepCase app accepted s v shown → Lowered s t own_hands
+            (Stepped shown) stretch.paid then_paid stretch.reserve stretch.all 1
         by (Takes irq is x at depth shown_is) =
-            subst (λ (w : Option What). Lowered s (after app s (Stepped w)) stretch.paid then_paid stretch.reserve
+            subst (λ (w : Option What). Lowered s (after app s (Stepped w)) own_hands
+            (Stepped w) stretch.paid then_paid stretch.reserve
             stretch.all 1)
             (sym shown_is)
             (subst (λ o. Lowered s (state_after_start app (record s { pending = slice_set s.pending irq false }) irq o)
-            stretch.paid then_paid stretch.reserve stretch.all 1) (sym at)
-            (take_lowers_it app accepted form i declared hold bound.hold_is bound.few s stretch.paid stretch.now irq
+            own_hands (Stepped (Some (what.Take irq depth))) stretch.paid then_paid stretch.reserve stretch.all 1)
+            (sym at)
+            (take_lowers_it app accepted form counted.Steps i declared hold bound.hold_is bound.few s stretch.paid
+            stretch.now irq
             depth
             is x at (take_same app accepted s well.queued irq x at) then_paid
-            (subst (λ w. Pays app accepted form i declared hold bound.hold_is bound.few (Stepped w) stretch.paid
+            (subst (λ w. Pays app accepted form counted.Steps i declared hold bound.hold_is bound.few
+            (Stepped w) stretch.paid
             then_paid)
-            shown_is pays) stretch.reserve stretch.all stretch.owe some
+            shown_is pays) stretch.reserve stretch.all stretch.owe wanted
             (omega (arith, small))))
         by (Goes given u step has no_take passed) =
-            let own = subst (Owes app accepted form i declared hold bound.hold_is bound.few stretch.reserve stretch.all)
+            let own = subst (Owes app accepted form counted.Steps i declared hold bound.hold_is bound.few
+            stretch.reserve stretch.all)
             step.jobs_are stretch.owe in
-            job_lowers app accepted form i declared hold bound.hold_is bound.few s v given shown t u step
-            (passed (sets_none app i (posts app accepted form i) hold stretch.reserve own.0 step.job own.3))
+            spends_less app accepted form counted.Steps i declared hold bound.hold_is bound.few s t own_hands
+            (Stepped shown)
+            stretch.paid then_paid
+            stretch.reserve stretch.all (1 + place_taken (posts app accepted form counted.Steps i) shown) 1
+            (omega arith)
+            (job_lowers app accepted form counted.Steps i declared hold bound.hold_is bound.few s v given shown t u step
+            (passed (sets_none app counted.Steps i (posts app accepted form counted.Steps i)
+            (room_at app counted.Steps i hold) stretch.reserve own.0 step.job own.3))
             stretch.reserve stretch.all stretch.paid then_paid stretch.now (λ q. no_take (turn app q)) pays
-            (omega (arith, small)) stretch.owe has some
+            (omega (arith, small)) stretch.owe has wanted).0
 
     -- and where nothing is
-    pub lowers_quiet : left ≡ 0 → Lowered s t stretch.paid then_paid hold stretch.all 0
+    pub lowers_quiet : left ≡ 0 → Lowered s t full_hands (Stepped shown) stretch.paid then_paid hold stretch.all 0
     lowers_quiet none = by case
       where
-        full : OweAt hold stretch.all s
-        full = owe_more app i (posts app accepted form i) hold stretch.reserve hold stretch.all s.jobs stretch.within
-            stretch.owe
-
-        by : StepCase app accepted s v shown → Lowered s t stretch.paid then_paid hold stretch.all 0
+        by : StepCase app accepted s v shown → Lowered s t full_hands
+            (Stepped shown) stretch.paid then_paid hold stretch.all 0
         by (Takes irq is x at depth shown_is) =
-            subst (λ (w : Option What). Lowered s (after app s (Stepped w)) stretch.paid then_paid hold stretch.all 0)
+            subst (λ (w : Option What). Lowered s (after app s (Stepped w)) full_hands
+            (Stepped w) stretch.paid then_paid hold stretch.all 0)
             (sym shown_is)
             (subst (λ o. Lowered s (state_after_start app (record s { pending = slice_set s.pending irq false }) irq o)
-            stretch.paid then_paid hold stretch.all 0) (sym at)
-            (take_quiet app accepted form i declared hold bound.hold_is bound.few s stretch.paid stretch.now irq depth
+            full_hands (Stepped (Some (what.Take irq depth))) stretch.paid then_paid hold stretch.all 0) (sym at)
+            (take_quiet app accepted form counted.Steps i declared hold bound.hold_is bound.few s stretch.paid
+            stretch.now irq depth
             is
             x at (take_same app accepted s well.queued irq x at) then_paid
-            (subst (λ w. Pays app accepted form i declared hold bound.hold_is bound.few (Stepped w) stretch.paid
+            (subst (λ w. Pays app accepted form counted.Steps i declared hold bound.hold_is bound.few
+            (Stepped w) stretch.paid
             then_paid)
-            shown_is pays) stretch.all full (omega (arith, none)) (omega (arith, none))))
+            shown_is pays) hold stretch.all full (omega arith)
+            (none_at app accepted form counted.Steps i declared hold bound.hold_is bound.few
+            s stretch.paid stretch.now irq depth is x at (take_same app accepted s well.queued irq x at) then_paid
+            (subst (λ w. Pays app accepted form counted.Steps i declared hold bound.hold_is bound.few
+            (Stepped w) stretch.paid
+            then_paid) shown_is pays) (steps_timed app) (omega (arith, none)))))
         by (Goes given u step has no_take passed) =
-            let own = subst (Owes app accepted form i declared hold bound.hold_is bound.few hold stretch.all)
+            let own = subst (Owes app accepted form counted.Steps i declared hold bound.hold_is bound.few hold
+            stretch.all)
             step.jobs_are full in
-            let few = bound.few in
-            job_quiet app accepted form i declared hold bound.hold_is bound.few s v given shown t u step
-            (passed (sets_none app i (posts app accepted form i) hold hold own.0 step.job own.3)) hold stretch.all
-            stretch.paid then_paid stretch.now (λ q. no_take (turn app q)) pays (omega (arith, few, none)) full has refl
-
-    -- behind it nothing is left, or the stretch goes on
-    pub data Behind : Type 0 where
-      Over : (paid : ℕ → ℕ) → (reserve all : ℕ) → PaidNow t paid → reserve ≤ hold → OweAt reserve all t → all ≡ 0
-          → load_now t paid ≡ 0 → Behind
-      On : (on : Stretch t (a_step_on waits) (steps + 1)) → 0 < on.all + load_now t on.paid → Behind
-
-    pub behind_left : Lowered s t stretch.paid then_paid stretch.reserve stretch.all 1 → Behind
-    behind_left lowers = elim (cases_lt 0 (lowers.all_then + load_now t then_paid)) [
-      | inl more ↦ On (record {
-        short_of = still more;
-        counts = stretch.counts;
-        paid = then_paid;
-        now = paid_then lowers.numbered lowers.known;
-        reserve = lowers.reserve_then;
-        all = lowers.all_then;
-        within = let within = stretch.within in let less = lowers.less in omega (arith, within, less);
-        owe = lowers.owe;
-        owing = within_room;
-        fits = λ irq. fits_step (rta.every_of limits irq) (stretch.counts irq) steps (waits irq) (stretch.fits irq);
-      }) more
-      | inr none ↦ Over then_paid lowers.reserve_then lowers.all_then (paid_then lowers.numbered lowers.known)
-          (let within = stretch.within in let less = lowers.less in omega (arith, within, less))
-          lowers.owe (omega (arith, none)) (omega (arith, none))
-    ]
-      where
-        within_room : lowers.all_then + load_now t then_paid + lowers.reserve_then + (steps + 1)
-            ≤ bound.base + raised app i wires stretch.counts limits
-        within_room = let sum = lowers.sum in let owing = stretch.owing in omega (arith, sum, owing)
-
-        still : 0 < lowers.all_then + load_now t then_paid → steps + 1 < least
-        still more = elim (cases_lt (steps + 1) least) [
-          | inl short ↦ short
-          | inr past ↦
-              let short = stretch.short_of in
-              let most = demands waits steps stretch.counts stretch.short_of stretch.fits in
-              let room = bound.room in
-              absurd (omega (arith, within_room, more, past, short, most, room))
-        ]
-
-    -- where nothing is left the stretch begins anew
-    pub behind_quiet : Short (a_step_on waits) → Lowered s t stretch.paid then_paid hold stretch.all 0 → left ≡ 0
-        → Stretch t (a_step_on waits) 0
-    behind_quiet short lowers none =
-        let some = bound.some in
-        let base = bound.hold_within in
-        let sum = lowers.sum in
-        let zero = raised_none app i wires limits in
-        record {
-          short_of = omega (arith, some);
-          counts = λ irq. 0;
-          paid = then_paid;
-          now = paid_then lowers.numbered lowers.known;
-          reserve = lowers.reserve_then;
-          all = lowers.all_then;
-          within = lowers.less;
-          owe = lowers.owe;
-          owing = omega (arith, sum, none, base, zero);
-          fits = λ irq. fits_start (rta.every_of limits irq) (a_step_on waits irq) (short irq);
-        }
-
-    -- wherever it is
-    pub any_step : Short (a_step_on waits) → (n : ℕ) × Stretch t (a_step_on waits) n
-    any_step short = elim (cases_lt 0 left) [
-      | inl more ↦ by (behind_left (lowers_left more))
-      | inr none ↦ let empty : left ≡ 0 = omega (arith, none) in (0, behind_quiet short (lowers_quiet empty) empty)
-    ]
-      where
-        by : Behind → (n : ℕ) × Stretch t (a_step_on waits) n
-        by (Over paid reserve all now within owe none clear) =
-            (0, fresh t (a_step_on waits) paid reserve all now short within owe none clear)
-        by (On on more) = (steps + 1, on)
-
-    -- no alarm is set by it
-    pub calm_behind : s.alarm ≡ None → s.owing ≡ false → (t.alarm ≡ None) × (t.owing ≡ false)
-    calm_behind alarm owing = by case
-      where
-        by : StepCase app accepted s v shown → (t.alarm ≡ None) × (t.owing ≡ false)
-        by (Takes irq is x at depth shown_is) =
-            subst (λ (w : Option What). ((after app s (Stepped w)).alarm ≡ None)
-            × ((after app s (Stepped w)).owing ≡ false)) (sym shown_is)
-            (subst (λ o. ((state_after_start app (record s { pending = slice_set s.pending irq false }) irq o).alarm
-            ≡ None) × ((state_after_start app (record s { pending = slice_set s.pending irq false }) irq o).owing
-            ≡ false)) (sym at) (alarm, owing))
-        by (Goes given u step has no_take passed) =
-            let own = subst (Owes app accepted form i declared hold bound.hold_is bound.few stretch.reserve stretch.all)
-            step.jobs_are stretch.owe in
-            let passes = passed (sets_none app i (posts app accepted form i) hold stretch.reserve own.0 step.job own.3)
-            in
-            (passes.alarm ∙ alarm, passes.owing ∙ owing)
+            let base = bound.hold_within in
+            let room = bound.room in
+            let few = bound.small in
+            spends_less app accepted form counted.Steps i declared hold bound.hold_is bound.few s t full_hands
+            (Stepped shown)
+            stretch.paid then_paid
+            hold stretch.all (0 + place_taken (posts app accepted form counted.Steps i) shown) 0 (omega arith)
+            (job_quiet app accepted form counted.Steps i declared hold bound.hold_is bound.few s v given shown t u step
+            (passed (sets_none app counted.Steps i (posts app accepted form counted.Steps i)
+            (room_at app counted.Steps i hold) hold own.0 step.job own.3)) hold stretch.all
+            stretch.paid then_paid stretch.now (λ q. no_take (turn app q)) pays
+            (omega (arith, base, room, few, none)) full has
+            (let none = steps_hand app accepted form i full_hands in omega (arith, none))).0

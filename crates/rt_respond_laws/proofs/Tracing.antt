@@ -47,7 +47,7 @@ abbrev pub asks_none : Release → Option ℕ
 asks_none r = Some 0
 
 abbrev pub posts_none : Posting
-posts_none = record { irq = λ n. Some 0; task = λ t. Some 0 }
+posts_none = record { irq = λ n. Some 0; task = λ t. Some 0; place = λ t. 0 }
 
 abbrev pub Any : ℕ → Type 0
 Any k = Unit {0}
@@ -116,7 +116,16 @@ module _ (app : App) (posts : Posting) (irq : ℕ) where
 
 module _ (app : App) (accepted : IsAccepted app) (form : is_of_form app ≡ true) where
   pub agree_none : Agrees app asks_none posts_none Any
-  agree_none = record { pends = λ k within allowed. refl; sends = λ t. refl; turns = λ r known. refl }
+  agree_none = record {
+    pends = λ k within allowed. refl;
+    sends = λ t k is. record {
+      ready = 0;
+      is = refl;
+      sum = omega
+          arith;
+    };
+    turns = λ r known. refl;
+  }
 
   abbrev pub Quiet : List Job → Type 0
   Quiet js = AllByRecursion (λ job. AtMost app posts_none 0 job.rest) js
@@ -146,7 +155,7 @@ module _ (app : App) (accepted : IsAccepted app) (form : is_of_form app ≡ true
       by (ByLevel runs) =
           subst (λ serves. AtMost app posts_none 0 (handler_doing app serves vs)) (sym runs.handler)
           (dispatcher_at_most app accepted form asks_none posts_none Any agree_none (any_pends app) runs.level 0
-          runs.known (λ n t at_n of. (0, block_zero t.body.block, omega arith)) few_none vs)
+          runs.known (λ n t at_n of. refl) (λ n t at_n of. (0, block_zero t.body.block, omega arith)) few_none vs)
 
   pub first_silent : Silent (first app)
   first_silent = record {

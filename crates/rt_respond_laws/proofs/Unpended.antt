@@ -38,6 +38,7 @@ use Rattle.rt_respond.specs.Pends.{statement_pends, block_pends, body_pends, is_
 use Rattle.rt_respond.specs.Work.{spawn_sends, value_sends, statement_sends, block_sends, body_sends}
 use Rattle.rt_respond.specs.declared.handler.Release.{Release}
 use Rattle.rt_respond.specs.declared.handler.Release.TheVariants as released_by
+use Rattle.rt_respond.specs.declared.handler.Quantity.TheVariants as counted
 use Rattle.rt_respond.specs.declared.handler.Handler.{Handler}
 use Rattle.rt_respond.specs.declared.number.TheConstants.{MOST_WORK}
 use Rattle.rt_respond_laws.proofs.Sending.{Posting, AtMost, at_most_more, Agrees}
@@ -111,7 +112,7 @@ module _ (app : App) (accepted : IsAccepted app) (form : is_of_form app ≡ true
     (other : (r : ℕ) → Contains (levels app) r → ¬ (dispatcher_number app r ≡ irq)) where
   -- where a post of it has no number, and any other asks for nothing
   abbrev posts_but : Posting
-  posts_but = record { irq = λ n. if n == irq then None else Some 0; task = λ t. Some 0 }
+  posts_but = record { irq = λ n. if n == irq then None else Some 0; task = λ t. Some 0; place = λ t. 0 }
 
   pends_but : (k : ℕ) → k < length app.irqs
       → posts_but.irq (or_zero (serving.irq_number app k)) ≡ asks_but j (released_by.Request k)
@@ -136,7 +137,7 @@ module _ (app : App) (accepted : IsAccepted app) (form : is_of_form app ≡ true
   agree_but : Agrees app (asks_but j) posts_but Any
   agree_but = record {
     pends = λ k within allowed. pends_but k within;
-    sends = λ t. refl;
+    sends = λ n k asked. record { ready = k; is = asked; sum = omega arith };
     turns = λ r known.
         ap (λ b. if b then None else Some 0)
         (not_so (dispatcher_number app r == irq) (λ is. other r known (eqb-true (dispatcher_number app r) irq is)));
@@ -189,7 +190,12 @@ module _ (app : App) (accepted : IsAccepted app) (form : is_of_form app ≡ true
       by (ByLevel runs) =
           subst (λ serves. AtMost app posts_but 0 (handler_doing app serves vs)) (sym runs.handler)
           (dispatcher_at_most app accepted form (asks_but j) posts_but Any agree_but any_pends runs.level 0 runs.known
-          (λ n t at_n of. (0, block_none j t.body.block (none_task n t at_n), omega arith)) few vs)
+          (λ n t at_n of. refl) (λ n t at_n of. (
+            0,
+            block_none j t.body.block
+                (none_task n t at_n),
+            omega arith,
+          )) few vs)
 
   pub calm_first : Calm (first app).jobs
   calm_first = (
@@ -214,15 +220,15 @@ module _ (app : App) (accepted : IsAccepted app) (form : is_of_form app ≡ true
     pub clear : ¬ (label ≡ Arrived irq) → IsClear s → IsClear (after app s label)
 
   posted_clear : (ps qs : List Bool) (vs ws : Values) (shown : Option What) (now given : ℕ)
-      → Effect app h posts_but 0 ps qs vs ws shown now given
+      → Effect app counted.Steps h posts_but (λ q. 0) ps qs vs ws shown now given
       → slice_index_or ps irq false ≡ false → slice_index_or qs irq false ≡ false
-  posted_clear ps qs vs ws shown now given (Kept is ready other none) clear =
+  posted_clear ps qs vs ws shown now given (Kept is ready other takes none) clear =
       ap (λ xs. slice_index_or xs irq false) is ∙ clear
   posted_clear ps qs vs ws shown now given (Readied q m is shows of asks ready none) clear =
       ap (λ xs. slice_index_or xs irq false) is ∙ clear
   posted_clear ps qs vs ws shown now given (Started q m more is shows of first ready gives) clear =
       ap (λ xs. slice_index_or xs irq false) is ∙ clear
-  posted_clear ps qs vs ws shown now given (Put n is asks ready other none) clear =
+  posted_clear ps qs vs ws shown now given (Put n is asks ready other takes none) clear =
       ap (λ xs. slice_index_or xs irq false) is
       ∙ clear_beside ps n irq (λ same. none-some now (sym (ap (λ b. if b then None else Some 0) (eq-eqb n irq same))
       ∙ asks)) clear
@@ -259,14 +265,16 @@ module _ (app : App) (accepted : IsAccepted app) (form : is_of_form app ≡ true
               calm.1,
             ))
             (posted_clear s.pending t.pending s.values t.values shown parts.0 0
-            (effect_of app h posts_but 0 s job made vs t.values t.pending action parts.0 shown parts.2 pending acted))
+            (effect_of app counted.Steps h posts_but
+            (λ q. 0) s job made vs t.values t.pending action parts.0 shown parts.2 pending acted))
         by (Anew vs js ps ended b next ready) = one (subst Calm (sym js) (anew_calm vs app.idle refl, calm.1)) (same ps)
         by (Returned js ps shows_it returns next values) = one (subst Calm (sym js) calm.1) (same ps)
 
     steps_on : (v : Observer) (shown : Option What) → StepCase app accepted s v shown → OneOn s (Stepped shown)
     steps_on v shown (Goes given u step has no_take passed) =
         passes_on step.job step.others step.jobs_are shown
-        (passed (no_alarm app h posts_but 0 posts_but 0 step.job.rest (subst Calm step.jobs_are now.calm).0))
+        (passed (no_alarm app counted.Steps h posts_but (λ q. 0) posts_but 0 step.job.rest
+        (subst Calm step.jobs_are now.calm).0))
     steps_on v shown (Takes k is x at depth shown_is) =
         subst (λ (w : Option What). OneOn s (Stepped w)) (sym shown_is) (record {
           unposted = record {

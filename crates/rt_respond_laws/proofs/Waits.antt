@@ -22,6 +22,7 @@ use Rattle.rt_laws.specs.Preemption.{system_ceiling}
 use Rattle.rt_laws.specs.Served.{HasAllToDo}
 use Rattle.rt_laws.specs.Unspent.{AreUnspent}
 use Rattle.rt_laws.specs.MessagesWaiting.{is_start_at}
+use Rattle.rt_laws.specs.Places.{Hand, hands_behind}
 use Rattle.rt_laws.specs.Waiting.{is_take}
 use Rattle.rt_laws.proofs.Order.{some_ceiling}
 use Rattle.rt_laws.proofs.ItemCounts.{one_if}
@@ -30,9 +31,11 @@ use Rattle.rt_respond.specs.Form.{is_of_form}
 use Rattle.rt_respond.specs.Handlers.{handlers, is_at}
 use Rattle.rt_respond.specs.Work.{work}
 use Rattle.rt_respond.specs.Blocking.{blocking}
+use Rattle.rt_respond.specs.declared.handler.Quantity.{Quantity}
 use Rattle.rt_respond.specs.declared.handler.Handler.{Handler}
 use Rattle.rt_respond.specs.declared.number.TheConstants.{MOST_WORK}
 use Rattle.rt_respond_laws.specs.Moments.{IsNumberAt, IsRoleAt, NothingIsLeft}
+use Rattle.rt_respond_laws.proofs.Weights.{room_at, Weighs, IsTimed}
 use Rattle.rt_respond_laws.proofs.Sending.{Posting}
 use Rattle.rt_respond_laws.proofs.Handled.{of_level}
 use Rattle.rt_respond_laws.proofs.Works.{work_parts, behind_asks}
@@ -41,39 +44,50 @@ use Rattle.rt_respond_laws.proofs.Passing.{SameReady}
 use Rattle.rt_respond_laws.proofs.Turning.{turn}
 use Rattle.rt_respond_laws.proofs.TurnCounts.{CountAll, one_turn}
 use Rattle.rt_respond_laws.proofs.Turns.{Turned}
-use Rattle.rt_respond_laws.proofs.Claims.{Claim, Own, Begin, Turn, Equal, Under, owe_nothing, owe_reach, IsLevelAt}
-use Rattle.rt_respond_laws.proofs.Stepping.{IsKnown}
+use Rattle.rt_respond_laws.proofs.Claims.{Claim, Own, Begin, Turn, Equal, Under, OweWith, owe_nothing, owe_reach}
+use Rattle.rt_respond_laws.proofs.Claims.{IsLevelAt}
+use Rattle.rt_respond_laws.proofs.Spending.{IsKnown}
 use Rattle.rt_respond_laws.proofs.Owed.{take_clears, IsAsked, one_asks}
 use Rattle.rt_respond_laws.proofs.Levels.{some_ready}
 use Rattle.rt_respond_laws.proofs.Levels.{all_taken}
 use Rattle.rt_respond_laws.proofs.Lowering.{asked_by, asked, waiting, load, Owes, Numbered, Knows, some_handlers}
 use Rattle.rt_respond_laws.proofs.Lowering.{at_known, at_small, at_high}
 
-module _ (app : App) (accepted : IsAccepted app) (form : is_of_form app ≡ true) (i : Handler)
-    (declared : IsIn (handlers app) i) (hold : ℕ) (hold_is : blocking app i ≡ Some hold) (few : hold < MOST_WORK) where
+-- something at a handler waits: the system ceiling reaches its priority, or a handler at it is pending
+pub data Wanted (app : App) (i : Handler) (s : State) : Type 0 where
+  Reached : i.priority ≤ system_ceiling app s.jobs → Wanted app i s
+  IsPending : (g : Handler) → IsIn (handlers app) g → slice_index_or s.pending g.number false ≡ true
+      → is_at i g ≡ true → Wanted app i s
+
+module _ (app : App) (accepted : IsAccepted app) (form : is_of_form app ≡ true) (what : Quantity) (i : Handler)
+    (declared : IsIn (handlers app) i) (hold : ℕ) (hold_is : blocking app what i ≡ Some hold)
+    (few : Weighs app what i hold) where
   abbrev p : ℕ
   p = i.priority
 
+  abbrev room : ℕ → ℕ
+  room = room_at app what i hold
+
   abbrev By : Posting
-  By = asked_by app accepted form i declared hold hold_is few
+  By = asked_by app accepted form what i declared hold hold_is few
 
   abbrev Asked : List Bool → ℕ
-  Asked = asked app accepted form i declared hold hold_is few
+  Asked = asked app accepted form what i declared hold hold_is few
 
   abbrev Waiting : Values → (ℕ → ℕ) → ℕ
-  Waiting = waiting app accepted form i declared hold hold_is few
+  Waiting = waiting app accepted form what i declared hold hold_is few
 
   abbrev Load : State → (ℕ → ℕ) → ℕ
-  Load = load app accepted form i declared hold hold_is few
+  Load = load app accepted form what i declared hold hold_is few
 
   abbrev OwesBy : ℕ → ℕ → List Job → Type 0
-  OwesBy = Owes app accepted form i declared hold hold_is few
+  OwesBy = Owes app accepted form what i declared hold hold_is few
 
   abbrev NumberedIn : List Bool → Type 0
-  NumberedIn = Numbered app accepted form i declared hold hold_is few
+  NumberedIn = Numbered app accepted form what i declared hold hold_is few
 
   abbrev KnowsIn : Values → Type 0
-  KnowsIn = Knows app accepted form i declared hold hold_is few
+  KnowsIn = Knows app accepted form what i declared hold hold_is few
 
   abbrev wires : List Handler
   wires = wired app accepted form
@@ -93,9 +107,9 @@ module _ (app : App) (accepted : IsAccepted app) (form : is_of_form app ≡ true
 
   -- what a pending handler asks for
   pub number_is : (ps : List Bool) → NumberedIn ps → (h : Handler) → IsIn wires h
-      → slice_index_or ps h.number false ≡ true → (w : ℕ) × (work app i h ≡ Some w)
+      → slice_index_or ps h.number false ≡ true → (w : ℕ) × (work app what i h ≡ Some w)
   number_is ps numbered h there set =
-      some_there (work app i h) (subst IsSome (posts_are app accepted form i h there) (numbered h.number set))
+      some_there (work app what i h) (subst IsSome (posts_are app accepted form what i h there) (numbered h.number set))
     where
       some_there : (o : Option ℕ) → IsSome o → (n : ℕ) × (o ≡ Some n)
       some_there (Some n) some = (n, refl)
@@ -106,7 +120,7 @@ module _ (app : App) (accepted : IsAccepted app) (form : is_of_form app ≡ true
       → paid q + one_if (slice_index_or s.pending (turn app q) false)
       ≤ length (messages (s.values (Guarded (section.Ready q))))
   paid_within s paid now q at =
-      let level = at_known app accepted form i declared hold hold_is few q at in
+      let level = at_known app accepted form what i declared hold hold_is few q at in
       let waits = (now.turned q level).waiting in
       let same = now.counts q level in
       omega (arith, waits, same)
@@ -138,9 +152,9 @@ module _ (app : App) (accepted : IsAccepted app) (form : is_of_form app ≡ true
           })))
 
   -- where nothing is asked for nothing is left
-  pub nothing_left : (s : State) (paid : ℕ → ℕ) (reserve all : ℕ) → AreUnspent s.jobs → OwesBy reserve all s.jobs
-      → Paid s paid → all ≡ 0 → Load s paid ≡ 0 → NothingIsLeft app i s
-  nothing_left s paid reserve all unspent owe now none clear = record {
+  pub nothing_left : IsTimed app what → (s : State) (paid : ℕ → ℕ) (reserve all : ℕ) → AreUnspent s.jobs
+      → OwesBy reserve all s.jobs → Paid s paid → all ≡ 0 → Load s paid ≡ 0 → NothingIsLeft app i s
+  nothing_left timed s paid reserve all unspent owe now none clear = record {
     jobs = jobs;
     pending = λ irq number. by irq number (slice_index_or s.pending irq false) refl;
     ready = λ h there dispatches at.
@@ -149,13 +163,13 @@ module _ (app : App) (accepted : IsAccepted app) (form : is_of_form app ≡ true
   }
     where
       jobs : AllByRecursion (λ job. ¬ IsRoleAt app i job.role) s.jobs
-      jobs = owe_nothing app i By hold reserve all s.jobs unspent none owe
+      jobs = owe_nothing app what i By room timed.steps reserve all s.jobs unspent none owe
 
       no_length : (q : ℕ) → IsLevelAt app i q → length (messages (s.values (Guarded (section.Ready q)))) ≡ 0
       no_length q at =
-          let level = at_known app accepted form i declared hold hold_is few q at in
-          let all_paid = all_taken app i By s.values paid (omega (arith, clear)) q at
-          (at_small app accepted form i declared hold hold_is few q at) in
+          let level = at_known app accepted form what i declared hold hold_is few q at in
+          let all_paid = all_taken app what i By timed.turns s.values paid (omega (arith, clear)) q at
+          (at_small app accepted form what i declared hold hold_is few q at) in
           let same = now.counts q level in
           let no_turn = turn_job q at (now.turned q level).taken (now.turned q level).asking s.jobs
           (now.turned q level).counted jobs in
@@ -178,13 +192,15 @@ module _ (app : App) (accepted : IsAccepted app) (form : is_of_form app ≡ true
           kinds false wires_it =
               let there = is_in_wired app accepted form h number.serves.declared wires_it in
               let w = number_is s.pending now.numbered h there set in
-              let clears = take_clears app i s.pending wires h there set in
-              let asks : or_zero (work app i h) ≡ w.0 = ap or_zero w.1 in
+              let clears = take_clears app what i s.pending wires h there set in
+              let asks : or_zero (work app what i h) ≡ w.0 = ap or_zero w.1 in
               let below : w.0 < MOST_WORK = omega (arith, clears, asks, clear) in
-              let parts = work_parts app i h w.0 (some_handlers app accepted form i declared hold hold_is few) number.at
+              let parts = work_parts app what i h w.0
+              (some_handlers app accepted form what i declared hold hold_is few) number.at
               w.1 below in
               let sum = parts.sum in
-              absurd (omega (arith, clears, asks, clear, sum))
+              let some = timed.jobs h in
+              absurd (omega (arith, clears, asks, clear, sum, some))
           kinds true dispatches =
               let at : IsLevelAt app i h.priority =
               record {
@@ -201,20 +217,29 @@ module _ (app : App) (accepted : IsAccepted app) (form : is_of_form app ≡ true
               absurd (omega (arith, within, waits, long))
 
   -- a core step
-  pub record Lowers (s t : State) (paid then_paid : ℕ → ℕ) (reserve all spent : ℕ) : Type 0 where
+  pub record Lowers (s t : State) (hands : List Hand) (label : Label) (paid then_paid : ℕ → ℕ)
+      (reserve all spent : ℕ) : Type 0 where
     pub reserve_then : ℕ
     pub all_then : ℕ
-    pub owe : OwesBy reserve_then all_then t.jobs
+    pub owes : OweWith app what i By room reserve_then all_then (hands_behind hands label) t.jobs
     pub less : reserve_then ≤ reserve
     pub sum : all_then + Load t then_paid + reserve_then + spent ≤ all + Load s paid + reserve
     pub numbered : NumberedIn t.pending
     pub known : KnowsIn t.values
 
-  -- something at the handler waits: the system ceiling reaches its priority, or a handler at it is pending
-  pub data Wanted (s : State) : Type 0 where
-    Reached : p ≤ system_ceiling app s.jobs → Wanted s
-    IsPending : (g : Handler) → IsIn (handlers app) g → slice_index_or s.pending g.number false ≡ true
-        → is_at i g ≡ true → Wanted s
+  -- of what it spends a part
+  pub spends_less : (s t : State) (hands : List Hand) (label : Label) (paid then_paid : ℕ
+      → ℕ) (reserve all spent less : ℕ) → less ≤ spent
+      → Lowers s t hands label paid then_paid reserve all spent → Lowers s t hands label paid then_paid reserve all less
+  spends_less s t hands label paid then_paid reserve all spent less few lowers = record {
+    reserve_then = lowers.reserve_then;
+    all_then = lowers.all_then;
+    owes = lowers.owes;
+    less = lowers.less;
+    sum = let sum = lowers.sum in omega (arith, sum, few);
+    numbered = lowers.numbered;
+    known = lowers.known;
+  }
 
   -- a job at it has its priority, or a higher one
   role_reach : (reserve all : ℕ) (js : List Job) (irq : ℕ) (h : serving.Handler) → OwesBy reserve all js
@@ -223,42 +248,43 @@ module _ (app : App) (accepted : IsAccepted app) (form : is_of_form app ≡ true
   role_reach reserve all (job ∷ others) irq h owe (inr deeper) at =
       let rest = role_reach reserve owe.1 others irq h owe.4 deeper at in omega (arith, rest)
   role_reach reserve all (job ∷ others) irq h owe (inl here) at =
-      let high = claimed owe.3 in omega (arith, high)
+      let high = claimed owe.3.2 in omega (arith, high)
     where
       role : IsRoleAt app i job.role
       role = subst (IsRoleAt app i) (sym here.0) at
 
-      claimed : Claim app i By hold reserve owe.0 job → p ≤ job.priority
-      claimed (Own irq role_is high rest most is) = high
-      claimed (Begin irq role_is high q level waits is) = high
-      claimed (Turn irq role_is high q level turns is) = high
+      claimed : Claim app what i By room reserve owe.0 owe.3.0 job → p ≤ job.priority
+      claimed (Own irq role_is mine high rest most is) = high
+      claimed (Begin irq role_is mine high q level waits is) = high
+      claimed (Turn irq role_is mine high q level turns is) = high
       claimed (Equal off same rest most within is) = absurd (off role)
       claimed (Under off lower mode holds stands is) = absurd (off role)
 
   pub is_wanted : (s : State) (paid : ℕ → ℕ) (reserve all : ℕ) → Paid s paid → OwesBy reserve all s.jobs
-      → 0 < all + Load s paid → Wanted s
+      → 0 < all + Load s paid → Wanted app i s
   is_wanted s paid reserve all now owe some = by (zero_or_some all) (zero_or_some (Asked s.pending))
     where
       zero_or_some : (n : ℕ) → (n ≡ 0) ⊎ (0 < n)
       zero_or_some zero = inl refl
       zero_or_some (suc n) = inr (omega arith)
 
-      asks_some : (one : IsAsked app i s.pending wires) → (b : Bool) → is_at i one.handler ≡ b → Wanted s
+      asks_some : (one : IsAsked app what i s.pending wires) → (b : Bool) → is_at i one.handler ≡ b → Wanted app i s
       asks_some one true there =
           IsPending one.handler (wired_is app accepted form one.handler one.there).0 one.set there
       asks_some one false behind =
           let asks = one.some in
-          let none : or_zero (work app i one.handler) ≡ 0 =
-          ap or_zero (behind_asks app i one.handler (some_handlers app accepted form i declared hold hold_is few)
+          let none : or_zero (work app what i one.handler) ≡ 0 =
+          ap or_zero (behind_asks app what i one.handler
+          (some_handlers app accepted form what i declared hold hold_is few)
           behind) in
           absurd (omega (arith, asks, none))
 
-      messages_wait : 0 < Waiting s.values paid → Wanted s
-      messages_wait more = served (now.served one.0 (at_known app accepted form i declared hold hold_is few one.0
+      messages_wait : 0 < Waiting s.values paid → Wanted app i s
+      messages_wait more = served (now.served one.0 (at_known app accepted form what i declared hold hold_is few one.0
           one.1)).served
         where
           one : (q : ℕ) × (IsLevelAt app i q) × (¬ (messages (s.values (Guarded (section.Ready q))) ≡ []))
-          one = some_ready app i By s.values paid more
+          one = some_ready app what i By s.values paid more
 
           at : IsLevelAt app i one.0
           at = one.1
@@ -267,12 +293,12 @@ module _ (app : App) (accepted : IsAccepted app) (form : is_of_form app ≡ true
           own_number = (of_level app accepted at.handler at.declared at.dispatches).number
               ∙ ap (dispatcher_number app) at.level
 
-          served : LevelServed app one.0 s.pending s.values s.jobs → Wanted s
+          served : LevelServed app one.0 s.pending s.values s.jobs → Wanted app i s
           served (Open there) =
               let most : ceiling app (section.Ready one.0) ≤ system_ceiling app s.jobs =
               some_ceiling app s.jobs (section.Ready one.0) there in
               let least : one.0 ≤ ceiling app (section.Ready one.0) = omega arith in
-              let high = at_high app accepted form i declared hold hold_is few one.0 at in
+              let high = at_high app accepted form what i declared hold hold_is few one.0 at in
               Reached (omega (arith, most, least, high))
           served (Nothing none) = absurd (one.2 none)
           served (Posted set) =
@@ -285,12 +311,12 @@ module _ (app : App) (accepted : IsAccepted app) (form : is_of_form app ≡ true
                 at = at.at;
               }))
 
-      by : (all ≡ 0) ⊎ (0 < all) → (Asked s.pending ≡ 0) ⊎ (0 < Asked s.pending) → Wanted s
-      by (inr jobs) pending = Reached (owe_reach app i By hold reserve all s.jobs jobs owe)
+      by : (all ≡ 0) ⊎ (0 < all) → (Asked s.pending ≡ 0) ⊎ (0 < Asked s.pending) → Wanted app i s
+      by (inr jobs) pending = Reached (owe_reach app what i By room reserve all s.jobs jobs owe)
       by (inl nil) (inr pending) =
-          let one = one_asks app i s.pending wires pending in asks_some one (is_at i one.handler) refl
+          let one = one_asks app what i s.pending wires pending in asks_some one (is_at i one.handler) refl
       by (inl nil) (inl clear) = messages_wait (omega (arith, some, nil, clear))
 
   -- others known to be ready
   pub knows_same : (vs ws : Values) → SameReady vs ws → KnowsIn vs → KnowsIn ws
-  knows_same vs ws same known q at = subst (AllByRecursion (IsKnown app i By hold q)) (sym (same q)) (known q at)
+  knows_same vs ws same known q at = subst (AllByRecursion (IsKnown app what i By room q)) (sym (same q)) (known q at)

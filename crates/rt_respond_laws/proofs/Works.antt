@@ -9,9 +9,10 @@ use Rattle.rt_app.specs.Tree.{Repeat, Locked, Emit, Pend, Spawns, Block, Empty, 
 use Rattle.rt_respond.specs.Number.{capped, plus, greater_of, times}
 use Rattle.rt_respond.specs.Handlers.{handlers, handled_block, is_at}
 use Rattle.rt_respond.specs.Work.{spawn_sends, value_sends, statement_sends, block_sends, handler_asks, takes}
-use Rattle.rt_respond.specs.Work.{release_asks, work_within, work, sends}
+use Rattle.rt_respond.specs.Work.{weight, release_asks, work_within, work, sends}
 use Rattle.rt_respond.specs.declared.handler.Release.{Release}
 use Rattle.rt_respond.specs.declared.handler.Release.TheVariants as released_by
+use Rattle.rt_respond.specs.declared.handler.Quantity.{Quantity}
 use Rattle.rt_respond.specs.declared.handler.Handler.{Handler}
 use Rattle.rt_respond.specs.declared.number.TheConstants.{MOST_WORK}
 use Rattle.rt_respond_laws.proofs.Sending.{sums}
@@ -87,66 +88,74 @@ asks_extend : (w v : Handler → Option ℕ) → ((h : Handler) → Extends (w h
 asks_extend w v more None n is = is
 asks_extend w v more (Some h) n is = more h n is
 
-module _ (app : App) (i : Handler) where
+module _ (app : App) (what : Quantity) (i : Handler) where
   -- with one job more in a row
-  within_more : (depth : ℕ) (h : Handler) → Extends (work_within app i depth h) (work_within app i (suc depth) h)
+  within_more : (depth : ℕ) (h : Handler) → Extends (work_within app what i depth h) (work_within app what i
+      (suc depth) h)
   unfolding work_within
   within_more zero h n is = absurd (none-some n is)
   within_more (suc depth) h n is =
       choice_extends (is_at i h)
-      (plus (Some (h.steps + 1)) (block_sends (release_asks app (work_within app i depth)) (handled_block app h)))
-      (plus (Some (h.steps + 1)) (block_sends (release_asks app (work_within app i (suc depth))) (handled_block app h)))
-      (plus_extends (Some (h.steps + 1)) (block_sends (release_asks app (work_within app i depth)) (handled_block app
+      (plus (Some (weight what h)) (block_sends (release_asks app (work_within app what i depth))
+      (handled_block app h)))
+      (plus (Some (weight what h)) (block_sends (release_asks app (work_within app what i (suc depth)))
+      (handled_block app h)))
+      (plus_extends (Some (weight what h)) (block_sends (release_asks app (work_within app what i depth))
+      (handled_block app
       h))
-      (Some (h.steps + 1)) (block_sends (release_asks app (work_within app i (suc depth))) (handled_block app h))
+      (Some (weight what h)) (block_sends (release_asks app (work_within app what i (suc depth))) (handled_block app h))
       (λ n is. is)
-      (block_extends (release_asks app (work_within app i depth)) (release_asks app (work_within app i (suc depth)))
-      (λ r. asks_extend (work_within app i depth) (work_within app i (suc depth)) (within_more depth)
+      (block_extends (release_asks app (work_within app what i depth)) (release_asks app (work_within app what i
+      (suc depth)))
+      (λ r. asks_extend (work_within app what i depth) (work_within app what i (suc depth)) (within_more depth)
       (find (takes r) (handlers app))) (handled_block app h)))
       n is
 
   -- the parts of a work
   pub record Parts (h : Handler) (w : ℕ) : Type 0 where
     pub releases : ℕ
-    pub is : sends app i (handled_block app h) ≡ Some releases
-    pub sum : h.steps + 1 + releases ≡ w
+    pub is : sends app what i (handled_block app h) ≡ Some releases
+    pub sum : weight what h + releases ≡ w
 
   parts_of : (h : Handler) (w depth : ℕ) → length (handlers app) ≡ depth → 0 < depth → is_at i h ≡ true
-      → work_within app i depth h ≡ Some w → w < MOST_WORK → Parts h w
+      → work_within app what i depth h ≡ Some w → w < MOST_WORK → Parts h w
   unfolding work_within
   parts_of h w zero all some at is below = absurd (omega (arith, some))
   parts_of h w (suc depth) all some at is below =
-      let own : plus (Some (h.steps + 1)) (block_sends (release_asks app (work_within app i depth)) (handled_block app
+      let own : plus (Some (weight what h)) (block_sends (release_asks app (work_within app what i depth))
+      (handled_block app
       h))
       ≡ Some w =
-      sym (ap (λ b. if b then plus (Some (h.steps + 1))
-      (block_sends (release_asks app (work_within app i depth)) (handled_block app h)) else Some 0) at) ∙ is in
-      let parts = sums (Some (h.steps + 1))
-      (block_sends (release_asks app (work_within app i depth)) (handled_block app h)) w own below in
-      let first = same_Some (h.steps + 1) parts.first parts.first_is in
+      sym (ap (λ b. if b then plus (Some (weight what h))
+      (block_sends (release_asks app (work_within app what i depth)) (handled_block app h)) else Some 0) at) ∙ is in
+      let parts = sums (Some (weight what h))
+      (block_sends (release_asks app (work_within app what i depth)) (handled_block app h)) w own below in
+      let first = same_Some (weight what h) parts.first parts.first_is in
       let sum = parts.sum in
       record {
         releases = parts.second;
-        is = subst (λ n. block_sends (release_asks app (work_within app i n)) (handled_block app h) ≡ Some parts.second)
+        is = subst (λ n. block_sends (release_asks app (work_within app what i n))
+            (handled_block app h) ≡ Some parts.second)
             (sym all)
-            (block_extends (release_asks app (work_within app i depth)) (release_asks app (work_within app i (suc
+            (block_extends (release_asks app (work_within app what i depth)) (release_asks app (work_within app what i
+            (suc
             depth)))
-            (λ r. asks_extend (work_within app i depth) (work_within app i (suc depth)) (within_more depth)
+            (λ r. asks_extend (work_within app what i depth) (work_within app what i (suc depth)) (within_more depth)
             (find (takes r) (handlers app))) (handled_block app h) parts.second parts.second_is);
         sum = omega (arith, first, sum);
       }
 
-  pub work_parts : (h : Handler) (w : ℕ) → 0 < length (handlers app) → is_at i h ≡ true → work app i h ≡ Some w
+  pub work_parts : (h : Handler) (w : ℕ) → 0 < length (handlers app) → is_at i h ≡ true → work app what i h ≡ Some w
       → w < MOST_WORK → Parts h w
   work_parts h w some at is below = parts_of h w (length (handlers app)) refl some at is below
 
   -- what is not at the handler asks for nothing there
-  behind_within : (h : Handler) (depth : ℕ) → 0 < depth → is_at i h ≡ false → work_within app i depth h ≡ Some 0
+  behind_within : (h : Handler) (depth : ℕ) → 0 < depth → is_at i h ≡ false → work_within app what i depth h ≡ Some 0
   unfolding work_within
   behind_within h zero some behind = absurd (omega (arith, some))
   behind_within h (suc depth) some behind =
-      ap (λ b. if b then plus (Some (h.steps + 1))
-      (block_sends (release_asks app (work_within app i depth)) (handled_block app h)) else Some 0) behind
+      ap (λ b. if b then plus (Some (weight what h))
+      (block_sends (release_asks app (work_within app what i depth)) (handled_block app h)) else Some 0) behind
 
-  pub behind_asks : (h : Handler) → 0 < length (handlers app) → is_at i h ≡ false → work app i h ≡ Some 0
+  pub behind_asks : (h : Handler) → 0 < length (handlers app) → is_at i h ≡ false → work app what i h ≡ Some 0
   behind_asks h some behind = behind_within h (length (handlers app)) some behind

@@ -14,6 +14,7 @@ use Rattle.rt_respond_laws.specs.Moments.{QuietMoments}
 use Rattle.rt_respond_laws.specs.Served.{RespondsEach}
 use Rattle.rt_respond_laws.specs.Started.{RunsEach}
 use Rattle.rt_respond_laws.specs.Coming.{CausesWithin}
+use Rattle.rt_respond_laws.specs.Rooms.{KeepsToRoom}
 
 -- Where requests from outside keep the limits, and no job's cost is spent before it ends, nothing of a handler is left
 -- within its response time from any moment on.
@@ -39,3 +40,9 @@ abbrev pub RunsCauseWithin : Type 0
 RunsCauseWithin = (app : App) → IsAccepted app → is_of_form app ≡ true → (limits : Limits) → AreLimits app limits
     → (labels : List Label) → RunsOn app (first app) labels → Kept limits.every labels → NoneIsSpent app labels
     → CausesWithin app limits labels
+
+-- No more places of a task are out than the report says, and where it has as many, no spawn finds it full.
+abbrev pub RunsHaveRoom : Type 0
+RunsHaveRoom = (app : App) → IsAccepted app → is_of_form app ≡ true → (limits : Limits) → AreLimits app limits
+    → (labels : List Label) → RunsOn app (first app) labels → Kept limits.every labels → NoneIsSpent app labels
+    → KeepsToRoom app limits labels

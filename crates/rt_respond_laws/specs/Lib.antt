@@ -4,4 +4,5 @@ pub mod Served
 pub mod Started
 pub mod Coming
 pub mod Turns
+pub mod Rooms
 pub mod Laws

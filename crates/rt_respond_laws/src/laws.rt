@@ -1,6 +1,7 @@
 // Laws of response times where bodies may pend interrupts of hardware tasks and spawn messages.
 
 ghost use Rattle.rt_respond_laws.specs.Laws.{RunsComeToNothing, RunsRespondEach, RunsRunEach, RunsCauseWithin};
+ghost use Rattle.rt_respond_laws.specs.Laws.{RunsHaveRoom};
 ghost use Rattle.rt_respond_laws.specs.Turns.{RunsTurnForMessages};
 
 /// Each turn of a dispatcher that has begun, and one that waits to begin, is for a message of its level that has become
@@ -32,4 +33,10 @@ pub fn runs_run_each()
 /// response time of the handler that stands last on the paths between the two, counted from the request.
 pub fn runs_cause_within()
     ensures { RunsCauseWithin }
+{}
+
+/// No more places of a task are out at any moment than the report says that it has room for, and where the task has as
+/// many places, no spawn finds it full.
+pub fn runs_have_room()
+    ensures { RunsHaveRoom }
 {}

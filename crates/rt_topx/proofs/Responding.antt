@@ -1,5 +1,5 @@
--- Images serve requests in time: what an image shows is a run of Baker's machine in which no cost is spent. Requests
--- that keep limits are of interrupts that tasks bind, so of declared ones.
+-- Images serve requests in time and have room for messages: what an image shows is a run of Baker's machine in which no
+-- cost is spent. Requests that keep limits are of interrupts that tasks bind, so of declared ones.
 use Rattle.std.proofs.Common.{◌≡◌, ℕ, ◌==◌, true, List, [], ◌∷◌, ◌++◌, slice_get, find, Option, Some, None, IsSome}
 use Rattle.std.proofs.Common.{option_map, refl, sym, ap, subst, ◌∙◌, append_assoc, eq-eqb}
 use Rattle.std.proofs.lemmas.Bool.{eqb-true}
@@ -32,12 +32,14 @@ use Rattle.rt_respond.specs.Form.{is_of_form}
 use Rattle.rt_respond.specs.Limits.{Limits, AreLimits}
 use Rattle.rt_respond_laws.specs.Coming.{CausesWithin}
 use Rattle.rt_respond_laws.specs.Moments.{QuietMoments}
+use Rattle.rt_respond_laws.specs.Rooms.{KeepsToRoom}
 use Rattle.rt_respond_laws.specs.Served.{RespondsEach}
 use Rattle.rt_respond_laws.specs.Started.{RunsEach}
 use Rattle.rt_respond_laws.proofs.Caused.{runs_cause_within}
 use Rattle.rt_respond_laws.proofs.Coming.{runs_come_to_nothing}
 use Rattle.rt_respond_laws.proofs.Messages.{runs_run_each}
 use Rattle.rt_respond_laws.proofs.Responding.{runs_respond_each}
+use Rattle.rt_respond_laws.proofs.RoomLaw.{runs_have_room}
 use Rattle.rt_sim.specs.Good.{AreDeclared, CountsFit}
 use Rattle.rt_sim.proofs.Good.{images_are_good}
 use Rattle.rt_sim.proofs.Unspent.{images_leave_steps}
@@ -113,4 +115,5 @@ images_respond_each app img accepted is_image form limits are =
       served = shown (RespondsEach app limits) (runs_respond_each app accepted form limits are);
       run = shown (RunsEach app limits) (runs_run_each app accepted form limits are);
       caused = shown (CausesWithin app limits) (runs_cause_within app accepted form limits are);
+      roomy = shown (KeepsToRoom app limits) (runs_have_room app accepted form limits are);
     }

@@ -1,8 +1,7 @@
 -- The most that holds a handler off, as the code finds it: the greatest of each body, one after another, with the table
 -- of ceilings, a table of works and a measure of core steps.
-use Rattle.std.specs.Prelude.{◌≡◌, ℕ, ◌-◌, ◌==◌, ◌&&◌, nat_lt, nat_le, get_or, map}
-use Rattle.std.specs.Prelude.{Option, Some, None}
-use Rattle.std.specs.Prelude.{if◌then◌else◌}
+use Rattle.std.specs.Prelude.{◌≡◌, ℕ, ◌-◌, ◌==◌, not, ◌&&◌, nat_lt, nat_le, get_or, map, count_by, List, Option, Some}
+use Rattle.std.specs.Prelude.{None, if◌then◌else◌}
 use Rattle.rt_app.specs.Tree.{Statement, Bind, Assign, Branch, Repeat, Locked, Emit, Pend, Spawns, Block, Empty, Then}
 use Rattle.rt_app.specs.Tree.{Spawn, Soon, After, Cancel, Move, Value, Calc, Now, Call, Body, Task, App}
 use Rattle.rt_app.specs.Bodies.{task_priority}
@@ -13,21 +12,23 @@ use Rattle.rt_app.specs.BodyCost.{cost_measure, dispatcher_section_cost}
 use Rattle.rt_frames.specs.Inside.Waits.{free_at, ready_at}
 use Rattle.rt_respond.specs.Number.{plus, greater_of}
 use Rattle.rt_respond.specs.Handlers.{handlers, handled_block, stands_before}
-use Rattle.rt_respond.specs.Work.{block_sends, work}
+use Rattle.rt_respond.specs.Work.{steps_weight, block_sends, work}
+use Rattle.rt_respond.specs.Blocking as definition
 use Rattle.rt_respond.specs.Inside.Works.{table_asks}
 use Rattle.rt_respond.specs.declared.blocking.Held.{Held}
+use Rattle.rt_respond.specs.declared.handler.Quantity.{Quantity}
 use Rattle.rt_respond.specs.declared.handler.Handler.{Handler}
 use Rattle.rt_respond.specs.declared.handler.Release.{Release}
 use Rattle.rt_respond.specs.declared.handler.Release.TheVariants as released
 
-module _ (app : App) (asks : Release → Option ℕ) (c : Ceilings) (m : Measure) (p : ℕ) where
+module _ (app : App) (what : Quantity) (asks : Release → Option ℕ) (c : Ceilings) (m : Measure) (p : ℕ) where
   -- a lock round this block
   abbrev pub section_most : Block → Option ℕ
-  section_most inner = plus (Some (lock_cost (block_cost m inner) - 1)) (block_sends asks inner)
+  section_most inner = plus (Some (steps_weight what (lock_cost (block_cost m inner) - 1))) (block_sends asks inner)
 
   -- a section of a queue of this ceiling and cost, with what is released in it
   abbrev pub queue_most : ℕ → ℕ → Option ℕ → Option ℕ
-  queue_most top cost released = if nat_le p top then plus (Some (cost - 1)) released else Some 0
+  queue_most top cost released = if nat_le p top then plus (Some (steps_weight what (cost - 1))) released else Some 0
 
   -- the section of a task's free places
   abbrev pub free_most : ℕ → Option ℕ
@@ -85,10 +86,14 @@ module _ (app : App) (asks : Release → Option ℕ) (c : Ceilings) (m : Measure
       (free_most h.task) else Some 0
 
 -- of a handler of the same priority that stands behind
-abbrev pub equal_most : App → (Release → Option ℕ) → Handler → Handler → Option ℕ
-equal_most app asks i h =
+abbrev pub equal_most : App → Quantity → (Release → Option ℕ) → Handler → Handler → Option ℕ
+equal_most app what asks i h =
     if (h.priority == i.priority) && stands_before i h
-    then plus (Some h.steps) (block_sends asks (handled_block app h)) else Some 0
+    then plus (Some (steps_weight what h.steps)) (block_sends asks (handled_block app h)) else Some 0
+
+-- the most that a body of this priority holds off, with the places in transit at the other priorities
+abbrev pub with_transit : List ℕ → ℕ → Option ℕ → Option ℕ
+with_transit transit priority most = plus (Some (count_by (λ other. not (other == priority)) transit)) most
 
 -- by the tables of a handler that is held off
 module _ (app : App) (held : Held) where
@@ -96,41 +101,49 @@ module _ (app : App) (held : Held) where
   asked_for = table_asks held.all.handlers.now held.all.works.now
 
   abbrev pub held_section : Block → Option ℕ
-  held_section = section_most app asked_for held.ceilings.now held.measure.now held.this.now.priority
+  held_section = section_most app held.counted asked_for held.ceilings.now held.measure.now held.this.now.priority
 
   abbrev pub held_queue : ℕ → ℕ → Option ℕ → Option ℕ
-  held_queue = queue_most app asked_for held.ceilings.now held.measure.now held.this.now.priority
+  held_queue = queue_most app held.counted asked_for held.ceilings.now held.measure.now held.this.now.priority
 
   abbrev pub held_free : ℕ → Option ℕ
-  held_free = free_most app asked_for held.ceilings.now held.measure.now held.this.now.priority
+  held_free = free_most app held.counted asked_for held.ceilings.now held.measure.now held.this.now.priority
 
   abbrev pub held_spawn : Spawn → Option ℕ
-  held_spawn = spawn_most app asked_for held.ceilings.now held.measure.now held.this.now.priority
+  held_spawn = spawn_most app held.counted asked_for held.ceilings.now held.measure.now held.this.now.priority
 
   abbrev pub held_value : Value → Option ℕ
-  held_value = value_most app asked_for held.ceilings.now held.measure.now held.this.now.priority
+  held_value = value_most app held.counted asked_for held.ceilings.now held.measure.now held.this.now.priority
 
   abbrev pub held_statement : Statement → Option ℕ
-  held_statement = statement_most app asked_for held.ceilings.now held.measure.now held.this.now.priority
+  held_statement = statement_most app held.counted asked_for held.ceilings.now held.measure.now held.this.now.priority
 
   abbrev pub held_block : Block → Option ℕ
-  held_block = block_most app asked_for held.ceilings.now held.measure.now held.this.now.priority
+  held_block = block_most app held.counted asked_for held.ceilings.now held.measure.now held.this.now.priority
 
   abbrev pub held_idle : Option Body → Option ℕ
-  held_idle = idle_most app asked_for held.ceilings.now held.measure.now held.this.now.priority
+  held_idle = idle_most app held.counted asked_for held.ceilings.now held.measure.now held.this.now.priority
 
   abbrev pub held_task : Task → Option ℕ
-  held_task = task_most app asked_for held.ceilings.now held.measure.now held.this.now.priority
+  held_task = task_most app held.counted asked_for held.ceilings.now held.measure.now held.this.now.priority
 
   abbrev pub held_dispatcher : Handler → Option ℕ
-  held_dispatcher = dispatcher_most app asked_for held.ceilings.now held.measure.now held.this.now.priority
+  held_dispatcher = dispatcher_most app held.counted asked_for held.ceilings.now held.measure.now held.this.now.priority
+
+  -- a task, with the places in transit at the other priorities
+  abbrev pub whole_task : Task → Option ℕ
+  whole_task t = with_transit held.transit.now t.priority (held_task t)
 
   abbrev pub held_handler : Handler → Option ℕ
-  held_handler h = greater_of (equal_most app asked_for held.this.now h) (held_dispatcher h)
+  held_handler h = greater_of (equal_most app held.counted asked_for held.this.now h) (held_dispatcher h)
+
+  abbrev pub whole_handler : Handler → Option ℕ
+  whole_handler h = with_transit held.transit.now h.priority (held_handler h)
 
 -- the tables are those of the application, at this handler
 pub record IsHeld (app : App) (held : Held) : Type 0 where
   pub handlers_are : held.all.handlers.now ≡ handlers app
-  pub works_are : held.all.works.now ≡ map (work app held.this.now) (handlers app)
+  pub works_are : held.all.works.now ≡ map (work app held.counted held.this.now) (handlers app)
   pub ceilings_are : held.ceilings.now ≡ ceilings app
   pub measure_is : held.measure.now ≡ cost_measure app
+  pub transit_is : held.transit.now ≡ definition.transit app held.counted held.this.now

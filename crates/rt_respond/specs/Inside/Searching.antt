@@ -6,6 +6,7 @@ use Rattle.rt_app.specs.Tree.{App}
 use Rattle.rt_respond.specs.Handlers.{handlers}
 use Rattle.rt_respond.specs.Work.{work}
 use Rattle.rt_respond.specs.Response.{backlog}
+use Rattle.rt_respond.specs.declared.handler.Quantity.{Quantity}
 use Rattle.rt_respond.specs.declared.response.Asked.{Asked}
 
 -- each limit is of one core step at least
@@ -18,7 +19,7 @@ pub record HasTables (asked : Asked) : Type 0 where
   pub positive : ArePositive asked.limits.now
 
 -- what is asked for is what the definitions say, at this handler
-pub record IsAsked (app : App) (asked : Asked) : Type 0 where
+pub record IsAsked (app : App) (what : Quantity) (asked : Asked) : Type 0 where
   pub handlers_are : asked.all.handlers.now ≡ handlers app
-  pub works_are : asked.all.works.now ≡ map (work app asked.this.now) (handlers app)
-  pub backlog_is : asked.backlog ≡ backlog app asked.limits.now asked.this.now
+  pub works_are : asked.all.works.now ≡ map (work app what asked.this.now) (handlers app)
+  pub backlog_is : asked.backlog ≡ backlog app asked.limits.now what asked.this.now

@@ -15,9 +15,10 @@ block_holds-loop-stmt-preserved t c =
     let app = app_of c.args.app.now in
     let asks = table_asks held.all.handlers.now held.all.works.now in
     c.greater_of-most.ensures ∙ ap (λ a. greater_of a c.statement_holds.result) c.loop-stmt.invariant
-    ∙ ap (greater_of (block_most app asks held.ceilings.now held.measure.now held.this.now.priority
+    ∙ ap (greater_of (block_most app held.counted asks held.ceilings.now held.measure.now held.this.now.priority
     (block_of (take c.loop-stmt.stmt-index c.args.stmts.now)))) c.statement_holds.ensures
-    ∙ sym (block_most_more app asks held.ceilings.now held.measure.now held.this.now.priority c.args.stmts.now
+    ∙ sym (block_most_more app held.counted asks held.ceilings.now held.measure.now held.this.now.priority
+    c.args.stmts.now
     c.loop-stmt.stmt-index c.stmt-item.result c.loop-stmt-test.true c.stmt-item.is)
 
 pub statement_holds-returns-in-Branch : goal.statement_holds-returns-in-Branch
@@ -28,7 +29,7 @@ statement_holds-returns-in-Branch t c =
     let is = branch_at c.args.stmt.now c.in-Branch._condition c.in-Branch.first c.in-Branch.second c.deref.result.now
     c.deref-in-Branch.result.now c.in-Branch.is c.deref.ensures.value c.deref-in-Branch.ensures.value in
     rw is (c.greater_of.ensures ∙ ap (λ a. greater_of a c.block_holds-in-Branch.result) c.block_holds.ensures
-    ∙ ap (greater_of (block_most app asks held.ceilings.now held.measure.now held.this.now.priority
+    ∙ ap (greater_of (block_most app held.counted asks held.ceilings.now held.measure.now held.this.now.priority
     (block_of c.deref.result.now))) c.block_holds-in-Branch.ensures)
 
 pub statement_holds-returns-in-Repeat : goal.statement_holds-returns-in-Repeat

@@ -7,5 +7,6 @@ use Rattle.rt_respond.proofs.blocking.+block.Given as goal
 
 abbrev pub invariant-block_holds-loop-stmt : goal.invariant-block_holds-loop-stmt
 invariant-block_holds-loop-stmt l =
-    l.most ≡ block_most (app_of l.app) (table_asks l.held.all.handlers.now l.held.all.works.now) l.held.ceilings.now
+    l.most ≡ block_most (app_of l.app) l.held.counted
+    (table_asks l.held.all.handlers.now l.held.all.works.now) l.held.ceilings.now
     l.held.measure.now l.held.this.now.priority (block_of (take l.stmt-index l.stmts))

@@ -5,8 +5,8 @@ use Rattle.rt_respond.proofs.Demand.{place_within, asks_nothing, asks_not, asks_
 use Rattle.rt_respond.proofs.response.limit_demand.Goals as goal
 
 pub returns-in_default : goal.returns-in_default
-returns-in_default c = λ app asked.
-    asks_nothing app c.args.asked.now.limits.now c.args.asked.now.this.now c.args.steps c.args.limit.now
+returns-in_default c = λ app what asked.
+    asks_nothing app c.args.asked.now.limits.now what c.args.asked.now.this.now c.args.steps c.args.limit.now
     c.args.asked.now.all.handlers.now c.args.asked.now.all.works.now asked.handlers_are asked.works_are
     c.in_default.ensures
 
@@ -18,10 +18,10 @@ bounds-asked-place-then-is_at c =
     omega (arith, long, within)
 
 pub returns-then-is_at : goal.returns-then-is_at
-returns-then-is_at c = λ app asked.
+returns-then-is_at c = λ app what asked.
     c.times.ensures
     ∙ ap (λ n. times n (get_or c.args.asked.now.all.works.now c.in-Some.place None)) c.most_requests.ensures
-    ∙ asks_so app c.args.asked.now.limits.now c.args.asked.now.this.now c.args.steps c.args.limit.now
+    ∙ asks_so app c.args.asked.now.limits.now what c.args.asked.now.this.now c.args.steps c.args.limit.now
     c.args.asked.now.all.handlers.now c.args.asked.now.all.works.now asked.handlers_are asked.works_are
     c.in-Some.place c.index-asked-place.result (get_or c.args.asked.now.all.works.now c.in-Some.place None) None
     c.in-Some.ensures
@@ -30,8 +30,8 @@ returns-then-is_at c = λ app asked.
     (ap (is_at c.args.asked.now.this.now) c.index-asked-place.is ∙ sym c.is_at.ensures ∙ c.if-is_at.true)
 
 pub returns-else-is_at : goal.returns-else-is_at
-returns-else-is_at c = λ app asked.
-    asks_not app c.args.asked.now.limits.now c.args.asked.now.this.now c.args.steps c.args.limit.now
+returns-else-is_at c = λ app what asked.
+    asks_not app c.args.asked.now.limits.now what c.args.asked.now.this.now c.args.steps c.args.limit.now
     c.args.asked.now.all.handlers.now c.args.asked.now.all.works.now asked.handlers_are asked.works_are
     c.in-Some.place c.index-asked-place.result c.in-Some.ensures
     (place_within c.args.limit.now c.args.asked.now.all.handlers.now c.in-Some.place c.in-Some.ensures)

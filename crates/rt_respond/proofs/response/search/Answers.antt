@@ -1,6 +1,7 @@
-use Rattle.std.proofs.Common.{◌≤◌, None, Some, arith}
+use Rattle.std.proofs.Common.{◌≤◌, sym, arith}
 use Rattle.rt_respond.specs.Response.{needed}
-use Rattle.rt_respond.proofs.Demand.{needed_is, needed_rises, none_before, some_before, less_before}
+use Rattle.rt_respond.proofs.Demand.{needed_rises, none_before, some_before, less_before}
+use Rattle.rt_respond.specs.declared.handler.Quantity.TheVariants as counted
 use Rattle.rt_respond.proofs.response.search.Goals as goal
 
 pub returns-in_default : goal.returns-in_default
@@ -8,19 +9,17 @@ returns-in_default c = λ app asked.
     let limits = c.args.asked.now.limits.now in
     let this = c.args.asked.now.this.now in
     let some = c.loop-steps.invariant.some in
-    none_before (needed app limits this 1) (needed app limits this c.loop-steps.steps)
-    (needed_rises app limits this 1 c.loop-steps.steps (omega arith) (omega (arith, some)) c.requires.tables.positive)
-    (needed_is app limits this c.loop-steps.steps c.args.asked.now.backlog c.demand.result None c.in_default.ensures
-    asked.backlog_is (c.demand.ensures app asked))
+    none_before (needed app limits counted.Steps this 1) (needed app limits counted.Steps this c.loop-steps.steps)
+    (needed_rises app limits counted.Steps this 1 c.loop-steps.steps (omega arith) (omega
+    (arith, some)) c.requires.tables.positive)
+    (sym (c.in_default.ensures app counted.Steps asked))
 
 pub returns-then-needed-from : goal.returns-then-needed-from
 returns-then-needed-from c = λ app asked. (
   record {
     some = c.loop-steps.invariant.some;
     need = c.in-Some.needed;
-    needs = needed_is app c.args.asked.now.limits.now c.args.asked.now.this.now c.loop-steps.steps
-        c.args.asked.now.backlog c.demand.result (Some c.in-Some.needed) c.in-Some.ensures asked.backlog_is
-        (c.demand.ensures app asked);
+    needs = sym (c.in-Some.ensures app counted.Steps asked);
     covers = omega (arith, c.if-needed-from.true, c.from.ensures);
   },
   omega (arith, c.loop-steps-test.true),
@@ -34,11 +33,11 @@ loop-steps-preserved c = record {
       let limits = c.args.asked.now.limits.now in
       let this = c.args.asked.now.this.now in
       let some = c.loop-steps.invariant.some in
-      some_before (needed app limits this 1) (needed app limits this c.loop-steps.steps) c.in-Some.needed
-      (needed_rises app limits this 1 c.loop-steps.steps (omega arith) (omega (arith, some))
+      some_before (needed app limits counted.Steps this 1)
+      (needed app limits counted.Steps this c.loop-steps.steps) c.in-Some.needed
+      (needed_rises app limits counted.Steps this 1 c.loop-steps.steps (omega arith) (omega (arith, some))
       c.requires.tables.positive)
-      (needed_is app limits this c.loop-steps.steps c.args.asked.now.backlog c.demand.result (Some c.in-Some.needed)
-      c.in-Some.ensures asked.backlog_is (c.demand.ensures app asked));
+      (sym (c.in-Some.ensures app counted.Steps asked));
   least = λ app asked steps enough.
       let limits = c.args.asked.now.limits.now in
       let this = c.args.asked.now.this.now in
@@ -46,11 +45,11 @@ loop-steps-preserved c = record {
       let at_most = c.loop-steps.invariant.least app asked steps enough in
       let covers = enough.covers in
       let less : c.in-Some.needed ≤ enough.need =
-      less_before (needed app limits this c.loop-steps.steps) (needed app limits this steps) c.in-Some.needed
+      less_before (needed app limits counted.Steps this c.loop-steps.steps)
+      (needed app limits counted.Steps this steps) c.in-Some.needed
       enough.need
-      (needed_rises app limits this c.loop-steps.steps steps some at_most c.requires.tables.positive)
-      (needed_is app limits this c.loop-steps.steps c.args.asked.now.backlog c.demand.result (Some c.in-Some.needed)
-      c.in-Some.ensures asked.backlog_is (c.demand.ensures app asked))
+      (needed_rises app limits counted.Steps this c.loop-steps.steps steps some at_most c.requires.tables.positive)
+      (sym (c.in-Some.ensures app counted.Steps asked))
       enough.needs in
       omega (arith, c.saturated_steps-steps.ensures, less, covers);
 }

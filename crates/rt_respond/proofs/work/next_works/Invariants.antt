@@ -6,4 +6,5 @@ use Rattle.rt_respond.proofs.work.next_works.Given as goal
 
 abbrev pub invariant-loop-handler : goal.invariant-loop-handler
 invariant-loop-handler l =
-    l.works.items ≡ map (next_work (app_of l.app) l.this l.all.works.now) (take l.handler-index l.all.handlers.now)
+    l.works.items ≡ map (next_work (app_of l.app) l.counted l.this l.all.works.now)
+    (take l.handler-index l.all.handlers.now)

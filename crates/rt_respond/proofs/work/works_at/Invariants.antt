@@ -5,4 +5,4 @@ use Rattle.rt_respond.specs.Inside.Works.{table_within}
 use Rattle.rt_respond.proofs.work.works_at.Given as goal
 
 abbrev pub invariant-loop-round : goal.invariant-loop-round
-invariant-loop-round l = l.works.items ≡ table_within (app_of l.app) l.this l._round
+invariant-loop-round l = l.works.items ≡ table_within (app_of l.app) l.counted l.this l._round

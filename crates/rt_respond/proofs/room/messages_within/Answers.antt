@@ -1,0 +1,12 @@
+use Rattle.std.proofs.Common.{◌∙◌}
+use Rattle.rt_app.specs.View.{app_of}
+use Rattle.rt_respond.specs.declared.handler.Quantity.TheVariants as counted
+use Rattle.rt_respond.proofs.room.messages_within.Goals as goal
+
+pub returns : goal.returns
+returns c =
+    c.needed_within.ensures (app_of c.args.app.now) (counted.Messages c.args.this.now.task) (record {
+      handlers_are = c.requires.handlers;
+      works_are = c.deref.ensures.value ∙ c.in_ok-works.ensures;
+      backlog_is = c.backlog_of-backlog.ensures c.args.limits.now;
+    })
