@@ -24,7 +24,7 @@ use Rattle.rt_native_laws.proofs.Steady.{is_exchange, words_after}
 
 pub private_keeps_above : PrivateKeepsAbove
 private_keeps_above at floor top m n own = record {
-  registers = own.registers;
+  registers = λ k h f g. own.registers k h g;
   memory = λ k h f. own.memory k (inr h);
   exception = ap (λ (x : Machine). x.exception) own.rest;
   active = ap (λ (x : Machine). x.active) own.rest;
@@ -32,7 +32,7 @@ private_keeps_above at floor top m n own = record {
 
 pub steps_keep_above : StepsKeepAbove
 steps_keep_above at top said m n others = record {
-  registers = others.registers;
+  registers = λ k h f g. others.registers k h g;
   memory = λ k h f. others.memory k (inr (inl (h, f)));
   exception = others.exception;
   active = others.active;
@@ -59,7 +59,7 @@ whole_word k = omega arith
 
 pub ticks_keep_above : TicksKeepAbove
 ticks_keep_above at img top c m n above high agrees t = record {
-  registers = λ k h f. t.registers k;
+  registers = λ k h f g. t.registers k;
   memory = λ k h f.
       ap n.memory (sym (whole_word k))
       ∙ (t.memory (4 * k) (omega (arith, h, high)) (inl (omega (arith, f, above))) ∙ ap m.memory (whole_word k));

@@ -1,5 +1,5 @@
 -- A request comes.
-use Rattle.std.proofs.Common.{◌≡◌, ◌≢◌, ◌∙◌, ℕ, ◌<◌, ◌≤◌, Bool, true, false, List, [], ◌∷◌, Some}
+use Rattle.std.proofs.Common.{◌≡◌, ◌≢◌, ◌∙◌, ℕ, ◌<◌, ◌≤◌, Bool, true, false, List, [], ◌∷◌, Option, None, Some}
 use Rattle.std.proofs.Common.{sym, refl, ap, subst, arith, length, ⊎_elim, option_map}
 use Rattle.std.proofs.lemmas.Bool.{cases_eq, cases_lt, false≢true}
 use Rattle.std.proofs.lemmas.List.{length-set, get_or_past, get_or-set_same, get_or-set_other}
@@ -20,10 +20,13 @@ use Rattle.rt_native_laws.specs.Doing.{IsAt, with_slots}
 use Rattle.rt_native_laws.specs.InTail.{Debt, IsInTail, rung}
 use Rattle.rt_native_laws.specs.Own.{RunsPrivately, StepsPrivately, is_private}
 use Rattle.rt_native_laws.specs.Phases.{AlreadyDone, Calling, Entering, HasBegun, IsCalling, IsDone, IsEntering}
-use Rattle.rt_native_laws.specs.Phases.{IsSameAbove, IsToCome, OthersRan, Phase, Reads, Tails, ToCome}
+use Rattle.rt_native_laws.specs.Phases.{Calls, FunctionCall, IsSameAbove, IsToCome, OthersRan, Phase, Reads, Tails}
+use Rattle.rt_native_laws.specs.Phases.{ToCome}
 use Rattle.rt_native_laws.specs.Reading.{AtCellLow, AtCellTop, AtLoad, AtLow, AtStore, AtTop, Holds, IsReading, Reading}
+use Rattle.rt_native_laws.specs.Reading.{reads_of}
 use Rattle.rt_native_laws.specs.Standing.{HoldsWords, StandsFor}
 use Rattle.rt_native_laws.specs.Tail.{Meanwhile}
+use Rattle.rt_native_laws.proofs.CallKept.{call_again, call_is_kept, frame_again}
 use Rattle.rt_native_laws.proofs.Meanwhile.{tail_is_kept}
 use Rattle.rt_native_laws.proofs.Tail.{tail_owes}
 use Rattle.rt_native_laws.proofs.Tails.{debt, debt_is, untouched}
@@ -221,7 +224,8 @@ module _ (p : Program) (e : ℕ) where
       )
 
       reading_with : (x : IsReading at bottom img places p c top m)
-          → (y : IsReading at bottom img places p (asked c) top (pended e m)) × (y.declared ≡ x.declared)
+          → (y : IsReading at bottom img places p (asked c) top (pended e m))
+          × (reads_of at bottom img places p (asked c) top (pended e m) y ≡ reads_of at bottom img places p c top m x)
       reading_with x = (
         record {
           to = x.to;
@@ -281,19 +285,53 @@ module _ (p : Program) (e : ℕ) where
             refl,
             ap (λ (t : Debt). Some t) (debt_is (debt again.0.irq again.0.instant again.0.owes)
                 (debt x.irq x.instant x.owes) again.1 again.2 again.3),
+            refl,
+            refl,
           )
 
       phase_with : (phase : Phase at bottom img places p c top m)
           → IsAsFresh at bottom img places p c (asked c) top m (pended e m) phase
-      phase_with (ToCome x) = (ToCome (to_come_with x), omega arith, refl, refl, refl)
-      phase_with (AlreadyDone x) = (AlreadyDone (done_with x), omega arith, refl, refl, refl)
-      phase_with (Entering x) = (Entering (entering_with x), omega arith, refl, refl, refl)
+      phase_with (ToCome x) = (ToCome (to_come_with x), omega arith, refl, refl, refl, refl, refl)
+      phase_with (AlreadyDone x) = (AlreadyDone (done_with x), omega arith, refl, refl, refl, refl, refl)
+      phase_with (Entering x) = (Entering (entering_with x), omega arith, refl, refl, refl, refl, refl)
       phase_with (Calling x) =
           let same : c.pending ≡ x.before.pending = ap (λ (y : Core). y.pending) x.called.core in
           let y = calling_with x (subst Tells same tells) in
-          (Calling y.0, omega (arith, y.1), refl, refl, refl)
+          (Calling y.0, omega (arith, y.1), refl, refl, refl, refl, refl)
       phase_with (Reads x) =
-          let y = reading_with x in (Reads y.0, omega arith, refl, ap (λ (ds : List Input). Some ds) y.1, refl)
+          let y = reading_with x in (
+            Reads y.0,
+            omega arith,
+            refl,
+            ap (λ (r : List Input × Option (Input × ℕ)). Some r) y.1,
+            refl,
+            refl,
+            refl,
+          )
+      phase_with (Calls x f) =
+          let ran : OthersRan at (m.register 13) top c (asked c) m (pended e m) = record {
+            core = refl;
+            as_many = refl;
+            processor = record { rest = refl; memory = λ k h g. refl };
+            settled = x.settled;
+            cells = x.shows.cells;
+            time = x.shows.time;
+            alarm = x.shows.alarm;
+            pending = tells m.is_pending x.shows.pending;
+            words = words_with m x.words;
+          } in
+          let g = call_is_kept at bottom img places p c (asked c) top m (pended e m) x ran in
+          let again = frame_again at bottom img places p c (asked c) top m (pended e m) x x.stage x.called g f
+          f.aligned in (
+            Calls g.call again,
+            omega arith,
+            refl,
+            ap (λ (ds : List Input). Some (ds, None)) g.declared,
+            refl,
+            ap (λ (k : FunctionCall). Some k)
+                (call_again at bottom img places p c (asked c) top m (pended e m) x x.stage x.called g),
+            g.registers,
+          )
       phase_with (Tails core x same) = tail_with core x same
 
 -- what is pending, with one more

@@ -8,14 +8,13 @@ use Rattle.rt_ids.specs.Operation.{wrapped_number as word}
 use Rattle.rt_native.specs.declared.outside.Outside.{Outside}
 use Rattle.rt_thumb.specs.Arithmetic.{add_with_carry, complement}
 use Rattle.rt_thumb.specs.Effect.{effect, behind, branched}
-use Rattle.rt_thumb.specs.Exceptions.{execution_priority}
 use Rattle.rt_thumb.specs.Machine.{Machine, word_at}
 use Rattle.rt_thumb.specs.Step.{Program}
 use Rattle.rt_thumb.specs.declared.instruction.Condition.TheVariants as condition
 use Rattle.rt_thumb.specs.declared.instruction.Instruction.{Instruction}
 use Rattle.rt_thumb.specs.declared.instruction.Instruction.TheVariants as instruction
 use Rattle.rt_thumb.specs.declared.instruction.Operation.TheVariants as operation
-use Rattle.rt_thumb_laws.specs.Undisturbed.{RunAtTop}
+use Rattle.rt_thumb_laws.specs.Undisturbed.{IsAlone, IsApartFrom, RunAtTop}
 use Rattle.rt_priorities.proofs.Plain.{masked_is_top}
 use Rattle.rt_native_laws.specs.Going.{HasCode}
 use Rattle.rt_native_laws.specs.Laws.{IsApart}
@@ -23,6 +22,7 @@ use Rattle.rt_native_laws.specs.Own.{RunsPrivately, Spans}
 use Rattle.rt_native_laws.specs.Standing.{HoldsWords}
 use Rattle.rt_native_laws.proofs.Calculating.{next as stepped}
 use Rattle.rt_native_laws.proofs.Carries.{minus, is_none}
+use Rattle.rt_native_laws.proofs.Clear.{IsClear, private_apart}
 use Rattle.rt_native_laws.proofs.Keeping.{written}
 use Rattle.rt_native_laws.proofs.Pieces.{IsMemory, loading_is, storing_is, same, other}
 use Rattle.rt_native_laws.proofs.Private.{private_is_unseen}
@@ -34,14 +34,19 @@ abbrev pub IsWithin : ℕ → ℕ → Machine → Type 0
 IsWithin floor top m = (floor ≤ m.register 13) × (m.register 13 ≤ top)
 
 -- instructions are executed at that priority, with the stack pointer within a part of the stack before each
-abbrev pub RunWithin : Program → ℕ → ℕ → List Instruction → Machine → Machine → Type 0
-RunWithin p floor top [] m last = last ≡ m
-RunWithin p floor top (i ∷ is) m last =
-    IsWithin floor top m × (execution_priority m ≡ 0) × (p.code m.address ≡ Some i)
-    × ((next : Machine) × (effect p.port i m ≡ Some next) × RunWithin p floor top is next last)
+abbrev pub RunWithin : Program → (ℕ → Bool) → ℕ → ℕ → List Instruction → Machine → Machine → Type 0
+RunWithin p foreign floor top [] m last = last ≡ m
+RunWithin p foreign floor top (i ∷ is) m last =
+    IsWithin floor top m × IsAlone foreign i m × (p.code m.address ≡ Some i)
+    × ((next : Machine) × (effect p.port i m ≡ Some next) × RunWithin p foreign floor top is next last)
 
-module _ (p : Program) (floor top : ℕ) where
-  pub at_top : (is : List Instruction) (m last : Machine) → RunWithin p floor top is m last → RunAtTop p is m last
+-- foreign words lie apart from a part of the stack
+abbrev pub AreClear : (ℕ → Bool) → ℕ → ℕ → Type 0
+AreClear foreign floor top = (w : ℕ) → foreign w ≡ true → IsClear floor top w
+
+module _ (p : Program) (foreign : ℕ → Bool) (floor top : ℕ) where
+  pub at_top : (is : List Instruction) (m last : Machine) → RunWithin p foreign floor top is m last
+      → RunAtTop p foreign is m last
   at_top [] m last run = run
   at_top (i ∷ is) m last (within, first, found, rest) =
       (first, found, (rest.0, rest.1, at_top is rest.0 last rest.2))
@@ -49,16 +54,24 @@ module _ (p : Program) (floor top : ℕ) where
   -- instructions that lead from a state to another so
   pub record Led (m last : Machine) : Type 0 where
     pub executed : List Instruction
-    pub run : RunWithin p floor top executed m last
+    pub run : RunWithin p foreign floor top executed m last
 
   pub led_one : (i : Instruction) (m n : Machine) → IsWithin floor top m → m.is_masked ≡ true
-      → p.code m.address ≡ Some i → effect p.port i m ≡ Some n → Led m n
-  led_one i m n within masked found does =
-      record { executed = i ∷ []; run = (within, masked_is_top m masked, found, (n, does, refl)) }
+      → p.code m.address ≡ Some i → effect p.port i m ≡ Some n
+      → ((w : ℕ) → foreign w ≡ true → IsApartFrom w i m) → Led m n
+  led_one i m n within masked found does apart = record {
+    executed = i ∷ [];
+    run = (
+      within,
+      record { at_top = λ memory same. masked_is_top (record m { memory = memory }) masked; apart = apart },
+      found,
+      (n, does, refl),
+    );
+  }
 
-  runs_behind : (xs ys : List Instruction) (m n o : Machine) → RunWithin p floor top xs m n
-      → RunWithin p floor top ys n o → RunWithin p floor top (xs ++ ys) m o
-  runs_behind [] ys m n o r s = subst (λ (k : Machine). RunWithin p floor top ys k o) r s
+  runs_behind : (xs ys : List Instruction) (m n o : Machine) → RunWithin p foreign floor top xs m n
+      → RunWithin p foreign floor top ys n o → RunWithin p foreign floor top (xs ++ ys) m o
+  runs_behind [] ys m n o r s = subst (λ (k : Machine). RunWithin p foreign floor top ys k o) r s
   runs_behind (x ∷ xs) ys m n o (within, first, found, rest) s =
       (within, first, found, (rest.0, rest.1, runs_behind xs ys rest.0 n o rest.2 s))
 
@@ -66,14 +79,16 @@ module _ (p : Program) (floor top : ℕ) where
   led_on m n o a b =
       record { executed = a.executed ++ b.executed; run = runs_behind a.executed b.executed m n o a.run b.run }
 
-  pub led_privately : IsApart p floor top → (is : List Instruction) (m n : Machine) → IsWithin floor top m
+  pub led_privately : IsApart p floor top → AreClear foreign floor top → (is : List Instruction) (m n : Machine)
+      → IsWithin floor top m
       → m.is_masked ≡ true → RunsPrivately p floor top is m n → Led m n
-  led_privately apart [] m n within masked r = record { executed = []; run = r }
-  led_privately apart (i ∷ is) m n within masked r =
+  led_privately apart clear [] m n within masked r = record { executed = []; run = r }
+  led_privately apart clear (i ∷ is) m n within masked r =
       let own = private_is_unseen p floor top (i ∷ []) m r.0 apart within.0 within.1 (r.0, r.1, refl) in
       let still : r.0.is_masked ≡ true = ap (λ (x : Machine). x.is_masked) own.rest ∙ masked in
-      led_on m r.0 n (led_one i m r.0 within masked r.1.executes.found r.1.executes.does)
-      (led_privately apart is r.0 n own.stack still r.2)
+      led_on m r.0 n (led_one i m r.0 within masked r.1.executes.found r.1.executes.does
+      (λ w f. private_apart floor top w i m (clear w f) within.0 r.1.is_private))
+      (led_privately apart clear is r.0 n own.stack still r.2)
 
 -- the loop that copies
 abbrev pub loop : List Instruction
@@ -83,9 +98,9 @@ loop =
     ∷ instruction.Branch (2 ^ 32 - 18) ∷ []
 
 -- so many words were copied, from one address on to another
-pub record Copied (p : Program) (floor top : ℕ) (m : Machine) (from to count : ℕ) : Type 0 where
+pub record Copied (p : Program) (foreign : ℕ → Bool) (floor top : ℕ) (m : Machine) (from to count : ℕ) : Type 0 where
   pub last : Machine
-  pub led : Led p floor top m last
+  pub led : Led p foreign floor top m last
   pub rest : last ≡ record m {
     register = last.register;
     flags = last.flags;
@@ -131,12 +146,33 @@ compared : (a b : ℕ) → a < 2 ^ 32 → b < 2 ^ 32
     → ((add_with_carry a (complement b) true).value == 0) ≡ (a == b)
 compared a b h k = ap (λ (x : ℕ). x == 0) (minus a b k) ∙ is_none a b h k
 
+-- foreign words lie apart from words that are copied, and from where they go
+pub record CopyIsClear (foreign : ℕ → Bool) (from to count : ℕ) : Type 0 where
+  pub source : (w : ℕ) → foreign w ≡ true → (4 * w + 4 ≤ from) ⊎ (from + 4 * count ≤ 4 * w)
+  pub target : (w : ℕ) → foreign w ≡ true → (4 * w + 4 ≤ to) ⊎ (to + 4 * count ≤ 4 * w)
+
+clear_further : (foreign : ℕ → Bool) (from to count : ℕ) → CopyIsClear foreign from to (suc count)
+    → CopyIsClear foreign (from + 4) (to + 4) count
+clear_further foreign from to count x = record {
+  source = λ w f. ⊎_elim (λ (y : 4 * w + 4 ≤ from). inl (omega (arith, y)))
+      (λ (y : from + 4 * suc count ≤ 4 * w). inr (omega (arith, y))) (x.source w f);
+  target = λ w f. ⊎_elim (λ (y : 4 * w + 4 ≤ to). inl (omega (arith, y)))
+      (λ (y : to + 4 * suc count ≤ 4 * w). inr (omega (arith, y))) (x.target w f);
+}
+
+-- the first of such words is none of them
+first_clear : (a count r w : ℕ) → a % 4 ≡ 0 → word (r + 0) ≡ a → (4 * w + 4 ≤ a) ⊎ (a + 4 * suc count ≤ 4 * w)
+    → w ≡ word (r + 0) / 4 → ⊥
+first_clear a count r w aligned is apart e =
+    ⊎_elim (λ (y : 4 * w + 4 ≤ a). absurd (omega (arith, y, e, is, aligned)))
+    (λ (y : a + 4 * suc count ≤ 4 * w). absurd (omega (arith, y, e, is, aligned))) apart
+
 module _ (at : Outside) (img : Image) (places : List ℕ) (p : Program) (code : HasCode at img places p)
-    (floor top : ℕ) where
+    (foreign : ℕ → Bool) (floor top : ℕ) where
   -- no word more
   ends : (m : Machine) (from to : ℕ) → m.register 1 ≡ to → m.register 2 ≡ to → m.is_masked ≡ true
       → IsWithin floor top m → HoldsWords m → Spans p m.address loop (m.address + 18) → m.address < 0xE0000000
-      → Copied p floor top m from to 0
+      → Copied p foreign floor top m from to 0
   ends m from to r1 r2 masked within words span low =
       let i = instruction.Operate operation.Compare 1 2 in
       let j = instruction.BranchIf condition.Equal 12 in
@@ -152,8 +188,9 @@ module _ (at : Outside) (img : Image) (places : List ℕ) (p : Program) (code : 
       let w1 = words_after at img places p code i m m1 (record { found = span.0; does = refl }) tt words in
       record {
         last = m2;
-        led = led_on p floor top m m1 m2 (led_one p floor top i m m1 within masked span.0 refl)
-            (led_one p floor top j m1 m2 within masked span.1.0 does);
+        led = led_on p foreign floor top m m1 m2 (led_one p foreign floor top i m m1 within masked span.0 refl
+            (λ w f. tt))
+            (led_one p foreign floor top j m1 m2 within masked span.1.0 does (λ w f. tt));
         rest = refl;
         registers = λ k h. refl;
         copied = λ k l. absurd (omega (arith, l));
@@ -164,7 +201,7 @@ module _ (at : Outside) (img : Image) (places : List ℕ) (p : Program) (code : 
   -- one word
   pub record One (m : Machine) (from to : ℕ) : Type 0 where
     pub next : Machine
-    pub led : Led p floor top m next
+    pub led : Led p foreign floor top m next
     pub rest : next ≡ record m {
       register = next.register;
       flags = next.flags;
@@ -176,10 +213,11 @@ module _ (at : Outside) (img : Image) (places : List ℕ) (p : Program) (code : 
     pub registers : (k : ℕ) → 4 ≤ k → next.register k ≡ m.register k
     pub words : HoldsWords next
 
-  one : (m : Machine) (from to count : ℕ) → CanCopy p.port from to (suc count) → m.register 0 ≡ from
+  one : (m : Machine) (from to count : ℕ) → CanCopy p.port from to (suc count)
+      → CopyIsClear foreign from to (suc count) → m.register 0 ≡ from
       → m.register 1 ≡ to → m.register 2 ≡ to + 4 * suc count → m.is_masked ≡ true → IsWithin floor top m → HoldsWords m
       → Spans p m.address loop (m.address + 18) → m.address < 0xE0000000 → One m from to
-  one m from to count can r0 r1 r2 masked within words span low =
+  one m from to count can clear r0 r1 r2 masked within words span low =
       let i1 = instruction.Operate operation.Compare 1 2 in
       let i2 = instruction.BranchIf condition.Equal 12 in
       let i3 = instruction.Load 3 0 0 in
@@ -218,13 +256,21 @@ module _ (at : Outside) (img : Image) (places : List ℕ) (p : Program) (code : 
       let w6 = words_after at img places p code i6 m5 m6 (record { found = f5.1.0; does = refl }) tt w5 in
       record {
         next = m7;
-        led = led_on p floor top m m1 m7 (led_one p floor top i1 m m1 within masked span.0 refl)
-            (led_on p floor top m1 m2 m7 (led_one p floor top i2 m1 m2 within masked span.1.0 does2)
-            (led_on p floor top m2 m3 m7 (led_one p floor top i3 m2 m3 within masked f3.0 does3)
-            (led_on p floor top m3 m4 m7 (led_one p floor top i4 m3 m4 within masked f3.1.0 does4)
-            (led_on p floor top m4 m5 m7 (led_one p floor top i5 m4 m5 within masked f5.0 refl)
-            (led_on p floor top m5 m6 m7 (led_one p floor top i6 m5 m6 within masked f5.1.0 refl)
-            (led_one p floor top i7 m6 m7 within masked f7.0 does7))))));
+        led = led_on p foreign floor top m m1 m7 (led_one p foreign floor top i1 m m1 within masked span.0 refl
+            (λ w f. tt))
+            (led_on p foreign floor top m1 m2 m7 (led_one p foreign floor top i2 m1 m2 within masked span.1.0 does2
+            (λ w f. tt))
+            (led_on p foreign floor top m2 m3 m7 (led_one p foreign floor top i3 m2 m3 within masked f3.0 does3
+            (λ w f. first_clear from count (m.register 0) w can.from_aligned (omega (arith, r0, can.from_space))
+            (clear.source w f)))
+            (led_on p foreign floor top m3 m4 m7 (led_one p foreign floor top i4 m3 m4 within masked f3.1.0 does4
+            (λ w f. first_clear to count (m.register 1) w can.to_aligned (omega (arith, r1, can.to_memory))
+            (clear.target w f)))
+            (led_on p foreign floor top m4 m5 m7 (led_one p foreign floor top i5 m4 m5 within masked f5.0 refl
+            (λ w f. tt))
+            (led_on p foreign floor top m5 m6 m7 (led_one p foreign floor top i6 m5 m6 within masked f5.1.0 refl
+            (λ w f. tt))
+            (led_one p foreign floor top i7 m6 m7 within masked f7.0 does7 (λ w f. tt)))))));
         rest = refl;
         source = omega (arith, r0, can.from_space);
         target = omega (arith, r1, can.to_memory);
@@ -235,17 +281,19 @@ module _ (at : Outside) (img : Image) (places : List ℕ) (p : Program) (code : 
         words = words_after at img places p code i7 m6 m7 (record { found = f7.0; does = does7 }) tt w6;
       }
 
-  pub copies : (count : ℕ) (m : Machine) (from to : ℕ) → CanCopy p.port from to count → m.register 0 ≡ from
+  pub copies : (count : ℕ) (m : Machine) (from to : ℕ) → CanCopy p.port from to count
+      → CopyIsClear foreign from to count → m.register 0 ≡ from
       → m.register 1 ≡ to → m.register 2 ≡ to + 4 * count → m.is_masked ≡ true → IsWithin floor top m → HoldsWords m
-      → Spans p m.address loop (m.address + 18) → m.address < 0xE0000000 → Copied p floor top m from to count
-  copies zero m from to can r0 r1 r2 masked within words span low =
+      → Spans p m.address loop (m.address + 18) → m.address < 0xE0000000 → Copied p foreign floor top m from to count
+  copies zero m from to can clear r0 r1 r2 masked within words span low =
       ends m from to r1 (r2 ∙ omega arith) masked within words span low
-  copies (suc count) m from to can r0 r1 r2 masked within words span low =
-      let o = one m from to count can r0 r1 r2 masked within words span low in
+  copies (suc count) m from to can clear r0 r1 r2 masked within words span low =
+      let o = one m from to count can clear r0 r1 r2 masked within words span low in
       let v = word_at m from in
       let same_address : o.next.address ≡ m.address = ap (λ (x : Machine). x.address) o.rest in
       let still : o.next.is_masked ≡ true = ap (λ (x : Machine). x.is_masked) o.rest ∙ masked in
-      let more = copies count o.next (from + 4) (to + 4) (further p.port from to count can) o.source o.target
+      let more = copies count o.next (from + 4) (to + 4) (further p.port from to count can)
+      (clear_further foreign from to count clear) o.source o.target
       (o.limit ∙ (r2 ∙ omega arith)) still
       (subst (λ (k : ℕ). (floor ≤ k) × (k ≤ top)) (sym (o.registers 13 (omega arith))) within) o.words
       (subst (λ (a : ℕ). Spans p a loop (a + 18)) (sym same_address) span)
@@ -254,7 +302,7 @@ module _ (at : Outside) (img : Image) (places : List ℕ) (p : Program) (code : 
       λ k. ap (λ (x : Machine). x.memory k) o.rest in
       record {
         last = more.last;
-        led = led_on p floor top m o.next more.last o.led more.led;
+        led = led_on p foreign floor top m o.next more.last o.led more.led;
         rest = more.rest ∙ (ap (λ (x : Machine). record x {
           register = more.last.register;
           flags = more.last.flags;
@@ -277,9 +325,10 @@ module _ (at : Outside) (img : Image) (places : List ℕ) (p : Program) (code : 
         words = more.words;
       }
     where
-      each : (more : Copied p floor top (one m from to count can r0 r1 r2 masked within words span low).next
+      each : (more : Copied p foreign floor top (one m from to count can clear r0 r1 r2 masked within words span
+          low).next
           (from + 4) (to + 4) count)
-          → ((k : ℕ) → (one m from to count can r0 r1 r2 masked within words span low).next.memory k
+          → ((k : ℕ) → (one m from to count can clear r0 r1 r2 masked within words span low).next.memory k
           ≡ written m.memory to (word_at m from) k)
           → (j : ℕ) → j < suc count → word_at more.last (to + 4 * j) ≡ word_at m (from + 4 * j)
       each more memory_is zero l =

@@ -22,6 +22,7 @@ use Rattle.rt_thumb.specs.declared.instruction.Special.TheVariants as special
 use Rattle.rt_thumb.proofs.Branches.{at_most_one}
 use Rattle.rt_thumb.proofs.Decoded.{nothing_decoded, one_decoded, refused_decoded}
 use Rattle.rt_thumb.proofs.Short.{operation_read}
+use Rattle.rt_thumb.proofs.Starts.{operate_starts}
 
 -- both of two facts, or one of them
 both : {A B : Type 0} → Dec A → Dec B → Dec (A × B)
@@ -135,9 +136,6 @@ special_small : (s : Special) → special_bits s < 2 ^ 8
 special_small special.PriorityMask = omega arith
 special_small special.BasePriority = omega arith
 
-short_starts : (bits d b : ℕ) → bits < 16 → d < 8 → b < 8 → 16 * 2 ^ 10 + bits * 2 ^ 6 + b * 2 ^ 3 + d < 29 * 2 ^ 11
-short_starts bits d b p q r = omega arith
-
 far_starts : (top s m j k n : ℕ) → top < 4 → s < 2 → m < 2 ^ 10 → j < 2 → k < 2 → n < 2 ^ 11
     → Starts (halfwords.Wide (30 * 2 ^ 11 + s * 2 ^ 10 + m)
     (top * 2 ^ 14 + j * 2 ^ 13 + 1 * 2 ^ 12 + k * 2 ^ 11 + n))
@@ -175,7 +173,7 @@ starts (instruction.AddNumber d n) h = omega arith
 starts (instruction.SubtractNumber d a n) h = omega arith
 starts (instruction.Add d a b) h = omega arith
 starts (instruction.Subtract d a b) h = omega arith
-starts (instruction.Operate op d b) h = short_starts (operation_bits op) d b (operation_read op).1 h.0 h.1
+starts (instruction.Operate op d b) h = operate_starts (operation_bits op) d b (operation_read op).1 h.0 h.1
 starts (instruction.AddStackPointer d) h = omega arith
 starts (instruction.BranchExchange m) h = omega arith
 starts (instruction.Load t a n) h = omega arith

@@ -31,10 +31,11 @@ use Rattle.rt_native_laws.specs.EachKind.{BySteps, ByReturn, EachGoes, EachKindG
 use Rattle.rt_native_laws.specs.InTail.{Debt}
 use Rattle.rt_native_laws.specs.Moments.{CameBack, Moment, Taking, instruction_at, last_after, settled_words}
 use Rattle.rt_native_laws.specs.Own.{AreSteady, Executes, RunsPrivately}
-use Rattle.rt_native_laws.specs.Phases.{AlreadyDone, Calling, Entering, IsButForWords, IsDone, IsOrdinary, Reads, Tails}
+use Rattle.rt_native_laws.specs.Phases.{AlreadyDone, Calling, Calls, Entering, IsButForWords, IsDone, IsOrdinary, Reads}
+use Rattle.rt_native_laws.specs.Phases.{Tails}
 use Rattle.rt_native_laws.specs.Phases.{IsNoCall, IsToCome, Phase, ToCome, kept_words}
 use Rattle.rt_native_laws.specs.Standing.{HoldsWords, IsLaidOut, StandsFor, caller_words, frames_end}
-use Rattle.rt_native_laws.specs.Waiting.{Waiting, return_value}
+use Rattle.rt_native_laws.specs.Waiting.{FunctionCalls, Waiting, return_value}
 use Rattle.rt_native_laws.proofs.Beginning.{calling_goes, entering_goes, same_words}
 use Rattle.rt_native_laws.proofs.Calling.{call_begins}
 use Rattle.rt_native_laws.proofs.Deep.{stack_is_no_deeper}
@@ -135,6 +136,20 @@ link_high exception = by_test (exception == 0)
     by_test true = omega arith
     by_test false = omega arith
 
+-- in a handler LR has EXC_RETURN, as those who wait will find it
+pub link_is_high : (at : Outside) (bottom highest ceiling : ℕ) (inputs : List Input) (calls : FunctionCalls)
+    (img : Image) (places : List ℕ) (p : Program) (tail : Option Debt) (c : Core) (top : ℕ) (m : Machine)
+    (takings : List Taking) (below : List Context)
+    → Waiting at bottom highest ceiling inputs calls img places p tail takings below c top m → m.exception ≢ 0
+    → 0xF0000000 ≤ m.register 14
+link_is_high at bottom highest ceiling inputs calls img places p tail c top m [] [] jobs inside = absurd (inside jobs.1)
+link_is_high at bottom highest ceiling inputs calls img places p tail c top m [] (x ∷ below) jobs inside = absurd jobs
+link_is_high at bottom highest ceiling inputs calls img places p tail c top m (taking ∷ takings) [] jobs inside =
+    absurd jobs
+link_is_high at bottom highest ceiling inputs calls img places p tail c top m (taking ∷ takings)
+    (x ∷ below) jobs inside =
+    subst (λ (v : ℕ). 0xF0000000 ≤ v) (sym jobs.4) (link_high _)
+
 -- the kinds
 data KindOf (i : Instr) : Type 0 where
   Plain : IsPlain i → KindOf i
@@ -151,7 +166,8 @@ kind_of img ceiling s instr.Back one well = IsBack refl
 kind_of img ceiling s instr.Ret one well = IsRet refl
 kind_of img ceiling s i one well = Plain tt
 
-module _ (at : Outside) (bottom highest ceiling : ℕ) (inputs : List Input) (img : Image) (places : List ℕ)
+module _ (at : Outside) (bottom highest ceiling : ℕ) (inputs : List Input) (calls : FunctionCalls) (img : Image)
+    (places : List ℕ)
     (p : Program) (i : Instr) (tail : Option Debt) (s : Moment) (d : Core) (said : Option What) (top : ℕ) (m : Machine)
     (code : HasCode at img places p)
     (laid : IsLaidOut at bottom (length s.core.processor.cells)) (reach : highest ≡ bottom + img.stack_bytes)
@@ -181,7 +197,7 @@ module _ (at : Outside) (bottom highest ceiling : ℕ) (inputs : List Input) (im
   same_instruction x = ap (λ (y : Instr × Option Note). y.0)
       (same_some (x.instruction, x.note) (i, st.note) (sym x.line ∙ st.line))
 
-  module _ (jobs : Waiting at bottom highest ceiling inputs img places p tail s.takings c.below c top m) where
+  module _ (jobs : Waiting at bottom highest ceiling inputs calls img places p tail s.takings c.below c top m) where
     -- the handler that returns
     record Link : Type 0 where
       inside : m.exception ≢ 0
@@ -189,7 +205,7 @@ module _ (at : Outside) (bottom highest ceiling : ℕ) (inputs : List Input) (im
       link : m.register 13 ≡ top → m.register 14 ≡ return_value (popped m).exception
 
     link_of : (tail : Option Debt) (takings : List Taking) (x : Context) (below : List Context)
-        → Waiting at bottom highest ceiling inputs img places p tail takings (x ∷ below) c top m → Link
+        → Waiting at bottom highest ceiling inputs calls img places p tail takings (x ∷ below) c top m → Link
     link_of tail [] x below waits = absurd waits
     link_of tail (taking ∷ takings) x below
         (aligned, small, runs, active, link, up, next, within, fits, higher, phase, fresh, more) = record {
@@ -218,7 +234,8 @@ module _ (at : Outside) (bottom highest ceiling : ℕ) (inputs : List Input) (im
         let ends : ReturnsWell img s = subst (GoesWell img ceiling s) e well in
         let there = return_context img c d said st_now in
         let l = link_of tail s.takings there.context there.others
-        (subst (λ (b : List Context). Waiting at bottom highest ceiling inputs img places p tail s.takings b c top m)
+        (subst (λ (b : List Context). Waiting at bottom highest ceiling inputs calls img places p tail s.takings b c
+        top m)
         there.below
         jobs) in
         let is = same_instruction x ∙ e in
@@ -278,18 +295,18 @@ module _ (at : Outside) (bottom highest ceiling : ℕ) (inputs : List Input) (im
           let st_now : StepsBy img (instr.Call row from) c d said =
           subst (λ (j : Instr). StepsBy img j c d said) e st in
           let b = called_body img row from c d said st_now in
-          let calls : CallsWell b.body from c = subst (GoesWell img ceiling s) e well b.body b.found in
-          let deep = stack_is_no_deeper at bottom highest ceiling inputs img places p tail s.takings c top m laid
+          let goes_well : CallsWell b.body from c = subst (GoesWell img ceiling s) e well b.body b.found in
+          let deep = stack_is_no_deeper at bottom highest ceiling inputs calls img places p tail s.takings c top m laid
           code.port
           (AlreadyDone x)
           jobs in
           let room = at_most (stack_in_use img c + b.body.frame) (img.stack_bytes / 4)
           (and_parts (arguments_fit c.processor.slots b.body from) (has_room img c b.body.frame) b.fits).1 in
           let can : CanCall at bottom img places p b.body from c m = record {
-            frame = calls.frame;
-            few = calls.few;
-            arguments = calls.arguments;
-            slots = calls.slot;
+            frame = goes_well.frame;
+            few = goes_well.few;
+            arguments = goes_well.arguments;
+            slots = goes_well.slot;
             room = omega (arith, deep, room, reach, whole);
           } in
           let y = call_has_next at bottom img places p code c top m row from b.body st_now.note b.found st_now.line
@@ -336,15 +353,18 @@ module _ (at : Outside) (bottom highest ceiling : ℕ) (inputs : List Input) (im
         let y = entering_has_next at bottom img places p code c top m x in
         (y.0, y.1, y.2, Silently (entering_goes at bottom img places p code c top m y.1 y.0 y.2 x))
     by_phase kind (Reads x) unread = absurd unread
+    by_phase kind (Calls x f) unread = absurd unread
     by_phase kind (Tails core x same) unread = absurd unread
     by_phase kind (Calling x) unread =
         let y = calling_has_next at bottom img places p code c top m x in
         (y.0, y.1, y.2, Silently (calling_goes at bottom img places p code c top m y.1 y.0 y.2 x))
 
 pub each_kind_goes_on : EachKindGoesOn
-each_kind_goes_on at bottom highest ceiling inputs img places p i tail s d said top m code laid reach whole one st well
+each_kind_goes_on at bottom highest ceiling inputs calls img places p i tail s d said top m code laid reach whole one
+    st well
     words phase
     unread jobs =
-    by_phase at bottom highest ceiling inputs img places p i tail s d said top m code laid reach whole st well words
+    by_phase at bottom highest ceiling inputs calls img places p i tail s d said top m code laid reach whole st well
+    words
     jobs
     (kind_of img ceiling s i one well) phase unread

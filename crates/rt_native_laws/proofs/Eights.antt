@@ -1,6 +1,6 @@
 -- The stack pointer is a multiple of 8 between any two machine instructions (ARMv7-M Architecture Reference Manual,
 -- section B1.5.7), where frames have an even number of words.
-use Rattle.std.proofs.Common.{◌≡◌, ◌∙◌, ℕ, zero, suc, ◌+◌, ◌*◌, ◌/◌, ◌%◌, ◌^◌, Bool, true, false, not}
+use Rattle.std.proofs.Common.{◌≡◌, ◌∙◌, ℕ, zero, suc, ◌+◌, ◌*◌, ◌/◌, ◌%◌, ◌^◌, ◌≤◌, Bool, true, false, not}
 use Rattle.std.proofs.Common.{List, [], ◌∷◌, ◌++◌, Option, Some, None, refl, sym, ap, subst, arith, length, replicate}
 use Rattle.std.proofs.Common.{flat_map, fold, IfSome}
 use Rattle.std.proofs.lemmas.List.{length-set}
@@ -36,8 +36,11 @@ use Rattle.rt_native_laws.specs.Behaving.{HasEvenFrames}
 use Rattle.rt_native_laws.specs.Going.{HasCode, IsPlain}
 use Rattle.rt_native_laws.specs.Own.{AreSteady, RunsPrivately, is_private, is_steady}
 use Rattle.rt_native_laws.specs.Phases.{AlreadyDone, Calling, Entering, IsCalling, IsDone, IsEntering, IsToCome, Phase}
-use Rattle.rt_native_laws.specs.Phases.{IsNoCall, Reads, Tails, ToCome}
+use Rattle.rt_native_laws.specs.Phases.{Calls, IsInFrame, IsNoCall, Reads, Tails, ToCome}
+use Rattle.rt_native_laws.specs.InCall.{IsInCall}
+use Rattle.rt_native_laws.specs.Deep.{IsWithinFrames}
 use Rattle.rt_native_laws.specs.Relating.{IsEvenFrame}
+use Rattle.rt_native_laws.specs.Standing.{frame_bytes}
 use Rattle.rt_native_laws.proofs.Calls.{is_free}
 use Rattle.rt_native_laws.proofs.Private.{no_return}
 use Rattle.rt_native_laws.proofs.Shapes.{address_is, plain_is_steady, reads, slot_with_address, writes}
@@ -309,13 +312,26 @@ module _ (at : Outside) (bottom : ℕ) (img : Image) (places : List ℕ) (p : Pr
       (all_front MovesByEights x.begun.passed (x.begun.next ∷ x.begun.left) all) x.begun.prepares
       (omega (arith, x.ends, eight, sixteen, none))
 
-  pub phase_is_eight : Phase at bottom img places p c top m → m.register 13 % 8 ≡ 0
-  phase_is_eight (ToCome x) = to_come_eight x
-  phase_is_eight (AlreadyDone x) = done_eight x
-  phase_is_eight (Entering x) = entering_eight x
-  phase_is_eight (Calling x) = calling_eight x
-  phase_is_eight (Reads x) = omega (arith, x.ends, eight)
-  phase_is_eight (Tails core x same) =
+  abbrev IsRounded : Type 0
+  IsRounded = (m.register 13 % 4 ≡ 0) × (top + m.register 13 % 8 ≤ m.register 13 + frame_bytes c)
+
+  rounded : IsWithinFrames at bottom c top m → m.register 13 % 8 ≡ 0 → IsRounded
+  rounded within z = (omega (arith, z), omega (arith, z, within.frames))
+
+  call_rounded : (x : IsInCall at bottom img places p c top m) → IsInFrame at bottom img places p c top m x
+      → IsWithinFrames at bottom c top m → IsRounded
+  call_rounded x f within =
+      (f.aligned, omega (arith, within.frames, f.aligned, eight, even_frame))
+
+  -- SP is a multiple of 4, and the frames of what runs hold an entry's padding
+  pub phase_is_rounded : IsWithinFrames at bottom c top m → Phase at bottom img places p c top m → IsRounded
+  phase_is_rounded within (ToCome x) = rounded within (to_come_eight x)
+  phase_is_rounded within (AlreadyDone x) = rounded within (done_eight x)
+  phase_is_rounded within (Entering x) = rounded within (entering_eight x)
+  phase_is_rounded within (Calling x) = rounded within (calling_eight x)
+  phase_is_rounded within (Reads x) = rounded within (omega (arith, x.ends, eight))
+  phase_is_rounded within (Calls x f) = call_rounded x f within
+  phase_is_rounded within (Tails core x same) =
       let even_there : IsEvenFrame x.unpaid.caller x.unpaid.processor.slots =
       subst (λ (y : Core). IsEvenFrame y.caller y.processor.slots) (sym same) even_frame in
-      omega (arith, x.ends, eight, even_there)
+      rounded within (omega (arith, x.ends, eight, even_there))

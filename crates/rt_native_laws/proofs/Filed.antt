@@ -134,7 +134,7 @@ module _ (img : Image) (target : Target) where
       omega (arith, parts, rest, ends)
 
   -- all instructions end where the code does
-  instructions_end : fault_at img target + bytes_of (instructions img target) ≡ code_end img target
+  pub instructions_end : fault_at img target + bytes_of (instructions img target) ≡ code_end img target
   instructions_end =
       let served = tick (outside img target) (timer_irq img.code) in
       let taken = entrances_from (outside img target) target (places img target) (stub_places img target) 0 img.irqs in
@@ -184,7 +184,7 @@ module _ (img : Image) (target : Target) (p : Program) (m : Machine) (flash : Is
   loaded =
       let all = memory_has_a_program m target.port in
       let has : HasText img target m = record {
-        words = fresh.words.memory;
+        words = fresh.reset.words.memory;
         table = fresh.vectors;
         bytes = text_lies;
       } in
@@ -205,17 +205,12 @@ module _ (img : Image) (target : Target) (p : Program) (m : Machine) (flash : Is
   is_at_reset =
       record {
         loaded = loaded;
-        executed = executed target p m is low;
-        values = words_lie m fresh.words.memory (first_values img) (load_at img target)
-            (first_values_aligned (code_end img target)) firsts values_lie;
-        stack = fresh.stack;
-        address = fresh.address;
-        exception = fresh.exception;
-        interrupts = fresh.interrupts;
-        is_masked = fresh.is_masked;
-        is_unsettled = fresh.is_unsettled;
-        tick = fresh.tick;
-        words = fresh.words;
+        stands = record {
+          executed = executed target p m is low;
+          values = words_lie m fresh.reset.words.memory (first_values img) (load_at img target)
+              (first_values_aligned (code_end img target)) firsts values_lie;
+          reset = fresh.reset;
+        };
       }
 
 pub files_are_programs : FilesArePrograms

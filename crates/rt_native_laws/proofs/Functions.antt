@@ -21,17 +21,15 @@ use Rattle.rt_thumb.specs.Step.{Program}
 use Rattle.rt_thumb.specs.declared.instruction.Instruction.{Instruction}
 use Rattle.rt_thumb.specs.declared.instruction.Instruction.TheVariants as instruction
 use Rattle.rt_native_laws.specs.Functions.{CallsFirst, EntryCallsFirst, FunctionsPutWords, FlashIsApart, HasComeBack}
-use Rattle.rt_native_laws.specs.Functions.{IsCalled, IsOurs, PreservesRegisters}
-use Rattle.rt_native_laws.specs.Functions.{OfCells}
-use Rattle.rt_native_laws.specs.Functions.{OfFlash, OfStack, OfSystem, OfTime}
-use Rattle.rt_native_laws.specs.Functions.{LeavesOurs, RunsHarmlessly, cells_with, core_with_cells, displacement_to}
-use Rattle.rt_native_laws.specs.Functions.{linked_call, to_function}
+use Rattle.rt_native_laws.specs.Functions.{IsCalled, IsOurs, OfCells, OfFlash, OfStack, OfSystem, OfTime, LeavesOurs}
+use Rattle.rt_native_laws.specs.Functions.{RunsHarmlessly, cells_with, core_with_cells}
 use Rattle.rt_native_laws.specs.Going.{HasCode}
 use Rattle.rt_native_laws.specs.Inputs.{IsAtInputs}
 use Rattle.rt_native_laws.specs.Moments.{HasBegun, with_core}
 use Rattle.rt_native_laws.specs.Own.{Executes, Runs, Spans}
 use Rattle.rt_native_laws.specs.Reading.{IsInput}
 use Rattle.rt_native_laws.specs.Standing.{HoldsWords, IsLaidOut, LieFrom}
+use Rattle.rt_native_laws.specs.InCall.{PreservesRegisters, displacement_to, linked_call, to_function}
 use Rattle.rt_native_laws.proofs.Accesses.{caller_length}
 use Rattle.rt_native_laws.proofs.Frames.{shifted}
 use Rattle.rt_native_laws.proofs.Inputs.{among, begins, parts_of_stub}

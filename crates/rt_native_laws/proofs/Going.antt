@@ -27,6 +27,7 @@ use Rattle.rt_native_laws.specs.Moments.{instruction_at, last_after}
 use Rattle.rt_native_laws.specs.Own.{AreSteady, ChangesItsOwn, Executes, RunsPrivately, Spans, StepsPrivately}
 use Rattle.rt_native_laws.specs.Own.{is_steady}
 use Rattle.rt_native_laws.specs.Phases.{IsNoCall, IsOrdinary, IsToCome, IsDone, Phase, ToCome, AlreadyDone, Reads}
+use Rattle.rt_native_laws.specs.Phases.{Calls}
 use Rattle.rt_native_laws.specs.Phases.{Entering, Calling, Tails, kept_words}
 use Rattle.rt_native_laws.proofs.Beginning.{entering_goes, calling_goes, same_words}
 use Rattle.rt_native_laws.specs.Standing.{IsLaidOut, StandsFor, HoldsWords, IsBeside, frames_end}
@@ -509,6 +510,7 @@ module _ (at : Outside) (bottom : ℕ) (img : Image) (places : List ℕ) (p : Pr
   by_phase (Entering x) unread = Nothing (entering_goes at bottom img places p code c top m n executed exec x)
   by_phase (Calling x) unread = Nothing (calling_goes at bottom img places p code c top m n executed exec x)
   by_phase (Reads x) unread = absurd unread
+  by_phase (Calls x f) unread = absurd unread
   by_phase (Tails core x same) unread = absurd unread
 
 pub one_event_is_one_step_or_none : OneEventIsOneStepOrNone
@@ -547,6 +549,7 @@ module _ (at : Outside) (bottom : ℕ) (img : Image) (places : List ℕ) (p : Pr
   late_by_phase (Entering x) = entering_goes at bottom img places p code c top m n executed exec x
   late_by_phase (Calling x) = calling_goes at bottom img places p code c top m n executed exec x
   late_by_phase (Reads x) = absurd (true_and_false m.is_unsettled late x.settled)
+  late_by_phase (Calls x f) = absurd (true_and_false m.is_unsettled late x.settled)
   late_by_phase (Tails core x same) = absurd (true_and_false m.is_unsettled late x.settled)
 
 pub what_is_late_is_nothing : WhatIsLateIsNothing

@@ -94,7 +94,8 @@ module _ (port : ℕ) (m n : Machine) where
   adds_to_seen (instruction.BranchIf c x) e = chosen (holds c m.flags) _ _ e ([], refl) ([], refl)
   adds_to_seen i e = made _ e ([], refl)
 
-pub run_adds : (p : Program) (is : List Instruction) (m last : Machine) → RunAtTop p is m last → Grows m last
-run_adds p [] m last run = ([], ap (λ (x : Machine). x.seen) run)
-run_adds p (i ∷ is) m last run =
-    grows_on m run.2.0 last (adds_to_seen p.port m run.2.0 i run.2.1) (run_adds p is run.2.0 last run.2.2)
+pub run_adds : (p : Program) (foreign : ℕ → Bool) (is : List Instruction) (m last : Machine)
+    → RunAtTop p foreign is m last → Grows m last
+run_adds p foreign [] m last run = ([], ap (λ (x : Machine). x.seen) run)
+run_adds p foreign (i ∷ is) m last run =
+    grows_on m run.2.0 last (adds_to_seen p.port m run.2.0 i run.2.1) (run_adds p foreign is run.2.0 last run.2.2)

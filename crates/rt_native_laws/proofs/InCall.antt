@@ -1,5 +1,5 @@
 -- A job calls its function of C, one machine instruction after the other.
-use Rattle.std.proofs.Common.{◌≡◌, ◌≢◌, ◌∙◌, ℕ, ◌+◌, ◌-◌, ◌*◌, ◌/◌, ◌^◌, ◌<◌, ◌≤◌, false}
+use Rattle.std.proofs.Common.{◌≡◌, ◌≢◌, ◌∙◌, ℕ, ◌+◌, ◌-◌, ◌*◌, ◌/◌, ◌^◌, ◌<◌, ◌≤◌}
 use Rattle.std.proofs.Common.{List, Option, Some, sym, refl, ap, subst, arith, length, ⊎_elim}
 use Rattle.std.specs.List.{filter}
 use Rattle.std.specs.Prelude.{if◌then◌else◌, ◌==◌, slice_index}
@@ -15,18 +15,17 @@ use Rattle.rt_thumb.specs.Machine.{Machine, word_at}
 use Rattle.rt_thumb.specs.Step.{Program}
 use Rattle.rt_thumb.specs.declared.instruction.Instruction.{Instruction}
 use Rattle.rt_thumb.specs.declared.instruction.Instruction.TheVariants as instruction
-use Rattle.rt_native_laws.specs.Functions.{FlashIsApart, IsOurs, PreservesRegisters, LeavesOurs, OfCells}
-use Rattle.rt_native_laws.specs.Functions.{OfFlash, OfStack, OfSystem, OfTime, displacement_to}
+use Rattle.rt_native_laws.specs.Functions.{FlashIsApart, IsOurs, LeavesOurs, OfCells, OfFlash, OfStack, OfSystem}
+use Rattle.rt_native_laws.specs.Functions.{OfTime}
 use Rattle.rt_native_laws.specs.Going.{HasCode}
-use Rattle.rt_native_laws.specs.InCall.{AtBranch, AtFall, AtKeep, AtRise, AtTake, CallGoes, CallGoesOn}
-use Rattle.rt_native_laws.specs.InCall.{CallIsNoFault, GoesOnIn}
-use Rattle.rt_native_laws.specs.InCall.{IsInCall, IsOwnCode, LeadsOnFrom, CallStage, IsAtStage, Within}
-use Rattle.rt_native_laws.specs.InCall.{keeper}
+use Rattle.rt_native_laws.specs.InCall.{PreservesRegisters, displacement_to, AtBranch, AtFall, AtKeep, AtRise, AtTake}
+use Rattle.rt_native_laws.specs.InCall.{IsInCall, IsOwnCode, CallStage, IsAtStage, Within, keeper}
 use Rattle.rt_native_laws.specs.Laws.{IsNoReturn}
 use Rattle.rt_native_laws.specs.Own.{Executes, Spans}
-use Rattle.rt_native_laws.specs.Standing.{HoldsWords, IsLaidOut}
-use Rattle.rt_native_laws.specs.Waiting.{Shows}
+use Rattle.rt_native_laws.specs.Standing.{HoldsWords, Shows}
+use Rattle.rt_native_laws.specs.GoingInCall.{CallGoes, CallGoesOn, CallIsNoFault, GoesOnIn, LeadsOnFrom}
 use Rattle.rt_native_laws.proofs.Accesses.{caller_length}
+use Rattle.rt_native_laws.proofs.CallKept.{made}
 use Rattle.rt_native_laws.proofs.Faultless.{HasNext}
 use Rattle.rt_native_laws.proofs.Frames.{shifted}
 use Rattle.rt_native_laws.proofs.Functions.{offset}
@@ -35,9 +34,20 @@ use Rattle.rt_native_laws.proofs.Jumps.{leap_leads}
 use Rattle.rt_native_laws.proofs.Keeping.{written as memory_with}
 use Rattle.rt_native_laws.proofs.Pieces.{IsMemory, loading_is, moved, other, same, storing_is}
 use Rattle.rt_native_laws.proofs.Prefixes.{same_next}
-use Rattle.rt_native_laws.proofs.Reading.{all_inputs}
 use Rattle.rt_native_laws.proofs.Steady.{words_after}
 use Rattle.rt_native_laws.proofs.Unopened.{IsUnopened}
+
+fall_is_no_call : (d : ℕ) → Some (instruction.SubtractStack 8) ≡ Some (instruction.Call d) → ⊥
+fall_is_no_call d e = cc
+
+keep_is_no_call : (d : ℕ) → Some (instruction.StoreWide 14 13 0) ≡ Some (instruction.Call d) → ⊥
+keep_is_no_call d e = cc
+
+take_is_no_call : (d : ℕ) → Some (instruction.LoadWide 14 13 0) ≡ Some (instruction.Call d) → ⊥
+take_is_no_call d e = cc
+
+rise_is_no_call : (d : ℕ) → Some (instruction.AddStack 8) ≡ Some (instruction.Call d) → ⊥
+rise_is_no_call d e = cc
 
 module _ (at : Outside) (bottom : ℕ) (img : Image) (places : List ℕ) (p : Program) (c : Core) (top : ℕ) (m : Machine)
     (x : IsInCall at bottom img places p c top m) where
@@ -47,56 +57,6 @@ module _ (at : Outside) (bottom : ℕ) (img : Image) (places : List ℕ) (p : Pr
   -- what is true of a job at a stage
   abbrev There : Machine → Machine → CallStage → Type 0
   There called n stage = IsAtStage x.begins top link x.room called n stage
-
-  abbrev Keeps : Machine → Machine → CallStage → Type 0
-  Keeps called n stage = PreservesRegisters x.registers (keeper x.begins top link x.room called n stage)
-
-  -- the call goes on at a stage
-  pub made : (d : Core) (n : Machine) (stage : CallStage) (called : Machine)
-      → length d.processor.cells ≡ length c.processor.cells → d.processor.address ≡ c.processor.address
-      → length d.processor.slots ≡ length c.processor.slots → d.caller ≡ c.caller → There called n stage
-      → Keeps called n stage → n.exception ≡ m.exception → Shows at d n → n.is_unsettled ≡ false → HoldsWords n
-      → GoesOnIn at bottom img places p top c d m n x stage called
-  made d n stage called as_many address slots caller there keeps exception shows settled words = record {
-    call = record {
-      to = x.to;
-      irq = x.irq;
-      handler = x.handler;
-      declared = x.declared;
-      inputs = all_inputs (length c.processor.cells) (length d.processor.cells) as_many
-          (filter (λ i. i.irq == x.irq) x.declared) x.inputs;
-      function = x.function;
-      reached = x.reached;
-      room = x.room;
-      begins = x.begins;
-      halfword = x.halfword;
-      code = x.code;
-      low = x.low;
-      registers = x.registers;
-      called = called;
-      stage = stage;
-      there = there;
-      keeps = keeps;
-      exception = exception ∙ x.exception;
-      laid = subst (IsLaidOut at bottom) (sym as_many) x.laid;
-      entry = address ∙ x.entry;
-      frame = slots ∙ x.frame;
-      free = caller ∙ x.free;
-      eights = x.eights;
-      for_frame = x.for_frame;
-      for_function = x.for_function;
-      below_cells = x.below_cells;
-      shows = shows;
-      settled = settled;
-      words = words;
-    };
-    at_stage = refl;
-    called_at = refl;
-    declared = refl;
-    function = refl;
-    room = refl;
-    registers = refl;
-  }
 
   -- where EXC_RETURN is kept
   abbrev kept_at : ℕ
@@ -199,6 +159,26 @@ module _ (at : Outside) (bottom : ℕ) (img : Image) (places : List ℕ) (p : Pr
   next_by port Within t out = absurd out
   next_by port AtTake t out = (_, _, loads port t)
   next_by port AtRise t out = (_, _, rises t)
+
+  no_branch_by : p.port ≡ at.port → (stage : CallStage) → There x.called m stage → stage ≢ AtBranch → stage ≢ Within
+      → (d : ℕ) → p.code m.address ≡ Some (instruction.Call d) → ⊥
+  no_branch_by port AtFall t other out d e = fall_is_no_call d (sym (falls t).found ∙ e)
+  no_branch_by port AtKeep t other out d e = keep_is_no_call d (sym (stores port t).found ∙ e)
+  no_branch_by port AtBranch t other out d e = absurd (other refl)
+  no_branch_by port Within t other out d e = absurd (out refl)
+  no_branch_by port AtTake t other out d e = take_is_no_call d (sym (loads port t).found ∙ e)
+  no_branch_by port AtRise t other out d e = rise_is_no_call d (sym (rises t).found ∙ e)
+
+  -- but for the BL none of the call's instructions is one
+  pub is_no_branch : p.port ≡ at.port → x.stage ≢ AtBranch → x.stage ≢ Within → (d : ℕ)
+      → p.code m.address ≡ Some (instruction.Call d) → ⊥
+  is_no_branch port other out d e = no_branch_by port x.stage x.there other out d e
+
+  -- the BL is next
+  pub branch_executes : p.port ≡ at.port → x.stage ≡ AtBranch
+      → (d : ℕ) × (n : Machine) × Executes p (instruction.Call d) m n
+  branch_executes port e =
+      (displacement_to x.begins x.function, branched, branches (subst (There x.called m) e x.there))
 
 pub call_is_no_fault : CallIsNoFault
 call_is_no_fault at bottom img places p c top m code x outside =

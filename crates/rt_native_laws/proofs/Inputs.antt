@@ -31,7 +31,8 @@ use Rattle.rt_native_laws.specs.Inputs.{read_behind, EntryReadsInputs}
 use Rattle.rt_native_laws.specs.Laws.{IsNoReturn}
 use Rattle.rt_native_laws.specs.Own.{Executes, Spans}
 use Rattle.rt_native_laws.specs.Reading.{IsInput, IsReading, Reading, AtLow, AtTop, AtLoad}
-use Rattle.rt_native_laws.specs.Reading.{AtCellLow, AtCellTop, AtStore, Holds, passed}
+use Rattle.rt_native_laws.specs.Devices.{LoadsNext}
+use Rattle.rt_native_laws.specs.Reading.{AtCellLow, AtCellTop, AtStore, Holds, passed, read_at}
 use Rattle.rt_native_laws.specs.Standing.{IsLaidOut, StandsFor, HoldsWords, IsBeside}
 use Rattle.rt_native_laws.proofs.Accesses.{caller_length}
 use Rattle.rt_native_laws.proofs.Faultless.{HasNext}
@@ -45,6 +46,22 @@ use Rattle.rt_native_laws.proofs.Steady.{words_after}
 use Rattle.rt_native_laws.proofs.Tail.{stands_with}
 use Rattle.rt_native_laws.proofs.Unopened.{IsUnopened}
 use Rattle.rt_native_laws.proofs.Waiting.{unopened_inside}
+
+-- the load is none of the other stages
+low_no_load : AtLow ≡ AtLoad → ⊥
+low_no_load e = cc
+
+top_no_load : AtTop ≡ AtLoad → ⊥
+top_no_load e = cc
+
+cell_no_load : AtCellLow ≡ AtLoad → ⊥
+cell_no_load e = cc
+
+cell_top_no_load : AtCellTop ≡ AtLoad → ⊥
+cell_top_no_load e = cc
+
+stages_differ : AtStore ≡ AtLoad → ⊥
+stages_differ e = cc
 
 -- words beside are no cell's
 not_cell : (at : Outside) (bottom count : ℕ) → IsLaidOut at bottom count → (sp after top j k : ℕ) → sp ≤ at.cells
@@ -212,12 +229,13 @@ module _ (at : Outside) (bottom : ℕ) (img : Image) (places : List ℕ) (p : Pr
 
   -- registers alone are changed, and the next stage begins
   goes_to : (i : Instruction) (stage : Reading) (value : ℕ) (register : ℕ → ℕ) (to : ℕ)
-      → value ≡ read_behind x.stage input x.value m
+      → read_at stage input value ≡ read_behind x.stage input x.value m
+      → (x.stage ≡ AtLoad → LoadsNext p m input.address)
       → p.code m.address ≡ Some i → effect p.port i m ≡ Some (moved m register m.flags to) → IsNoReturn i m
       → ((k : ℕ) → 4 ≤ k → register k ≡ m.register k)
       → Spans p to (drop (passed stage) (read_input at input) ++ behind) x.to
       → Holds at input value (moved m register m.flags to) stage → Result n
-  goes_to i stage value register to e found does plain o span holds =
+  goes_to i stage value register to e loads found does plain o span holds =
       let y = moved m register m.flags to in
       let sp : register 13 ≡ m.register 13 = o 13 (omega arith) in
       let again : IsReading at bottom img places p c top y = record {
@@ -247,7 +265,8 @@ module _ (at : Outside) (bottom : ℕ) (img : Image) (places : List ℕ) (p : Pr
         words = words_then i y found does plain;
       } in
       subst Result (leads i y found does) (record {
-        phase = inl (again, refl, e, refl);
+        phase = inl (again, ap (λ (r : Option (Input × ℕ)). (x.declared, r)) e);
+        loads = loads;
         others = record {
           registers = λ k h g. o k h;
           memory = λ k h. refl;
@@ -320,9 +339,9 @@ module _ (at : Outside) (bottom : ℕ) (img : Image) (places : List ℕ) (p : Pr
     words = words;
   }
 
-  stores : p.code m.address ≡ Some (instruction.Store 0 1 0) → m.register 0 ≡ x.value
+  stores : x.stage ≡ AtStore → p.code m.address ≡ Some (instruction.Store 0 1 0) → m.register 0 ≡ x.value
       → m.register 1 ≡ cell at input.cell → Spans p (m.address + 2) behind x.to → Result n
-  stores found r0 r1 span =
+  stores stage found r0 r1 span =
       let i = instruction.Store 0 1 0 in
       let does : effect p.port i m ≡ Some stored =
       storing_is p.port i 0 (word (m.register 1 + 0)) place m (omega (arith, r1, cell_is, in_memory.below)) in_memory
@@ -333,7 +352,9 @@ module _ (at : Outside) (bottom : ℕ) (img : Image) (places : List ℕ) (p : Pr
               (unopened (words_then i stored found does tt)) x.declared x.exception x.more
               (all_inputs count (length after.processor.cells) as_many x.more x.inputs.1) x.among.1 span,
           subst (λ (v : ℕ). v < 2 ^ 32) r0 (x.words.registers 0),
+          ap (λ (s : Reading). read_at s input x.value) stage,
         );
+        loads = λ e. absurd (stages_differ (sym stage ∙ e));
         others = record {
           registers = λ k h g. refl;
           memory = λ k h. other k (place / 4) x.value (m.memory k)
@@ -352,12 +373,14 @@ module _ (at : Outside) (bottom : ℕ) (img : Image) (places : List ℕ) (p : Pr
   by_stage AtLow e span holds =
       goes_to (instruction.MoveWide 1 (input.address % 2 ^ 16)) AtTop x.value
       (λ k. if k == 1 then input.address % 2 ^ 16 else m.register k) (m.address + 4)
-      (ap (λ (y : Reading). read_behind y input x.value m) (sym e)) span.0 refl tt
+      (ap (λ (y : Reading). read_behind y input x.value m) (sym e)) (λ f. absurd
+      (low_no_load (sym e ∙ f))) span.0 refl tt
       (λ k h. other k 1 _ _ (λ f. omega (arith, f, h))) span.1 refl
   by_stage AtTop e span r1 =
       goes_to (instruction.MoveTop 1 (input.address / 2 ^ 16)) AtLoad x.value
       (λ k. if k == 1 then input.address / 2 ^ 16 * 2 ^ 16 + m.register 1 % 2 ^ 16 else m.register k) (m.address + 4)
-      (ap (λ (y : Reading). read_behind y input x.value m) (sym e)) span.0 refl tt
+      (ap (λ (y : Reading). read_behind y input x.value m) (sym e)) (λ f. absurd
+      (top_no_load (sym e ∙ f))) span.0 refl tt
       (λ k h. other k 1 _ _ (λ f. omega (arith, f, h))) span.1
       (ap (λ (v : ℕ). input.address / 2 ^ 16 * 2 ^ 16 + v % 2 ^ 16) r1 ∙ halves input.address)
   by_stage AtLoad e span r1 =
@@ -365,20 +388,29 @@ module _ (at : Outside) (bottom : ℕ) (img : Image) (places : List ℕ) (p : Pr
       let is = x.inputs.0 in
       let does = loading_is i 0 (word (m.register 1 + 0)) input.address m (omega (arith, r1, is.address)) is.aligned in
       goes_to i AtCellLow (word_at m input.address) (λ k. if k == 0 then word_at m input.address else m.register k)
-      (m.address + 2) (ap (λ (y : Reading). read_behind y input x.value m) (sym e)) span.0 does tt
+      (m.address + 2) (ap (λ (y : Reading). read_behind y input x.value m) (sym e))
+      (λ f. record {
+        into = 0;
+        base = 1;
+        offset = 0;
+        found = span.0;
+        from = omega (arith, r1, is.address);
+      }) span.0 does tt
       (λ k h. other k 0 _ _ (λ f. omega (arith, f, h))) span.1 refl
   by_stage AtCellLow e span r0 =
       goes_to (instruction.MoveWide 1 (cell at input.cell % 2 ^ 16)) AtCellTop x.value
       (λ k. if k == 1 then cell at input.cell % 2 ^ 16 else m.register k) (m.address + 4)
-      (ap (λ (y : Reading). read_behind y input x.value m) (sym e)) span.0 refl tt
+      (ap (λ (y : Reading). read_behind y input x.value m) (sym e)) (λ f. absurd
+      (cell_no_load (sym e ∙ f))) span.0 refl tt
       (λ k h. other k 1 _ _ (λ f. omega (arith, f, h))) span.1 (r0, refl)
   by_stage AtCellTop e span (r0, r1) =
       goes_to (instruction.MoveTop 1 (cell at input.cell / 2 ^ 16)) AtStore x.value
       (λ k. if k == 1 then cell at input.cell / 2 ^ 16 * 2 ^ 16 + m.register 1 % 2 ^ 16 else m.register k)
-      (m.address + 4) (ap (λ (y : Reading). read_behind y input x.value m) (sym e)) span.0 refl tt
+      (m.address + 4) (ap (λ (y : Reading). read_behind y input x.value m) (sym e))
+      (λ f. absurd (cell_top_no_load (sym e ∙ f))) span.0 refl tt
       (λ k h. other k 1 _ _ (λ f. omega (arith, f, h))) span.1
       (r0, ap (λ (v : ℕ). cell at input.cell / 2 ^ 16 * 2 ^ 16 + v % 2 ^ 16) r1 ∙ halves (cell at input.cell))
-  by_stage AtStore e span (r0, r1) = stores span.0 r0 r1 span.1
+  by_stage AtStore e span (r0, r1) = stores e span.0 r0 r1 span.1
 
 pub reading_goes_on : ReadingGoesOn
 reading_goes_on at bottom img places p c top m n executed code x exec =

@@ -1,5 +1,5 @@
 -- A machine instruction where no exception is taken before it leads on.
-use Rattle.std.proofs.Common.{◌≡◌, ◌∙◌, ℕ, ◌^◌, ◌<◌, ◌⊎◌, inl, inr, Bool, true, false, List, [], ◌∷◌}
+use Rattle.std.proofs.Common.{◌≡◌, ◌≢◌, ◌∙◌, ℕ, ◌^◌, ◌<◌, ◌≤◌, ◌⊎◌, inl, inr, Bool, true, false, List, [], ◌∷◌}
 use Rattle.std.proofs.Common.{◌++◌, Option, Some}
 use Rattle.std.proofs.Common.{IfSome, None, refl, sym, ap, subst, arith, length, ⊎_elim}
 use Rattle.std.specs.Prelude.{if◌then◌else◌, option_map, slice_get, ⊤}
@@ -24,28 +24,34 @@ use Rattle.rt_native_laws.specs.Behaving.{GoesWell, IsGood, SetsTheAlarm, StaysG
 use Rattle.rt_native_laws.specs.EachKind.{BySteps, ByReturn, EachGoes, HasOneCommit, Silently}
 use Rattle.rt_native_laws.specs.Going.{IsNothing, LeavesOthers, StepsBy}
 use Rattle.rt_native_laws.specs.InTail.{Debt, IsInTail}
-use Rattle.rt_native_laws.specs.Moments.{Began, Happening, Moment, instruction_at, with_core}
+use Rattle.rt_native_laws.specs.Moments.{HasJustRead, Happening, Moment, instruction_at, with_core}
 use Rattle.rt_native_laws.specs.Own.{AreSteady, Executes, RunsPrivately}
-use Rattle.rt_native_laws.specs.Phases.{AlreadyDone, Calling, Entering, IsDone, IsOrdinary, IsToCome, Phase, Reads}
+use Rattle.rt_native_laws.specs.Phases.{AlreadyDone, Calling, Calls, Entering, FunctionCall, IsDone, IsOrdinary}
+use Rattle.rt_native_laws.specs.Phases.{IsToCome, Phase, Reads, call_of, viewed}
 use Rattle.rt_native_laws.specs.Phases.{Tails, ToCome, kept_words, reads_from, tail_of}
-use Rattle.rt_native_laws.specs.Relating.{InstructionsLeadOn, IsPastMarks, IsInPlace, IsWhere}
+use Rattle.rt_native_laws.specs.Relating.{CallsNone, InstructionsLeadOn, IsInPlace, IsOwnInstruction, IsPastMarks}
+use Rattle.rt_native_laws.specs.Relating.{IsWhere}
+use Rattle.rt_native_laws.specs.Relating.{call_here, calls_of}
 use Rattle.rt_native_laws.specs.Relating.{LeadsOn, Related, lowest}
 use Rattle.rt_native_laws.specs.Standing.{HoldsWords, IsLaidOut, StandsFor, frames_end}
-use Rattle.rt_native_laws.specs.Waiting.{others_tail}
+use Rattle.rt_native_laws.specs.Waiting.{Waiting, others_tail}
 use Rattle.rt_native_laws.proofs.Beginning.{calling_goes, entering_goes}
-use Rattle.rt_native_laws.proofs.EachKind.{each_kind_goes_on}
+use Rattle.rt_native_laws.proofs.EachKind.{each_kind_goes_on, link_is_high}
 use Rattle.rt_native_laws.proofs.Faultless.{calling_has_next, done_has_next, entering_has_next}
 use Rattle.rt_native_laws.proofs.Going.{goes_behind, to_come_at}
-use Rattle.rt_native_laws.proofs.Inputs.{reading_has_next}
+use Rattle.rt_native_laws.proofs.Inputs.{reading_goes_on, reading_has_next}
 use Rattle.rt_native_laws.proofs.Leading.{reading_leads_on, silence_leads_on, step_leads_on}
 use Rattle.rt_native_laws.proofs.Marking.{steps_by}
 use Rattle.rt_native_laws.proofs.Prefixes.{same_some}
-use Rattle.rt_native_laws.proofs.Reading.{ordinary_in_no_tail}
+use Rattle.rt_native_laws.proofs.Branching.{none_by_link, none_by_return}
+use Rattle.rt_native_laws.proofs.LeadingInCall.{call_leads_on}
+use Rattle.rt_native_laws.proofs.Leaving.{return_pops}
+use Rattle.rt_native_laws.proofs.Viewing.{IsAlone, ordinary_alone}
 use Rattle.rt_native_laws.proofs.Returning.{return_leads_on}
 use Rattle.rt_native_laws.proofs.Shapes.{alarm_has_first}
 use Rattle.rt_native_laws.proofs.Shaping.{StaysInContext}
 use Rattle.rt_native_laws.proofs.Storing.{alarm_has_next, alarm_is_stored}
-use Rattle.rt_native_laws.proofs.Tail.{tails_are_no_fault}
+use Rattle.rt_native_laws.proofs.Tail.{tail_goes_on, tails_are_no_fault}
 use Rattle.rt_native_laws.proofs.Tailing.{store_leads_on, tail_leads_on}
 use Rattle.rt_native_laws.proofs.Unpaid.{IsQuiet, above, good_unpaid, picks_same, quiet_above}
 
@@ -124,6 +130,7 @@ module _ (img : Image) (target : Target) (p : Program) (there : IsInPlace img ta
   pub is_silent : (phase : ThePhase) → IsOrdinary at bottom img pl p c top m phase
       → IsPastMarks img target p c top m phase → pick img c ≡ None → Silent phase ⊎ NoMark
   is_silent (Reads x) unread past none = absurd unread
+  is_silent (Calls x f) unread past none = absurd unread
   is_silent (Tails core x same) unread past none = absurd unread
   is_silent (ToCome x) unread past none = inr (to_come_no_mark x)
   is_silent (AlreadyDone x) unread past none =
@@ -136,16 +143,18 @@ module _ (img : Image) (target : Target) (p : Program) (there : IsInPlace img ta
       let y = calling_has_next at bottom img pl p there.has c top m x in
       inl (y.0, y.1, y.2, calling_goes at bottom img pl p there.has c top m y.1 y.0 y.2 x)
 
-abbrev Result : Image → Target → Program → ℕ → (List Happening → Bool) → Moment → Machine → Type 0
-Result img target p ceiling fits s m =
-    (n : Machine) × (executed p m ≡ Some n) × LeadsOn img target p ceiling fits s m n
+abbrev Result : Image → Target → Program → ℕ → (ℕ → Option Machine) → (List Happening → Bool) → Moment → Machine
+    → Type 0
+Result img target p ceiling called fits s m =
+    (n : Machine) × (executed p m ≡ Some n) × LeadsOn img target p ceiling called fits s m n × CallsNone p m
 
 pub executes_so : (p : Program) (i : Instruction) (m n : Machine) → Executes p i m n → executed p m ≡ Some n
 executes_so p i m n exec = ap (executing p.port m) exec.found ∙ exec.does
 
 module _ (img : Image) (target : Target) (p : Program) (there : IsInPlace img target p) (ceiling : ℕ)
+    (called : ℕ → Option Machine)
     (fits : List Happening → Bool) (s : Moment) (m : Machine) (stays : StaysGood img target.inputs ceiling fits s)
-    (w : IsWhere img target p ceiling s m) where
+    (w : IsWhere img target p ceiling called s m) where
   abbrev c : Core
   c = w.unpaid
 
@@ -161,16 +170,32 @@ module _ (img : Image) (target : Target) (p : Program) (there : IsInPlace img ta
   laid_now : IsLaidOut outer base (length c.processor.cells)
   laid_now = subst (IsLaidOut outer base) (sym w.cells) there.laid
 
+  -- what is executed that leaves LR as it is calls no function
+  module _ (own : IsAlone outer base img spots p c w.top m w.phase) (j : Instruction) (n : Machine)
+      (exec : Executes p j m n) where
+    link : m.exception ≢ 0 → 0xF0000000 ≤ m.register 14
+    link inside =
+        subst (λ (v : Machine). v.exception ≢ 0 → 0xF0000000 ≤ v.register 14) own.view
+        (link_is_high outer base (stack_top img target) ceiling target.inputs (calls_of target called) img spots p
+        (others_tail (tail_of outer base img spots p c w.top m w.phase) w.tail) c w.top
+        (viewed outer base img spots p c w.top m w.phase) s.takings c.below w.waiting) inside
+
+    none_called : n.register 14 ≡ m.register 14 → CallsNone p m
+    none_called same = none_by_link p j m n exec (there.has.low m.address j exec.found) same link
+
   module _ (unread : IsOrdinary outer base img spots p c w.top m w.phase)
       (good : IsGood img ceiling s) (none : pick img c ≡ None) where
-    own : tail_of outer base img spots p c w.top m w.phase ≡ None
-    own = ordinary_in_no_tail outer base img spots p c w.top m w.phase unread
+    own : IsAlone outer base img spots p c w.top m w.phase
+    own = ordinary_alone outer base img spots p c w.top m w.phase unread
 
-    quiet : IsQuiet img target p ceiling s m w
-    quiet = quiet_above img target p ceiling s m w good own
+    none_here : (j : Instruction) (n : Machine) → Executes p j m n → n.register 14 ≡ m.register 14 → CallsNone p m
+    none_here j n exec same = none_called own j n exec same
+
+    quiet : IsQuiet img target p ceiling called s m w
+    quiet = quiet_above img target p ceiling called s m w good own.tail
 
     good_here : IsGood img ceiling (with_core s c)
-    good_here = good_unpaid img target p ceiling s m w quiet good
+    good_here = good_unpaid img target p ceiling called s m w quiet good
 
     line_here : HasLine img c
     line_here = line_there img c good_here.goes none good_here.no_trap
@@ -187,34 +212,53 @@ module _ (img : Image) (target : Target) (p : Program) (there : IsInPlace img ta
     at_it : instruction_at img c ≡ Some i
     at_it = ap (option_map (λ x. x.0)) line_here.line
 
+    silently : (j : Instruction) (n : Machine) → Executes p j m n
+        → IsNothing outer base img spots p c w.top m n (kept_words outer base img spots p c w.top m w.phase)
+        → Result img target p ceiling called fits s m
+    silently j n exec y = (
+      n,
+      executes_so p j m n exec,
+      silence_leads_on img target p there ceiling called fits s m n stays w j exec own y,
+      none_here j n exec (y.unseen.registers 14 (omega arith) (λ e. omega (arith, e))),
+    )
+
     module _ (one : HasOneCommit i) where
       by_kind : (executed : Instruction) (n : Machine) → Executes p executed m n
           → EachGoes outer base img spots p c w.top m n (kept_words outer base img spots p c w.top m w.phase)
           (step img c).0 (step img c).1
-          → Result img target p ceiling fits s m
+          → Result img target p ceiling called fits s m
       by_kind j n exec (Silently y) =
-          (n, executes_so p j m n exec, silence_leads_on img target p there ceiling fits s m n stays w j exec own y)
+          silently j n exec y
       by_kind j n exec (BySteps core loosely never y) = (
         n,
         executes_so p j m n exec,
-        step_leads_on img target p there ceiling fits s m n stays w j exec own quiet i st
+        step_leads_on img target p there ceiling called fits s m n stays w j exec own quiet i st
             (stays_of i one (λ e. never (at_it ∙ ap (λ (k : Instr). Some k) e))) core loosely y,
+        none_here j n exec (y.others.registers 14 (omega arith) (λ e. omega (arith, e))),
       )
       by_kind j n exec (ByReturn at_ret stack goes) =
           let is : i ≡ instr.Ret = same_some i instr.Ret (sym at_it ∙ at_ret) in (
             n,
             executes_so p j m n exec,
-            return_leads_on img target p there ceiling fits s m n stays w j exec own
+            return_leads_on img target p there ceiling called fits s m n stays w j exec own
                 (subst (λ (k : Instr). StepsBy img k c (step img c).0 (step img c).1) is st)
                 (subst (GoesWell img ceiling (with_core s c)) is well) stack goes,
+            none_by_return p j m n exec m.exception
+                (sym (ap (λ (y : Machine). y.seen) (return_pops (m.register 14) m n goes))),
           )
 
-      instructs : Result img target p ceiling fits s m
+      instructs : Result img target p ceiling called fits s m
       instructs =
-          let y = each_kind_goes_on outer base (stack_top img target) ceiling target.inputs img spots p i
+          let y = each_kind_goes_on outer base (stack_top img target) ceiling target.inputs
+          (calls_of target called) img spots p i
           (others_tail (tail_of outer base img spots p c w.top m w.phase) w.tail) (with_core s c) (step img c).0
           (step img c).1 w.top m there.has laid_now there.reach
-          (omega (arith, there.image.runnable.sizes.stack_pairs)) one st well w.words w.phase unread w.waiting in
+          (omega (arith, there.image.runnable.sizes.stack_pairs)) one st well w.words w.phase unread
+          (subst (λ (v : Machine). Waiting outer base (stack_top img target) ceiling target.inputs
+          (calls_of target called)
+          img spots p (others_tail (tail_of outer base img spots p c w.top m w.phase) w.tail) s.takings c.below c w.top
+          v)
+          own.view w.waiting) in
           by_kind y.0 y.1 y.2 y.3
 
     -- an alarm
@@ -234,7 +278,7 @@ module _ (img : Image) (target : Target) (p : Program) (there : IsInPlace img ta
       -- nobody who waits is in a tail
       none_owed : w.tail ≡ None
       none_owed =
-          by_tail w.tail (above img target p ceiling s m w own)
+          by_tail w.tail (above img target p ceiling called s m w own.tail)
         where
           by_tail : (o : Option Debt) → IfSome o (λ t. running_value c.below < ceiling) → o ≡ None
           by_tail None higher = refl
@@ -246,20 +290,21 @@ module _ (img : Image) (target : Target) (p : Program) (there : IsInPlace img ta
             processor = next c.processor;
             alarm = Some (record { instant = x.instant; irq = irq });
           }) × LeavesOthers outer w.top None m n)
-          → Result img target p ceiling fits s m
-      by_event j n exec (inl y) =
-          (n, executes_so p j m n exec, silence_leads_on img target p there ceiling fits s m n stays w j exec own y)
+          → Result img target p ceiling called fits s m
+      by_event j n exec (inl y) = silently j n exec y
       by_event j n exec (inr y) = (
         n,
         executes_so p j m n exec,
-        store_leads_on img target p there ceiling fits s m n stays w j exec own none_owed quiet slot irq st_here sets
+        store_leads_on img target p there ceiling called fits s m n stays w j exec own none_owed quiet slot irq st_here
+            sets
             y.0 y.1 y.2 y.3,
+        none_here j n exec (y.3.registers 14 (omega arith) (λ e. omega (arith, e))),
       )
 
       -- it is to come
       comes : (phase : Phase outer base img spots p c w.top m) → w.phase ≡ phase
           → kept_words outer base img spots p c w.top m phase ≡ length c.processor.slots
-          → IsToCome outer base img spots p c w.top m → Result img target p ceiling fits s m
+          → IsToCome outer base img spots p c w.top m → Result img target p ceiling called fits s m
       comes phase e words x =
           let y = alarm_has_next outer base img spots p there.has slot irq small c d (step img c).1 st_here w.top m x in
           by_event y.0 y.1 y.2
@@ -274,7 +319,7 @@ module _ (img : Image) (target : Target) (p : Program) (there : IsInPlace img ta
           y.2))
 
       silent : (phase : Phase outer base img spots p c w.top m) → w.phase ≡ phase
-          → Silent img target p there c w.top m laid_now phase → Result img target p ceiling fits s m
+          → Silent img target p there c w.top m laid_now phase → Result img target p ceiling called fits s m
       silent phase e y =
           by_event y.0 y.1 y.2
           (inl (subst (λ (f : Phase outer base img spots p c w.top m). IsNothing outer base img spots p c w.top m y.1
@@ -282,7 +327,7 @@ module _ (img : Image) (target : Target) (p : Program) (there : IsInPlace img ta
 
       between : (x : IsDone outer base img spots p c w.top m) → w.phase ≡ AlreadyDone x → (left : List Instruction)
           → AreSteady left → RunsPrivately p (x.last.register 13) w.top left m x.last
-          → Result img target p ceiling fits s m
+          → Result img target p ceiling called fits s m
       between x e [] steady ran =
           comes (AlreadyDone x) e refl
           (to_come_at outer base img spots p c w.top m (instr.Alarm slot irq) line_here.note there.has
@@ -298,7 +343,7 @@ module _ (img : Image) (target : Target) (p : Program) (there : IsInPlace img ta
           (y.0, y.1, y.2, goes_behind outer base img spots p there.has c laid_now w.top m y.1 y.0 y.2 x j js steady ran)
 
       alarms : (phase : Phase outer base img spots p c w.top m) → w.phase ≡ phase
-          → IsOrdinary outer base img spots p c w.top m phase → Result img target p ceiling fits s m
+          → IsOrdinary outer base img spots p c w.top m phase → Result img target p ceiling called fits s m
       alarms (ToCome x) e so = comes (ToCome x) e refl x
       alarms (AlreadyDone x) e so = between x e x.left x.steady x.completes
       alarms (Entering x) e so =
@@ -308,81 +353,110 @@ module _ (img : Image) (target : Target) (p : Program) (there : IsInPlace img ta
           let y = calling_has_next outer base img spots p there.has c w.top m x in
           silent (Calling x) e (y.0, y.1, y.2, calling_goes outer base img spots p there.has c w.top m y.1 y.0 y.2 x)
       alarms (Reads x) e so = absurd so
+      alarms (Calls x f) e so = absurd so
       alarms (Tails core x same) e so = absurd so
 
     by_instruction : (instruction_at img c ≡ Some instr.Mark → ⊥) → (j : Instr) → i ≡ j
-        → Result img target p ceiling fits s m
+        → Result img target p ceiling called fits s m
     by_instruction never (instr.Alarm slot irq) e = alarms slot irq e w.phase refl unread
     by_instruction never instr.Mark e = absurd (never (at_it ∙ ap (λ (k : Instr). Some k) e))
     by_instruction never j e = instructs (subst HasOneCommit (sym e) tt)
 
 -- where an input is read, and where none is
 module _ (img : Image) (target : Target) (p : Program) (there : IsInPlace img target p) (ceiling : ℕ)
+    (called : ℕ → Option Machine)
     (fits : List Happening → Bool) (s : Moment) (m : Machine)
     (stays : StaysGood img target.inputs ceiling fits s) (fitting : fits [] ≡ true)
-    (r : Related img target p ceiling s m) (none : pick img s.core ≡ None) where
-  abbrev w : IsWhere img target p ceiling s m
-  w = r.here
+    (r : Related img target p ceiling called s m)
+    (own_here : IsOwnInstruction (call_here img target p ceiling called s m r.here)) (none : pick img s.core ≡ None)
+  where
+    abbrev w : IsWhere img target p ceiling called s m
+    w = r.here
 
-  abbrev ItsPhase : Type 0
-  ItsPhase = Phase (outside img target) (lowest img target p) img (places img target) p w.unpaid w.top m
+    abbrev ItsPhase : Type 0
+    ItsPhase = Phase (outside img target) (lowest img target p) img (places img target) p w.unpaid w.top m
 
-  none_here : pick img w.unpaid ≡ None
-  none_here = sym (picks_same img target p ceiling s m w) ∙ none
+    none_picked : pick img w.unpaid ≡ None
+    none_picked = sym (picks_same img target p ceiling called s m w) ∙ none
 
-  good : IsGood img ceiling s
-  good = stays [] tt fitting
+    good : IsGood img ceiling s
+    good = stays [] tt fitting
 
-  no_input : IsOrdinary (outside img target) (lowest img target p) img
-      (places img target) p w.unpaid w.top m w.phase
-      → Result img target p ceiling fits s m
-  no_input unread =
-      let laid = laid_now img target p there ceiling fits s m stays w in
-      ⊎_elim
-      (λ (y : Silent img target p there w.unpaid w.top m laid w.phase). (
-        y.1,
-        executes_so p y.0 m y.1 y.2,
-        silence_leads_on img target p there ceiling fits s m y.1 stays w y.0 y.2
-            (own img target p there ceiling fits s m stays w unread good none_here) y.3,
-      ))
-      (λ (never : instruction_at img w.unpaid ≡ Some instr.Mark → ⊥).
-      by_instruction img target p there ceiling fits s m stays w unread good none_here never
-      (line_here img target p there ceiling fits s m stays w unread good none_here).i refl)
-      (is_silent img target p there w.unpaid w.top m laid w.phase unread r.marks none_here)
+    no_input : IsOrdinary (outside img target) (lowest img target p) img
+        (places img target) p w.unpaid w.top m w.phase
+        → Result img target p ceiling called fits s m
+    no_input unread =
+        let laid = laid_now img target p there ceiling called fits s m stays w in
+        ⊎_elim
+        (λ (y : Silent img target p there w.unpaid w.top m laid w.phase).
+        silently img target p there ceiling called fits s m stays w unread good none_picked y.0 y.1 y.2 y.3)
+        (λ (never : instruction_at img w.unpaid ≡ Some instr.Mark → ⊥).
+        by_instruction img target p there ceiling called fits s m stays w unread good none_picked never
+        (line_here img target p there ceiling called fits s m stays w unread good none_picked).i refl)
+        (is_silent img target p there w.unpaid w.top m laid w.phase unread r.marks none_picked)
 
-  abbrev IsFirst : ItsPhase → Type 0
-  IsFirst phase =
-      IfSome (reads_from (outside img target) (lowest img target p) img (places img target) p w.unpaid w.top m phase)
-      (λ declared. (s.last ≡ Began) × (declared ≡ target.inputs))
+    abbrev IsFirst : ItsPhase → Type 0
+    IsFirst phase =
+        IfSome (reads_from (outside img target) (lowest img target p) img (places img target) p w.unpaid w.top m phase)
+        (λ reads. HasJustRead reads.1 s.last × (reads.0 ≡ target.inputs))
 
-  abbrev NoInput : ItsPhase → Type 0
-  NoInput phase = IsOrdinary (outside img target) (lowest img target p) img
-      (places img target) p w.unpaid w.top m phase
+    abbrev NoInput : ItsPhase → Type 0
+    NoInput phase = IsOrdinary (outside img target) (lowest img target p) img
+        (places img target) p w.unpaid w.top m phase
 
-  abbrev Own : ItsPhase → Option Debt
-  Own phase = tail_of (outside img target) (lowest img target p) img (places img target) p w.unpaid w.top m phase
+    abbrev Alone : ItsPhase → Type 0
+    Alone phase = IsAlone (outside img target) (lowest img target p) img (places img target) p w.unpaid w.top m phase
 
-  by_phase : (phase : ItsPhase) → w.phase ≡ phase → Result img target p ceiling fits s m
-  by_phase (Reads x) e =
-      let first : IsFirst (Reads x) = subst IsFirst e w.fresh.1 in
-      let y = reading_has_next (outside img target) (lowest img target p) img
-      (places img target) p w.unpaid w.top m there.has x in (
-        y.1,
-        executes_so p y.0 m y.1 y.2,
-        reading_leads_on img target p there ceiling fits s m y.1 stays w y.0 y.2 (ap Own e) x first.0 first.1,
-      )
-  by_phase (Tails core x same) e =
-      let y = tails_are_no_fault (outside img target) (lowest img target p) img (places img target) p core w.top m
-      there.has x in (
-        y.1,
-        executes_so p y.0 m y.1 y.2,
-        tail_leads_on img target p there ceiling fits s m y.1 stays w y.0 y.2 core x same e,
-      )
-  by_phase (ToCome x) e = no_input (subst NoInput (sym e) tt)
-  by_phase (AlreadyDone x) e = no_input (subst NoInput (sym e) tt)
-  by_phase (Entering x) e = no_input (subst NoInput (sym e) tt)
-  by_phase (Calling x) e = no_input (subst NoInput (sym e) tt)
+    abbrev Calling_of : ItsPhase → Option FunctionCall
+    Calling_of phase = call_of (outside img target) (lowest img target p) img
+        (places img target) p w.unpaid w.top m phase
+
+    abbrev View : ItsPhase → Machine
+    View phase = viewed (outside img target) (lowest img target p) img (places img target) p w.unpaid w.top m phase
+
+    -- what is executed that leaves LR as it is calls no function
+    linked : (View w.phase ≡ m) → (j : Instruction) (n : Machine) → Executes p j m n → n.register 14 ≡ m.register 14
+        → CallsNone p m
+    linked seen_as j n exec same =
+        none_by_link p j m n exec (there.has.low m.address j exec.found) same
+        (subst (λ (v : Machine). v.exception ≢ 0 → 0xF0000000 ≤ v.register 14) seen_as
+        (link_is_high (outside img target) (lowest img target p) (stack_top img target) ceiling target.inputs
+        (calls_of target called) img (places img target) p
+        (others_tail (tail_of (outside img target) (lowest img target p) img (places img target) p w.unpaid w.top m
+        w.phase) w.tail) w.unpaid w.top (View w.phase) s.takings w.unpaid.below w.waiting))
+
+    by_phase : (phase : ItsPhase) → w.phase ≡ phase → Result img target p ceiling called fits s m
+    by_phase (Reads x) e =
+        let first : IsFirst (Reads x) = subst IsFirst e w.fresh.1 in
+        let y = reading_has_next (outside img target) (lowest img target p) img
+        (places img target) p w.unpaid w.top m there.has x in (
+          y.1,
+          executes_so p y.0 m y.1 y.2,
+          reading_leads_on img target p there ceiling called fits s m y.1 stays w y.0 y.2
+              (subst Alone (sym e) (record { tail = refl; call = refl; view = refl })) x first.0 first.1,
+          linked (ap View e) y.0 y.1 y.2
+              ((reading_goes_on (outside img target) (lowest img target p) img
+              (places img target) p w.unpaid w.top m y.1
+              y.0 there.has x y.2).others.registers 14 (omega arith) (λ f. omega (arith, f))),
+        )
+    by_phase (Calls x f) e =
+        let own = subst (λ (o : Option FunctionCall). IsOwnInstruction o) (ap Calling_of e) own_here in
+        call_leads_on img target p there ceiling called fits s m stays w x f e own.0 own.1
+    by_phase (Tails core x same) e =
+        let y = tails_are_no_fault (outside img target) (lowest img target p) img (places img target) p core w.top m
+        there.has x in (
+          y.1,
+          executes_so p y.0 m y.1 y.2,
+          tail_leads_on img target p there ceiling called fits s m y.1 stays w y.0 y.2 core x same e,
+          linked (ap View e) y.0 y.1 y.2
+              ((tail_goes_on (outside img target) (lowest img target p) img (places img target) p core w.top m y.1 y.0
+              there.has x y.2).others.registers 14 (omega arith) (λ f. omega (arith, f))),
+        )
+    by_phase (ToCome x) e = no_input (subst NoInput (sym e) tt)
+    by_phase (AlreadyDone x) e = no_input (subst NoInput (sym e) tt)
+    by_phase (Entering x) e = no_input (subst NoInput (sym e) tt)
+    by_phase (Calling x) e = no_input (subst NoInput (sym e) tt)
 
 pub instructions_lead_on : InstructionsLeadOn
-instructions_lead_on img target p ceiling fits s m there stays fitting r none =
-    by_phase img target p there ceiling fits s m stays fitting r none r.here.phase refl
+instructions_lead_on img target p ceiling called fits s m there stays fitting r own_here none =
+    by_phase img target p there ceiling called fits s m stays fitting r own_here none r.here.phase refl

@@ -35,10 +35,10 @@ use Rattle.rt_native_laws.specs.Laws.{IsApart}
 use Rattle.rt_native_laws.specs.InTail.{Debt}
 use Rattle.rt_native_laws.specs.Moments.{Taking, instruction_at, last_after}
 use Rattle.rt_native_laws.specs.Own.{ChangesItsOwn, Executes, RunsPrivately, StepsPrivately}
-use Rattle.rt_native_laws.specs.Phases.{AlreadyDone, IsSameAbove, IsToCome, Phase, tail_of}
+use Rattle.rt_native_laws.specs.Phases.{AlreadyDone, IsSameAbove, IsToCome, Phase, tail_of, viewed}
 use Rattle.rt_native_laws.specs.Standing.{HoldsWords, IsBeside, IsLaidOut, StandsFor, caller_words, frame_bytes}
 use Rattle.rt_native_laws.specs.Standing.{frames_end}
-use Rattle.rt_native_laws.specs.Waiting.{IsFresh, Waiting, interrupted_core, others_tail, resumed}
+use Rattle.rt_native_laws.specs.Waiting.{FunctionCalls, IsFresh, Waiting, interrupted_core, others_tail, resumed}
 use Rattle.rt_native_laws.proofs.Accesses.{runs_within}
 use Rattle.rt_native_laws.proofs.Prefixes.{same_some, same_run, rest_of, compare, Place, Before}
 use Rattle.rt_native_laws.proofs.Prefixes.{There, Past}
@@ -377,7 +377,8 @@ same_stack top m e =
         ap (λ (b : Bool). if b then top else m.register k) f ∙ (sym e ∙ ap m.register (sym is))
     by_number k false f = ap (λ (b : Bool). if b then top else m.register k) f
 
-module _ (at : Outside) (bottom highest ceiling : ℕ) (inputs : List Input) (img : Image) (places : List ℕ)
+module _ (at : Outside) (bottom highest ceiling : ℕ) (inputs : List Input) (calls : FunctionCalls) (img : Image)
+    (places : List ℕ)
     (p : Program) (tail : Option Debt) (taking : Taking) (takings : List Taking) (x : Context) (below : List Context)
     (c d : Core) (said : Option What) (top : ℕ)
     (m n : Machine) (st : StepsBy img instr.Ret c d said) (waits : c.below ≡ x ∷ below) (free : c.caller ≡ None)
@@ -415,12 +416,13 @@ module _ (at : Outside) (bottom highest ceiling : ℕ) (inputs : List Input) (im
   abbrev Fresh : Core → ℕ → Machine → Type 0
   Fresh y next z =
       (phase : Phase at bottom img places p y next z)
-      × IsFresh at bottom highest ceiling inputs img places p tail taking.last y next z phase
-      × Waiting at bottom highest ceiling inputs img places p
-      (others_tail (tail_of at bottom img places p y next z phase) tail) takings below y next z
+      × IsFresh at bottom highest ceiling inputs calls img places p tail taking.last y next z phase
+      × Waiting at bottom highest ceiling inputs calls img places p
+      (others_tail (tail_of at bottom img places p y next z phase) tail) takings below y next
+      (viewed at bottom img places p y next z phase)
 
-  resumes : Waiting at bottom highest ceiling inputs img places p tail (taking ∷ takings) (x ∷ below) c top m
-      → Resumes at bottom highest ceiling inputs img places p tail taking.last takings below d n
+  resumes : Waiting at bottom highest ceiling inputs calls img places p tail (taking ∷ takings) (x ∷ below) c top m
+      → Resumes at bottom highest ceiling inputs calls img places p tail taking.last takings below d n
   resumes (aligned, small, runs, active, link, up, next, within, fits, higher, phase, fresh, more) =
       let there = interrupted_core priority c x below in
       let now : Fresh d next n =
@@ -429,7 +431,9 @@ module _ (at : Outside) (bottom highest ceiling : ℕ) (inputs : List Input) (im
       record { top = next; phase = now.0; fresh = now.1; others = now.2 }
 
 pub return_resumes : ReturnResumes
-return_resumes at bottom highest ceiling inputs img places p tail taking takings x below c d said top m n st waits free
+return_resumes at bottom highest ceiling inputs calls img places p tail taking takings x below c d said top m n st
+    waits free
     base unmasked same_base same_mask stack goes jobs =
-    resumes at bottom highest ceiling inputs img places p tail taking takings x below c d said top m n st waits free
+    resumes at bottom highest ceiling inputs calls img places p tail taking takings x below c d said top m n st waits
+    free
     base unmasked same_base same_mask stack goes jobs

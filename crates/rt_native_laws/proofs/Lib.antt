@@ -20,6 +20,7 @@ pub mod Saving
 pub mod Words
 pub mod Ticking
 pub mod Opening
+pub mod Viewing
 pub mod Phases
 pub mod Calls
 pub mod Prefixes
@@ -29,6 +30,7 @@ pub mod Stepping
 pub mod Settled
 pub mod Kept
 pub mod Reading
+pub mod CallKept
 pub mod Showing
 pub mod Unopened
 pub mod Waiting
@@ -40,6 +42,7 @@ pub mod Meanwhile
 pub mod Tails
 pub mod Storing
 pub mod Loading
+pub mod Clear
 pub mod Copying
 pub mod Resetting
 pub mod Rising
@@ -63,10 +66,14 @@ pub mod Items
 pub mod Shaping
 pub mod Marking
 pub mod Leading
+pub mod Branching
+pub mod LeadingInCall
 pub mod Tailing
 pub mod Returning
 pub mod Instructing
+pub mod Devices
 pub mod Requesting
+pub mod Changing
 pub mod Eights
 pub mod Interrupting
 pub mod Growing
@@ -74,6 +81,7 @@ pub mod Ticks
 pub mod InTick
 pub mod Alike
 pub mod Owing
+pub mod Events
 pub mod Following
 pub mod ResetPlaces
 pub mod InReset
@@ -83,3 +91,8 @@ pub mod Throughout
 pub mod Decoding
 pub mod Segments
 pub mod Filed
+pub mod Existing
+pub mod Recalling
+pub mod CallingFunctions
+pub mod RunningFunctions
+pub mod FollowingMoves

@@ -38,10 +38,10 @@ use Rattle.rt_thumb.specs.declared.instruction.Instruction.{Instruction}
 use Rattle.rt_thumb.specs.declared.instruction.Instruction.TheVariants as instruction
 use Rattle.rt_thumb.specs.declared.instruction.Special.{Special}
 use Rattle.rt_thumb.specs.declared.instruction.Special.TheVariants as special
-use Rattle.rt_native_laws.specs.Functions.{displacement_to, linked_call}
 use Rattle.rt_native_laws.specs.Linked.{IsLeftAlone, IsLinked, LinkedCodeIsThere, LinkedEntriesLead}
 use Rattle.rt_native_laws.specs.Linked.{LinkedServiceLies, linked_entrance}
 use Rattle.rt_native_laws.specs.Own.{Spans}
+use Rattle.rt_native_laws.specs.InCall.{displacement_to, linked_call}
 use Rattle.rt_native_laws.proofs.Functions.{offset}
 use Rattle.rt_native_laws.proofs.ResetPlaces.{begun_lies}
 use Rattle.rt_native_laws.proofs.Loading.{loaded_code_is_there, loaded_entries_lead}

@@ -4,6 +4,7 @@ use Rattle.std.proofs.Common.{None, refl, sym, ap, subst, arith, length, flat_ma
 use Rattle.std.specs.Prelude.{option_map, slice_get}
 use Rattle.std.proofs.lemmas.Bool.{false≢true}
 use Rattle.std.proofs.lemmas.Option.{slice_get_past}
+use Rattle.std.specs.List.{AllByRecursion}
 use Rattle.rt_ids.specs.Event.{Step}
 use Rattle.rt_lemmas.proofs.Bools.{true_and_false}
 use Rattle.rt_code.specs.Image.{Image}
@@ -12,7 +13,7 @@ use Rattle.rt_code.specs.declared.image.IrqRow.{IrqRow}
 use Rattle.rt_code.specs.declared.instr.Instr.{Instr}
 use Rattle.rt_code.specs.declared.instr.Instr.TheVariants as instr
 use Rattle.rt_code.specs.declared.instr.Note.{Note}
-use Rattle.rt_core.specs.Core.{Core}
+use Rattle.rt_core.specs.Core.{Core, depth}
 use Rattle.rt_core.specs.Priority.{pick}
 use Rattle.rt_core.specs.Stepping.{step}
 use Rattle.rt_core.specs.Trace.{happen}
@@ -25,13 +26,13 @@ use Rattle.rt_native_laws.specs.Alike.{SetsNoAlarm}
 use Rattle.rt_native_laws.specs.Behaving.{GoesWell, IsGood, StaysGood}
 use Rattle.rt_native_laws.specs.Doing.{RaisesOnly, seen_of}
 use Rattle.rt_native_laws.specs.Going.{StepsBy}
-use Rattle.rt_native_laws.specs.InTail.{Debt, paid}
+use Rattle.rt_native_laws.specs.InTail.{paid}
 use Rattle.rt_native_laws.specs.Moments.{AllCanHappen, Comes, Happening, Moment, Went, after_instruction, after_step}
 use Rattle.rt_native_laws.specs.Moments.{instruction_at, last_after, moment_after, moment_after_all, shown, with_core}
-use Rattle.rt_native_laws.specs.Phases.{AlreadyDone, Calling, Entering, IsDone, Phase, Reads, Tails, ToCome}
-use Rattle.rt_native_laws.specs.Phases.{tail_of}
+use Rattle.rt_native_laws.specs.Phases.{AlreadyDone, Calling, Calls, Entering, IsDone, Phase, Reads, Tails, ToCome}
 use Rattle.rt_native_laws.specs.Relating.{IsPastMarks, IsInPlace, IsWhere, lowest}
-use Rattle.rt_native_laws.specs.Simulating.{arrivals_of, seen_of_label}
+use Rattle.rt_native_laws.specs.Simulating.{AreFromRegisters, arrivals_of, seen_of_label}
+use Rattle.rt_native_laws.specs.Waiting.{KeepsAbove}
 use Rattle.rt_native_laws.proofs.Going.{mark_is_no_event, same_core}
 use Rattle.rt_native_laws.proofs.Prefixes.{same_some}
 use Rattle.rt_native_laws.proofs.Relating.{alarm_then, in_no_tail, is_where_on}
@@ -39,9 +40,10 @@ use Rattle.rt_native_laws.proofs.Settled.{settled_within}
 use Rattle.rt_native_laws.proofs.Shaping.{KeepsShape, StaysInContext, step_keeps_shape, step_shows}
 use Rattle.rt_native_laws.proofs.Stepping.{outcome_is}
 use Rattle.rt_native_laws.proofs.Tails.{tail_same}
-use Rattle.rt_native_laws.proofs.Unpaid.{IsQuiet, good_unpaid, moment_same, owing, paid_same, parts_same}
+use Rattle.rt_native_laws.proofs.Unpaid.{IsQuiet, by_debt, good_unpaid, moment_same, owing, paid_same, parts_same}
 use Rattle.rt_native_laws.proofs.Unpaid.{step_same}
 use Rattle.rt_trace.specs.declared.item.What.{What}
+use Rattle.rt_native_laws.proofs.Viewing.{IsAlone}
 
 abbrev is_mark : Instr → Bool
 is_mark instr.Mark = true
@@ -96,15 +98,20 @@ pub step_seen : (img : Image) (s : Moment) (more : List Happening)
 unfolding happen
 step_seen img s more = refl
 
-module _ (img : Image) (target : Target) (p : Program) (there : IsInPlace img target p) (ceiling : ℕ) where
+module _ (img : Image) (target : Target) (p : Program) (there : IsInPlace img target p) (ceiling : ℕ)
+    (called : ℕ → Option Machine) where
   -- marks have been done
-  pub record HasMarked (fits : List Happening → Bool) (s : Moment) (m : Machine) : Type 0 where
+  pub record HasMarked (most : ℕ) (fits : List Happening → Bool) (s : Moment) (m : Machine) : Type 0 where
     pub happened : List Happening
     pub can : AllCanHappen img target.inputs s happened
     pub arrivals : flat_map arrivals_of happened ≡ []
+    pub few : length happened ≤ most
+    pub words : (n : Machine) → AreFromRegisters img p n s happened
+    pub steps : AllByRecursion (λ x. x ≡ Comes Step) happened
     pub seen : flat_map seen_of_label (shown img s happened) ≡ []
     pub time : (moment_after_all img s happened).core.time ≡ s.core.time
-    pub here : IsWhere img target p ceiling (moment_after_all img s happened) m
+    pub deep : depth img (moment_after_all img s happened).core ≡ depth img s.core
+    pub here : IsWhere img target p ceiling called (moment_after_all img s happened) m
     pub marks : fits happened ≡ true → IsPastMarks img target p here.unpaid here.top m here.phase
 
   abbrev ThePhase : Core → ℕ → Machine → Type 0
@@ -117,28 +124,33 @@ module _ (img : Image) (target : Target) (p : Program) (there : IsInPlace img ta
   past_if c top m (Entering x) h = tt
   past_if c top m (Calling x) h = tt
   past_if c top m (Reads x) h = tt
+  past_if c top m (Calls x f) h = tt
   past_if c top m (Tails core x same) h = tt
 
   -- no mark is next
-  none_next : (fits : List Happening → Bool) (s : Moment) (m : Machine) (w : IsWhere img target p ceiling s m)
-      → (fits [] ≡ true → IsPastMarks img target p w.unpaid w.top m w.phase) → HasMarked fits s m
-  none_next fits s m w past = record {
+  none_next : (most : ℕ) (fits : List Happening → Bool) (s : Moment) (m : Machine) (w : IsWhere img target p ceiling called s m)
+      → (fits [] ≡ true → IsPastMarks img target p w.unpaid w.top m w.phase) → HasMarked most fits s m
+  none_next most fits s m w past = record {
     happened = [];
     can = tt;
     arrivals = refl;
+    few = omega arith;
+    words = λ n. tt;
+    steps = tt;
     seen = refl;
     time = refl;
+    deep = refl;
     here = w;
     marks = past;
   }
 
   -- one mark
-  module _ (s : Moment) (m : Machine) (w : IsWhere img target p ceiling s m) (good : IsGood img ceiling s)
+  module _ (s : Moment) (m : Machine) (w : IsWhere img target p ceiling called s m) (good : IsGood img ceiling s)
       (none : pick img w.unpaid ≡ None) (note : Option Note)
       (line : slice_get img.code w.unpaid.processor.address ≡ Some (instr.Mark, note))
       (x : IsDone (outside img target) (lowest img target p) img (places img target) p w.unpaid w.top m)
-      (own : tail_of (outside img target) (lowest img target p) img (places img target) p w.unpaid w.top m w.phase
-      ≡ None) where
+      (own : IsAlone (outside img target) (lowest img target p) img
+      (places img target) p w.unpaid w.top m w.phase) where
     abbrev u : Core
     u = w.unpaid
 
@@ -148,12 +160,13 @@ module _ (img : Image) (target : Target) (p : Program) (there : IsInPlace img ta
     at_mark : instruction_at img u ≡ Some instr.Mark
     at_mark = ap (option_map (λ l. l.0)) line
 
-    quiet : IsQuiet img target p ceiling s m w
+    quiet : IsQuiet img target p ceiling called s m w
     quiet t e f = subst SetsNoAlarm (sym at_mark) tt
 
     st : StepsBy img instr.Mark u d (step img u).1
     st =
-        steps_by img ceiling (with_core s u) (good_unpaid img target p ceiling s m w quiet good) instr.Mark note line
+        steps_by img ceiling (with_core s u)
+        (good_unpaid img target p ceiling called s m w quiet good) instr.Mark note line
         none
 
     shape : KeepsShape instr.Mark u d
@@ -172,19 +185,21 @@ module _ (img : Image) (target : Target) (p : Program) (there : IsInPlace img ta
 
     next_is : moment_after img s (Comes Step) ≡ record { core = paid w.tail d; last = Went; takings = s.takings }
     next_is =
-        moment_same img target p ceiling s m w quiet
+        moment_same img target p ceiling called s m w quiet
         ∙ ap (λ (z : Moment). with_core z (paid w.tail z.core))
         (moment_is img (with_core s u) instr.Mark tt none at_mark)
 
-    after_mark : IsWhere img target p ceiling (moment_after img s (Comes Step)) m
+    after_mark : IsWhere img target p ceiling called (moment_after img s (Comes Step)) m
     after_mark =
-        subst (λ (y : Moment). IsWhere img target p ceiling y m) (sym next_is)
-        (is_where_on img target p there ceiling s m m w w.tail w.of_timer d Went (AlreadyDone done.0)
-        (settled_within Went (length d.processor.slots), tt, tt)
-        (in_no_tail _ None w.tail u d own refl
-        (tail_same w.tail u d (owing img target p ceiling s m w) (sym (ap (λ (y : Core). y.time) core_is))
+        subst (λ (y : Moment). IsWhere img target p ceiling called y m) (sym next_is)
+        (is_where_on img target p there ceiling called called s m m w (λ jobs. jobs) w.tail w.of_timer d Went
+        (AlreadyDone done.0)
+        (settled_within Went (length d.processor.slots), tt, tt, tt)
+        (in_no_tail _ None w.tail u d own.tail refl
+        (tail_same w.tail u d (owing img target p ceiling called s m w) (sym (ap (λ (y : Core). y.time) core_is))
         (sym (ap (λ (y : Core). y.alarm) core_is)) (sym (ap (λ (y : Core). y.pending) core_is))))
-        (record { registers = λ k h f. refl; memory = λ k h f. refl; exception = refl; active = refl })
+        (subst (λ (v : Machine). KeepsAbove (outside img target) w.top v m) (sym own.view)
+        (record { registers = λ k h f g. refl; memory = λ k h f. refl; exception = refl; active = refl }))
         (λ k h. refl) w.words w.placed shape.below shape.cells shape.requests shape.stopped
         (alarm_then img u d w.alarm shape.alarm))
 
@@ -193,61 +208,76 @@ module _ (img : Image) (target : Target) (p : Program) (there : IsInPlace img ta
         ap (λ (y : Moment). y.core.processor.address) next_is
         ∙ (ap (λ (q : Processor). q.address) (paid_same w.tail d).processor
         ∙ (ap (λ (y : Core). y.processor.address) (sym core_is)
-        ∙ ap (λ (q : Processor). suc q.address) (sym (parts_same img target p ceiling s m w).processor)))
+        ∙ ap (λ (q : Processor). suc q.address) (sym (parts_same img target p ceiling called s m w).processor)))
 
     time_is : (moment_after img s (Comes Step)).core.time ≡ s.core.time
     time_is =
         ap (λ (y : Moment). y.core.time) next_is
-        ∙ ((paid_same w.tail d).time ∙ (shape.time ∙ sym (parts_same img target p ceiling s m w).time))
+        ∙ ((paid_same w.tail d).time ∙ (shape.time ∙ sym (parts_same img target p ceiling called s m w).time))
+
+    depth_is : depth img (moment_after img s (Comes Step)).core ≡ depth img s.core
+    depth_is =
+        ap (λ (y : Moment). depth img y.core) next_is
+        ∙ (by_debt (λ (f : Core → Core). depth img (f d) ≡ depth img d) w.tail refl (λ t e. refl)
+        ∙ (ap (λ (k : Core). depth img k) (sym core_is)
+        ∙ (sym (by_debt (λ (f : Core → Core). depth img (f u) ≡ depth img u) w.tail refl (λ t e. refl))
+        ∙ ap (λ (k : Core). depth img k) (sym w.owed))))
 
     silent : seen_of_label (Stepped (step img s.core).1) ≡ []
     silent =
-        ap (λ (x : Core × Option What). seen_of_label (Stepped x.1)) (step_same img target p ceiling s m w quiet)
+        ap (λ (x : Core × Option What). seen_of_label (Stepped x.1)) (step_same img target p ceiling called s m w quiet)
         ∙ (step_shows img instr.Mark u d (step img u).1 tt st ∙ done.1)
 
-    and_then : (fits : List Happening → Bool)
-        → HasMarked (λ more. fits (Comes Step ∷ more)) (moment_after img s (Comes Step)) m → HasMarked fits s m
-    and_then fits more = record {
+    and_then : (most : ℕ) (fits : List Happening → Bool)
+        → HasMarked most (λ more. fits (Comes Step ∷ more)) (moment_after img s (Comes Step)) m
+        → HasMarked (suc most) fits s m
+    and_then most fits more = record {
       happened = Comes Step ∷ more.happened;
       can = (tt, more.can);
       arrivals = more.arrivals;
+      few = omega (arith, more.few);
+      words = λ n. (tt, more.words n);
+      steps = (refl, more.steps);
       seen = step_seen img s more.happened ∙ (ap (λ (xs : List Seen). xs ++ flat_map seen_of_label
           (shown img (moment_after img s (Comes Step)) more.happened)) silent ∙ more.seen);
       time = more.time ∙ time_is;
+      deep = more.deep ∙ depth_is;
       here = more.here;
       marks = more.marks;
     }
 
   -- by what is next: a mark, behind code that is done, or something else
-  module _ (fits : List Happening → Bool) (s : Moment) (m : Machine)
-      (stays : StaysGood img target.inputs ceiling fits s) (w : IsWhere img target p ceiling s m)
+  module _ (most : ℕ) (fits : List Happening → Bool) (s : Moment) (m : Machine)
+      (stays : StaysGood img target.inputs ceiling fits s) (w : IsWhere img target p ceiling called s m)
       (again : IsGood img ceiling s → pick img w.unpaid ≡ None → (note : Option Note)
       → slice_get img.code w.unpaid.processor.address ≡ Some (instr.Mark, note)
       → IsDone (outside img target) (lowest img target p) img (places img target) p w.unpaid w.top m
-      → tail_of (outside img target) (lowest img target p) img (places img target) p w.unpaid w.top m w.phase ≡ None
-      → HasMarked fits s m) where
+      → IsAlone (outside img target) (lowest img target p) img (places img target) p w.unpaid w.top m w.phase
+      → HasMarked most fits s m) where
     abbrev Past : ThePhase w.unpaid w.top m → Type 0
     Past phase = IsPastMarks img target p w.unpaid w.top m phase
 
-    abbrev Own : ThePhase w.unpaid w.top m → Option Debt
-    Own phase = tail_of (outside img target) (lowest img target p) img (places img target) p w.unpaid w.top m phase
+    abbrev Alone : ThePhase w.unpaid w.top m → Type 0
+    Alone phase = IsAlone (outside img target) (lowest img target p) img (places img target) p w.unpaid w.top m phase
 
-    other_line : (pick img w.unpaid ≡ None → instruction_at img w.unpaid ≡ Some instr.Mark → ⊥) → HasMarked fits s m
-    other_line h = none_next fits s m w (λ f. past_if w.unpaid w.top m w.phase h)
+    other_line : (pick img w.unpaid ≡ None → instruction_at img w.unpaid ≡ Some instr.Mark → ⊥) → HasMarked most fits s m
+    other_line h = none_next most fits s m w (λ f. past_if w.unpaid w.top m w.phase h)
 
     by_phase : IsGood img ceiling s → pick img w.unpaid ≡ None → (note : Option Note)
         → slice_get img.code w.unpaid.processor.address ≡ Some (instr.Mark, note) → (phase : ThePhase w.unpaid w.top m)
-        → w.phase ≡ phase → HasMarked fits s m
-    by_phase good none note line (AlreadyDone x) e = again good none note line x (ap Own e)
-    by_phase good none _ line (ToCome x) e = none_next fits s m w (λ f. subst Past (sym e) tt)
-    by_phase good none _ line (Entering x) e = none_next fits s m w (λ f. subst Past (sym e) tt)
-    by_phase good none _ line (Calling x) e = none_next fits s m w (λ f. subst Past (sym e) tt)
-    by_phase good none _ line (Reads x) e = none_next fits s m w (λ f. subst Past (sym e) tt)
-    by_phase good none _ line (Tails core x same) e = none_next fits s m w (λ f. subst Past (sym e) tt)
+        → w.phase ≡ phase → HasMarked most fits s m
+    by_phase good none note line (AlreadyDone x) e = again good none note line x
+        (subst Alone (sym e) (record { tail = refl; call = refl; view = refl }))
+    by_phase good none _ line (ToCome x) e = none_next most fits s m w (λ f. subst Past (sym e) tt)
+    by_phase good none _ line (Entering x) e = none_next most fits s m w (λ f. subst Past (sym e) tt)
+    by_phase good none _ line (Calling x) e = none_next most fits s m w (λ f. subst Past (sym e) tt)
+    by_phase good none _ line (Reads x) e = none_next most fits s m w (λ f. subst Past (sym e) tt)
+    by_phase good none _ line (Calls x g) e = none_next most fits s m w (λ f. subst Past (sym e) tt)
+    by_phase good none _ line (Tails core x same) e = none_next most fits s m w (λ f. subst Past (sym e) tt)
 
     by_test : IsGood img ceiling s → pick img w.unpaid ≡ None → (i : Instr) (note : Option Note)
         → slice_get img.code w.unpaid.processor.address ≡ Some (i, note) → (b : Bool) → is_mark i ≡ b
-        → HasMarked fits s m
+        → HasMarked most fits s m
     by_test good none i note line true e =
         by_phase good none note (line ∙ ap (λ (j : Instr). Some (j, note)) (mark_of i e)) w.phase refl
     by_test good none i _ line false e =
@@ -256,39 +286,40 @@ module _ (img : Image) (target : Target) (p : Program) (there : IsInPlace img ta
         false≢true (sym e ∙ ap is_mark same))
 
     by_line : IsGood img ceiling s → pick img w.unpaid ≡ None → (line : Option (Instr × Option Note))
-        → slice_get img.code w.unpaid.processor.address ≡ line → HasMarked fits s m
+        → slice_get img.code w.unpaid.processor.address ≡ line → HasMarked most fits s m
     by_line good none None e = other_line (λ f g. not_some instr.Mark (sym (ap (option_map (λ l. l.0)) e) ∙ g))
     by_line good none (Some line) e = by_test good none line.0 line.1 e (is_mark line.0) refl
 
-    by_pick : IsGood img ceiling s → (o : Option IrqRow) → pick img w.unpaid ≡ o → HasMarked fits s m
+    by_pick : IsGood img ceiling s → (o : Option IrqRow) → pick img w.unpaid ≡ o → HasMarked most fits s m
     by_pick good None e = by_line good e (slice_get img.code w.unpaid.processor.address) refl
     by_pick good (Some row) e = other_line (λ f g. not_some row (sym f ∙ e))
 
-    by_fits : (b : Bool) → fits [] ≡ b → HasMarked fits s m
+    by_fits : (b : Bool) → fits [] ≡ b → HasMarked most fits s m
     by_fits true e = by_pick (stays [] tt e) (pick img w.unpaid) refl
-    by_fits false e = none_next fits s m w (λ f. absurd (true_and_false (fits []) f e))
+    by_fits false e = none_next most fits s m w (λ f. absurd (true_and_false (fits []) f e))
 
-    one_round : HasMarked fits s m
+    one_round : HasMarked most fits s m
     one_round = by_fits (fits []) refl
 
   -- Each mark is at an address of its own, behind the one before it; so many instructions are left at most.
   all_marks : (left : ℕ) (fits : List Happening → Bool) (s : Moment) (m : Machine)
-      → StaysGood img target.inputs ceiling fits s → IsWhere img target p ceiling s m
-      → length img.code ≤ s.core.processor.address + left → HasMarked fits s m
+      → StaysGood img target.inputs ceiling fits s → IsWhere img target p ceiling called s m
+      → length img.code ≤ s.core.processor.address + left → HasMarked left fits s m
   all_marks zero fits s m stays w bound =
-      one_round fits s m stays w (λ good none note line x own.
+      one_round zero fits s m stays w (λ good none note line x own.
       absurd (not_some (instr.Mark, note) (sym (slice_get_past img.code w.unpaid.processor.address (omega (
         arith,
         bound,
-        ap (λ (q : Processor). q.address) (parts_same img target p ceiling s m w).processor,
+        ap (λ (q : Processor). q.address) (parts_same img target p ceiling called s m w).processor,
       ))) ∙ line)))
   all_marks (suc left) fits s m stays w bound =
-      one_round fits s m stays w (λ good none note line x own.
-      and_then s m w good none note line x own fits
+      one_round (suc left) fits s m stays w (λ good none note line x own.
+      and_then s m w good none note line x own left fits
       (all_marks left (λ more. fits (Comes Step ∷ more)) (moment_after img s (Comes Step)) m
       (λ more can g. stays (Comes Step ∷ more) (tt, can) g) (after_mark s m w good none note line x own)
       (omega (arith, bound, address_is s m w good none note line x own))))
 
   pub marks_are_done : (fits : List Happening → Bool) (s : Moment) (m : Machine)
-      → StaysGood img target.inputs ceiling fits s → IsWhere img target p ceiling s m → HasMarked fits s m
+      → StaysGood img target.inputs ceiling fits s → IsWhere img target p ceiling called s m
+      → HasMarked (length img.code) fits s m
   marks_are_done fits s m stays w = all_marks (length img.code) fits s m stays w (omega arith)

@@ -16,12 +16,11 @@ use Rattle.rt_core.specs.Core.{Core}
 use Rattle.rt_core.specs.Priority.{execution, mask_value, pick, running_value, value_or_none}
 use Rattle.rt_core.specs.Stepping.{step}
 use Rattle.rt_core.specs.Trace.{happen, ring, tick}
-use Rattle.rt_core.specs.declared.alarm.Alarm.{Alarm}
 use Rattle.rt_trace.specs.Label.{Label, Rang, Stepped}
 use Rattle.rt_trace.specs.declared.item.What.{What}
 use Rattle.rt_native_laws.specs.Alike.{IsNotTaken, SetsNoAlarm}
 use Rattle.rt_native_laws.specs.Behaving.{GoesWell, IsGood}
-use Rattle.rt_native_laws.specs.Moments.{Comes, Fills, Moment, Puts, Taking, after_instruction, after_return}
+use Rattle.rt_native_laws.specs.Moments.{Comes, Fills, Loads, Moment, Puts, Taking, after_instruction, after_return}
 use Rattle.rt_native_laws.specs.Moments.{after_step, instruction_at, moment_after}
 use Rattle.rt_native_laws.specs.Owing.{CeilingsHoldOff, HappeningsAreAlike, NoneAboveSetsAlarms}
 use Rattle.rt_native_laws.specs.Owing.{TailsOweSo, TicksInTails, TicksLeaveOwed, TicksPay, rung_moment}
@@ -113,6 +112,7 @@ happenings_are_alike img irq s (Comes Step) quiet free none = (
   ap (λ (x : Core × Option What). Stepped x.1 ∷ []) (alike img irq s free none),
 )
 happenings_are_alike img irq s (Fills words) quiet free none = (refl, refl)
+happenings_are_alike img irq s (Loads input word) quiet free none = (refl, refl)
 happenings_are_alike img irq s (Puts cell word) quiet free none = (refl, refl)
 
 pub ticks_pay : TicksPay

@@ -1,5 +1,5 @@
 -- A job at its input stays there, whatever others do; and what is as new.
-use Rattle.std.proofs.Common.{◌≡◌, ℕ, ◌≤◌, List, [], ◌∷◌, Option, None, sym, refl, ap, subst, arith, length}
+use Rattle.std.proofs.Common.{◌≡◌, ℕ, ◌≤◌, List, [], ◌∷◌, Option, sym, refl, ap, subst, arith, length}
 use Rattle.std.specs.List.{AllByRecursion}
 use Rattle.std.specs.Prelude.{slice_index}
 use Rattle.rt_code.specs.Image.{Image}
@@ -13,12 +13,12 @@ use Rattle.rt_native_laws.specs.Doing.{with_slots}
 use Rattle.rt_native_laws.specs.Inputs.{ReadingIsKept}
 use Rattle.rt_native_laws.specs.InTail.{Debt}
 use Rattle.rt_native_laws.specs.Moments.{Last, settled_words}
-use Rattle.rt_native_laws.specs.Phases.{AlreadyDone, Calling, Entering, IsNew, IsOrdinary, OthersRan, Phase}
-use Rattle.rt_native_laws.specs.Phases.{Reads, Tails, ToCome, tail_of}
-use Rattle.rt_native_laws.specs.Reading.{AtCellLow, AtCellTop, AtLoad, AtLow, AtStore, AtTop, Holds, IsInput, IsReading}
-use Rattle.rt_native_laws.specs.Reading.{Reading}
+use Rattle.rt_native_laws.specs.Phases.{AlreadyDone, Calling, Entering, IsNew, OthersRan, Phase, Reads, Tails, ToCome}
+use Rattle.rt_native_laws.specs.Phases.{Calls}
+use Rattle.rt_native_laws.specs.Reading.{AtCellLow, AtCellTop, AtLoad, AtLow, AtStore, AtTop, Holds, IsInput}
+use Rattle.rt_native_laws.specs.Reading.{IsReading, Reading, reads_of}
 use Rattle.rt_native_laws.specs.Standing.{IsLaidOut, HoldsWords}
-use Rattle.rt_native_laws.specs.Waiting.{IsFresh}
+use Rattle.rt_native_laws.specs.Waiting.{FunctionCalls, IsFresh}
 use Rattle.rt_native_laws.proofs.Phases.{stands_again}
 
 pub all_inputs : (count more : ℕ) → more ≡ count → (is : List Input) → AllByRecursion (IsInput count) is
@@ -84,7 +84,9 @@ module _ (at : Outside) (bottom : ℕ) (img : Image) (places : List ℕ) (p : Pr
       held AtStore h = h
 
   abbrev Again : Core → Machine → Type 0
-  Again k y = (again : IsReading at bottom img places p k top y) × (again.declared ≡ x.declared)
+  Again k y =
+      (again : IsReading at bottom img places p k top y)
+      × (reads_of at bottom img places p k top y again ≡ reads_of at bottom img places p c top m x)
 
   kept_so : Again d n
   unfolding reading_again
@@ -101,35 +103,16 @@ pub reading_is_kept : ReadingIsKept
 reading_is_kept at bottom img places p c d top m n x o = kept_so at bottom img places p c d top m n x o
 
 -- What is new is fresh.
-module _ (at : Outside) (bottom highest ceiling : ℕ) (inputs : List Input) (img : Image) (places : List ℕ)
+module _ (at : Outside) (bottom highest ceiling : ℕ) (inputs : List Input) (calls : FunctionCalls) (img : Image)
+    (places : List ℕ)
     (p : Program) (tail : Option Debt) (c : Core) (top : ℕ) (m : Machine) where
   pub fresh_of : (kept : ℕ) (last : Last) (phase : Phase at bottom img places p c top m)
       → IsNew at bottom img places p c top m kept phase → settled_words last (length c.processor.slots) ≤ kept
-      → IsFresh at bottom highest ceiling inputs img places p tail last c top m phase
-  fresh_of kept last (ToCome x) new within = (omega (arith, new, within), tt, tt)
-  fresh_of kept last (AlreadyDone x) new within = (omega (arith, new, within), tt, tt)
-  fresh_of kept last (Entering x) new within = (omega (arith, new, within), tt, tt)
-  fresh_of kept last (Calling x) new within = (omega (arith, new, within), tt, tt)
+      → IsFresh at bottom highest ceiling inputs calls img places p tail last c top m phase
+  fresh_of kept last (ToCome x) new within = (omega (arith, new, within), tt, tt, tt)
+  fresh_of kept last (AlreadyDone x) new within = (omega (arith, new, within), tt, tt, tt)
+  fresh_of kept last (Entering x) new within = (omega (arith, new, within), tt, tt, tt)
+  fresh_of kept last (Calling x) new within = (omega (arith, new, within), tt, tt, tt)
   fresh_of kept last (Reads x) new within = absurd new
+  fresh_of kept last (Calls x f) new within = absurd new
   fresh_of kept last (Tails core x same) new within = absurd new
-
--- What is new is in no tail.
-pub new_in_no_tail : (at : Outside) (bottom : ℕ) (img : Image) (places : List ℕ) (p : Program) (c : Core) (top : ℕ)
-    (m : Machine) (kept : ℕ) (phase : Phase at bottom img places p c top m)
-    → IsNew at bottom img places p c top m kept phase → tail_of at bottom img places p c top m phase ≡ None
-new_in_no_tail at bottom img places p c top m kept (ToCome x) new = refl
-new_in_no_tail at bottom img places p c top m kept (AlreadyDone x) new = refl
-new_in_no_tail at bottom img places p c top m kept (Entering x) new = refl
-new_in_no_tail at bottom img places p c top m kept (Calling x) new = refl
-new_in_no_tail at bottom img places p c top m kept (Reads x) new = absurd new
-new_in_no_tail at bottom img places p c top m kept (Tails core x same) new = absurd new
-
-pub ordinary_in_no_tail : (at : Outside) (bottom : ℕ) (img : Image) (places : List ℕ) (p : Program) (c : Core) (top : ℕ)
-    (m : Machine) (phase : Phase at bottom img places p c top m)
-    → IsOrdinary at bottom img places p c top m phase → tail_of at bottom img places p c top m phase ≡ None
-ordinary_in_no_tail at bottom img places p c top m (ToCome x) so = refl
-ordinary_in_no_tail at bottom img places p c top m (AlreadyDone x) so = refl
-ordinary_in_no_tail at bottom img places p c top m (Entering x) so = refl
-ordinary_in_no_tail at bottom img places p c top m (Calling x) so = refl
-ordinary_in_no_tail at bottom img places p c top m (Reads x) so = absurd so
-ordinary_in_no_tail at bottom img places p c top m (Tails core x same) so = absurd so

@@ -27,12 +27,6 @@ first_place from [] = refl
 first_place from (s ∷ sizes) = refl
 
 module _ (img : Image) (target : Target) (p : Program) (m : Machine) (loaded : IsLoaded img target p m) where
-  abbrev first : List Instruction
-  first = first_part img
-
-  abbrev second : List Instruction
-  second = second_part (outside img target) target.tick img (load_at img target)
-
   abbrev begun : List Instruction
   begun = reset (outside img target) target.tick img (load_at img target)
 
@@ -53,10 +47,19 @@ module _ (img : Image) (target : Target) (p : Program) (m : Machine) (loaded : I
       (lie_front p (fault ++ served ++ stubs ++ begun) (sequences_from img target 0 img.code) (fault_at img target)
       loaded.code))
 
+-- what lies there, by its parts
+module _ (img : Image) (target : Target) (p : Program)
+    (lies : LieFrom p (reset_at img target) (reset (outside img target) target.tick img (load_at img target))) where
+  abbrev first : List Instruction
+  first = first_part img
+
+  abbrev second : List Instruction
+  second = second_part (outside img target) target.tick img (load_at img target)
+
   parts_lie : LieFrom p (reset_at img target) (first ++ second)
   parts_lie =
       subst (LieFrom p (reset_at img target))
-      (reset_has_two_parts (outside img target) target.tick img (load_at img target)) begun_lies
+      (reset_has_two_parts (outside img target) target.tick img (load_at img target)) lies
 
   pub first_lies : LieFrom p (reset_at img target) first
   first_lies = lie_front p first second (reset_at img target) parts_lie

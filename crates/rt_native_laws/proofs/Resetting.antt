@@ -14,6 +14,7 @@ use Rattle.rt_native.specs.Pieces.{address, number, open_frame}
 use Rattle.rt_native.specs.Program.{first_values}
 use Rattle.rt_native.specs.Service.{SYSTICK, copy_words, enable, reset, start_tick}
 use Rattle.rt_native.specs.declared.outside.Outside.{Outside}
+use Rattle.rt_priorities.specs.Setting.{IsOutsideSystem}
 use Rattle.rt_thumb.specs.Effect.{behind, effect, stored, storing}
 use Rattle.rt_thumb.specs.Exceptions.{external}
 use Rattle.rt_thumb.specs.Machine.{Machine, Emitted, Posted, word_at, with_word}
@@ -31,7 +32,8 @@ use Rattle.rt_native_laws.specs.Standing.{StandsFor, HoldsWords}
 use Rattle.rt_native_laws.proofs.Accesses.{otherwise}
 use Rattle.rt_native_laws.proofs.Calculating.{next as stepped}
 use Rattle.rt_native_laws.proofs.Calls.{words_from, long_words, word_of}
-use Rattle.rt_native_laws.proofs.Copying.{CanCopy, IsWithin, Led, at_top, copies, led_on, led_one, led_privately, loop}
+use Rattle.rt_native_laws.proofs.Copying.{AreClear, CanCopy, CopyIsClear, IsWithin, Led, at_top, copies, led_on}
+use Rattle.rt_native_laws.proofs.Copying.{led_one, led_privately, loop}
 use Rattle.rt_native_laws.proofs.Frames.{opens, shifted}
 use Rattle.rt_native_laws.proofs.Keeping.{written}
 use Rattle.rt_native_laws.proofs.Phases.{apart_of}
@@ -82,23 +84,31 @@ system_store port i t computed a m e z apart low =
     ∙ ap (λ (b : Bool). behind i (if b then as_enabling a v m else with_word a v m)) (early a low))))
 
 -- what a store changes of the system's three registers of SysTick, and nothing else
-pub record Started (p : Program) (floor top : ℕ) (m : Machine) (to : ℕ) : Type 0 where
+pub record Started (p : Program) (foreign : ℕ → Bool) (floor top : ℕ) (m : Machine) (to : ℕ) : Type 0 where
   pub last : Machine
-  pub led : Led p floor top m last
+  pub led : Led p foreign floor top m last
   pub rest : last ≡ record m { register = last.register; flags = last.flags; address = to; memory = last.memory }
   pub registers : (k : ℕ) → 4 ≤ k → last.register k ≡ m.register k
   pub memory : (k : ℕ) → (4 * k < 0xE000E010) ⊎ (0xE000E01C ≤ 4 * k) → last.memory k ≡ m.memory k
   pub words : HoldsWords last
 
 module _ (at : Outside) (img : Image) (places : List ℕ) (p : Program) (code : HasCode at img places p)
-    (port : (p.port < 0xE000E000) ⊎ (0xE000F000 ≤ p.port)) (floor top : ℕ) (apart : IsApart p floor top) where
+    (port : (p.port < 0xE000E000) ⊎ (0xE000F000 ≤ p.port)) (foreign : ℕ → Bool) (system : IsOutsideSystem foreign)
+    (floor top : ℕ) (apart : IsApart p floor top) (clear : AreClear foreign floor top) where
+  -- a register of SysTick is not foreign
+  of_systick : (r n a w : ℕ) → foreign w ≡ true → word (r + n) ≡ a → 0xE000E000 ≤ a → a < 0xE000F000
+      → w ≡ word (r + n) / 4 → ⊥
+  of_systick r n a w f is above below e =
+      ⊎_elim (λ (y : 4 * w + 4 ≤ 0xE000E000). absurd (omega (arith, y, e, is, above)))
+      (λ (y : 0xE000F000 ≤ 4 * w). absurd (omega (arith, y, e, is, below))) (system w f)
+
   is_no_register : (a : ℕ) → 0xE000E000 ≤ a → a < 0xE000F000 → a ≢ p.port
   is_no_register a low high e =
       ⊎_elim (λ (x : p.port < 0xE000E000). omega (arith, e, x, low)) (λ (x : 0xE000F000 ≤ p.port).
       omega (arith, e, x, high)) port
 
   starts : (reload : Option ℕ) (m : Machine) (to : ℕ) → floor ≤ m.register 13 → m.register 13 ≤ top
-      → m.is_masked ≡ true → HoldsWords m → Spans p m.address (start_tick reload) to → Started p floor top m to
+      → m.is_masked ≡ true → HoldsWords m → Spans p m.address (start_tick reload) to → Started p foreign floor top m to
   unfolding start_tick
   starts None m to low high masked words span = record {
     last = m;
@@ -148,13 +158,22 @@ module _ (at : Outside) (img : Image) (places : List ℕ) (p : Program) (code : 
       let w5 = words_after at img places p code i3 m4 m5 (record { found = f.1.1.0; does = refl }) tt w4 in
       record {
         last = m6;
-        led = led_on p floor top m m1 m6 (led_privately p floor top apart (address 1 SYSTICK) m m1 (low, high) masked
+        led = led_on p foreign floor top m m1 m6 (led_privately p foreign floor top apart clear
+            (address 1 SYSTICK) m m1 (low, high) masked
             g.runs)
-            (led_on p floor top m1 m2 m6 (led_privately p floor top apart (number 0 reload) m1 m2 within1 masked h.runs)
-            (led_on p floor top m2 m3 m6 (led_one p floor top i1 m2 m3 within2 masked f.0 d3)
-            (led_on p floor top m3 m4 m6 (led_one p floor top i2 m3 m4 within2 masked f.1.0 d4)
-            (led_on p floor top m4 m5 m6 (led_one p floor top i3 m4 m5 within2 masked f.1.1.0 refl)
-            (led_one p floor top i4 m5 m6 within2 masked f.1.1.1.0 d6)))));
+            (led_on p foreign floor top m1 m2 m6 (led_privately p foreign floor top apart clear
+            (number 0 reload) m1 m2 within1 masked h.runs)
+            (led_on p foreign floor top m2 m3 m6 (led_one p foreign floor top i1 m2 m3 within2 masked f.0 d3
+            (λ w g. of_systick (h.register 1) 4 0xE000E014 w g (ap (λ (x : ℕ). word (x + 4)) r1) (omega arith)
+            (omega arith)))
+            (led_on p foreign floor top m3 m4 m6 (led_one p foreign floor top i2 m3 m4 within2 masked f.1.0 d4
+            (λ w g. of_systick (h.register 1) 8 0xE000E018 w g (ap (λ (x : ℕ). word (x + 8)) r1) (omega arith)
+            (omega arith)))
+            (led_on p foreign floor top m4 m5 m6 (led_one p foreign floor top i3 m4 m5 within2 masked f.1.1.0 refl
+            (λ w g. tt))
+            (led_one p foreign floor top i4 m5 m6 within2 masked f.1.1.1.0 d6
+            (λ w g. of_systick (m5.register 1) 0 0xE000E010 w g (ap (λ (x : ℕ). word (x + 0)) r1) (omega arith)
+            (omega arith)))))));
         rest = refl;
         registers = λ k l.
             other k 0 _ _ (λ e. omega (arith, e, l)) ∙ (h.others k (λ e. omega (arith, e, l)) (λ e. omega (arith, e, l))
@@ -194,7 +213,7 @@ longer [] = refl
 longer (c ∷ cells) = let rest = longer cells in omega (arith, rest)
 
 module _ (at : Outside) (bottom : ℕ) (reload : Option ℕ) (img : Image) (load : ℕ) (places : List ℕ) (p : Program)
-    (m : Machine) (x : IsAtSecondPart at bottom reload img load places p m) where
+    (foreign : ℕ → Bool) (m : Machine) (x : IsAtSecondPart at bottom reload img load places p foreign m) where
   abbrev low : ℕ
   low = at.cells - 4 * img.thread_words
 
@@ -209,6 +228,19 @@ module _ (at : Outside) (bottom : ℕ) (reload : Option ℕ) (img : Image) (load
 
   apart : IsApart p low top
   apart = apart_of at bottom low top (length img.cells) p x.laid x.has.port (omega (arith, x.room)) (omega arith)
+
+  -- foreign words lie apart from the stack, from first values, and from where they go
+  clear : AreClear foreign low top
+  clear w f =
+      ⊎_elim (λ (y : 4 * w + 4 ≤ bottom). inl (omega (arith, y, sum, x.room)))
+      (λ (y : at.time + 8 ≤ 4 * w). inr (omega (arith, y, x.laid.time))) (x.stack_apart w f)
+
+  copy_clear : CopyIsClear foreign load at.cells count
+  copy_clear = record {
+    source = x.values_apart;
+    target = λ w f. ⊎_elim (λ (y : 4 * w + 4 ≤ bottom). inl (omega (arith, y, x.room)))
+        (λ (y : at.time + 8 ≤ 4 * w). inr (omega (arith, y, x.laid.time))) (x.stack_apart w f);
+  }
 
   limit_is : word (at.time + 8) ≡ at.cells + 4 * count
   limit_is = omega (arith, x.laid.time, x.laid.in_memory)
@@ -231,7 +263,7 @@ module _ (at : Outside) (bottom : ℕ) (reload : Option ℕ) (img : Image) (load
   -- the first values are copied
   pub record IsCopied : Type 0 where
     pub last : Machine
-    pub led : Led p low top m last
+    pub led : Led p foreign low top m last
     pub rest : last ≡ record m {
       register = last.register;
       flags = last.flags;
@@ -272,15 +304,19 @@ module _ (at : Outside) (bottom : ℕ) (reload : Option ℕ) (img : Image) (load
       ∙ (g1.others 0 (λ e. omega (arith, e)) (λ e. omega (arith, e)) ∙ g0.gets) in
       let r1 : g2.register 1 ≡ at.cells = g2.others 1 (λ e. omega (arith, e)) (λ e. omega (arith, e)) ∙ g1.gets in
       let ends : to ≡ p3.middle + 18 = p3.second.1.1.1.1.1.1.1 ∙ omega arith in
-      let c = copies at img places p x.has low top count m2 load at.cells can r0 r1 (g2.gets ∙ limit_is) x.is_masked
+      let c = copies at img places p x.has foreign low top count m2 load at.cells can copy_clear r0 r1 (g2.gets
+      ∙ limit_is) x.is_masked
       (within (g2.register 13) s2) w2
       (subst (λ (a : ℕ). Spans p p3.middle loop a) ends p3.second)
       (x.has.low p3.middle (instruction.Operate operation.Compare 1 2) p3.second.0) in
-      let front = led_on p low top m m0 c.last (led_privately p low top apart a0 m m0 (within (m.register 13) x.stack)
+      let front = led_on p foreign low top m m0 c.last (led_privately p foreign low top apart clear a0 m m0
+      (within (m.register 13) x.stack)
       x.is_masked g0.runs)
-      (led_on p low top m0 m1 c.last (led_privately p low top apart a1 m0 m1 (within (g0.register 13) s0)
+      (led_on p foreign low top m0 m1 c.last (led_privately p foreign low top apart clear a1 m0 m1 (within
+      (g0.register 13) s0)
       x.is_masked g1.runs)
-      (led_on p low top m1 m2 c.last (led_privately p low top apart a2 m1 m2 (within (g1.register 13) s1)
+      (led_on p foreign low top m1 m2 c.last (led_privately p foreign low top apart clear a2 m1 m2 (within
+      (g1.register 13) s1)
       x.is_masked g2.runs) c.led)) in
       let address_is : c.last.address ≡ p3.middle + 18 = ap (λ (y : Machine). y.address) c.rest in (
         record {
@@ -322,7 +358,7 @@ module _ (at : Outside) (bottom : ℕ) (reload : Option ℕ) (img : Image) (load
   -- all of this part is done
   pub record IsBehind : Type 0 where
     pub last : Machine
-    pub led : Led p low top m last
+    pub led : Led p foreign low top m last
     pub rest : last ≡ record m {
       register = last.register;
       flags = last.flags;
@@ -358,7 +394,8 @@ module _ (at : Outside) (bottom : ℕ) (reload : Option ℕ) (img : Image) (load
       let m1 = k1.last in
       let masked1 : m1.is_masked ≡ true = ap (λ (y : Machine). y.is_masked) k1.rest ∙ x.is_masked in
       let in1 = within (m1.register 13) k1.stack in
-      let k2 = starts at img places p x.has no_register low top apart reload m1 p2.middle in1.0 in1.1 masked1 k1.words
+      let k2 = starts at img places p x.has no_register foreign x.system_apart low top apart clear reload m1 p2.middle
+      in1.0 in1.1 masked1 k1.words
       (subst (λ (a : ℕ). Spans p a s p2.middle) (sym done.1) p1.second) in
       let m2 = k2.last in
       let masked2 : m2.is_masked ≡ true = ap (λ (y : Machine). y.is_masked) k2.rest ∙ masked1 in
@@ -378,10 +415,11 @@ module _ (at : Outside) (bottom : ℕ) (reload : Option ℕ) (img : Image) (load
       let w5 = words_after at img places p x.has j m4 m5 (record { found = p3.second.1.0; does = d5 }) tt w4 in
       record {
         last = m5;
-        led = led_on p low top m m1 m5 k1.led (led_on p low top m1 m2 m5 k2.led
-            (led_on p low top m2 m3 m5 (led_privately p low top apart o m2 m3 in2 masked2 g.runs)
-            (led_on p low top m3 m4 m5 (led_one p low top d m3 m4 in3 masked2 p3.second.0 refl)
-            (led_one p low top j m4 m5 in3 masked2 p3.second.1.0 d5))));
+        led = led_on p foreign low top m m1 m5 k1.led (led_on p foreign low top m1 m2 m5 k2.led
+            (led_on p foreign low top m2 m3 m5 (led_privately p foreign low top apart clear o m2 m3 in2 masked2 g.runs)
+            (led_on p foreign low top m3 m4 m5 (led_one p foreign low top d m3 m4 in3 masked2 p3.second.0 refl
+            (λ w f. tt))
+            (led_one p foreign low top j m4 m5 in3 masked2 p3.second.1.0 d5 (λ w f. tt)))));
         rest = ap (λ (y : Machine). record y {
           register = g.register;
           address = end;
@@ -446,12 +484,12 @@ module _ (at : Outside) (bottom : ℕ) (reload : Option ℕ) (img : Image) (load
           ∙ sym (get_or-replicate IRQ_NUMBERS irq false false small));
     }
 
-    pub result : LeadsToReset at bottom reload img load places p m
+    pub result : LeadsToReset at bottom reload img load places p foreign m
     result = record {
       executed = b.led.executed;
       last = b.last;
-      leads = λ events e. nothing_disturbs p b.led.executed events m b.last
-          (at_top p low top b.led.executed m b.last b.led.run) e;
+      leads = λ events only e. nothing_disturbs p foreign b.led.executed events m b.last only
+          (at_top p foreign low top b.led.executed m b.last b.led.run) e;
       slots = slots;
       long = long;
       thread = record {
@@ -480,5 +518,5 @@ module _ (at : Outside) (bottom : ℕ) (reload : Option ℕ) (img : Image) (load
     result_last = refl
 
 pub reset_leads : ResetLeads
-reset_leads at bottom reload img load places p m x =
-    result at bottom reload img load places p m x (behind_it at bottom reload img load places p m x)
+reset_leads at bottom reload img load places p foreign m x =
+    result at bottom reload img load places p foreign m x (behind_it at bottom reload img load places p foreign m x)

@@ -7,10 +7,10 @@ use Rattle.rt_thumb.specs.Exceptions.{external}
 use Rattle.rt_thumb.specs.Machine.{Flags, Machine}
 use Rattle.rt_thumb_laws.specs.Interrupting.{GoesOn, is_given_back}
 use Rattle.rt_thumb_laws.proofs.Returning.{returns_give_back}
-use Rattle.rt_native_laws.specs.InCall.{LeftItsOwn, ReturnsToCall}
 use Rattle.rt_native_laws.specs.Phases.{OthersRan}
 use Rattle.rt_native_laws.specs.Standing.{HoldsWords}
-use Rattle.rt_native_laws.proofs.WithinCall.{call_is_kept}
+use Rattle.rt_native_laws.specs.GoingInCall.{LeftItsOwn, ReturnsToCall}
+use Rattle.rt_native_laws.proofs.CallKept.{call_is_kept}
 
 module _ (at : Outside) (top e : ℕ) (c d : Core) (before late after : Machine) (words : HoldsWords before)
     (left : LeftItsOwn at top c d before late) (goes : GoesOn e before late after) where

@@ -38,9 +38,9 @@ bit_small : (b : Bool) → number_of b ≤ 1
 bit_small true = omega arith
 bit_small false = omega arith
 
-module _ (f : Flags) (e : ℕ) (small : e < 2 ^ 9) where
+module _ (f : Flags) (aligned e : ℕ) (one : aligned ≤ 1) (small : e < 2 ^ 9) where
   abbrev status : ℕ
-  status = status_word f 0 e
+  status = status_word f aligned e
 
   n_small : number_of f.is_negative ≤ 1
   n_small = bit_small f.is_negative
@@ -55,22 +55,22 @@ module _ (f : Flags) (e : ℕ) (small : e < 2 ^ 9) where
   v_small = bit_small f.is_overflow
 
   negative : status / 2 ^ 31 % 2 ≡ number_of f.is_negative
-  negative = omega (arith, n_small, z_small, c_small, v_small, small)
+  negative = omega (arith, n_small, z_small, c_small, v_small, one, small)
 
   zero_flag : status / 2 ^ 30 % 2 ≡ number_of f.is_zero
-  zero_flag = omega (arith, n_small, z_small, c_small, v_small, small)
+  zero_flag = omega (arith, n_small, z_small, c_small, v_small, one, small)
 
   carry : status / 2 ^ 29 % 2 ≡ number_of f.is_carry
-  carry = omega (arith, n_small, z_small, c_small, v_small, small)
+  carry = omega (arith, n_small, z_small, c_small, v_small, one, small)
 
   overflow : status / 2 ^ 28 % 2 ≡ number_of f.is_overflow
-  overflow = omega (arith, n_small, z_small, c_small, v_small, small)
+  overflow = omega (arith, n_small, z_small, c_small, v_small, one, small)
 
   pub exception_read : status % 2 ^ 9 ≡ e
-  exception_read = omega (arith, n_small, z_small, c_small, v_small, small)
+  exception_read = omega (arith, n_small, z_small, c_small, v_small, one, small)
 
-  pub no_padding : status / 2 ^ 9 % 2 ≡ 0
-  no_padding = omega (arith, n_small, z_small, c_small, v_small, small)
+  pub padding_read : status / 2 ^ 9 % 2 ≡ aligned
+  padding_read = omega (arith, n_small, z_small, c_small, v_small, one, small)
 
   flag : (k : ℕ) (b : Bool) → status / 2 ^ k % 2 ≡ number_of b → (status / 2 ^ k % 2 == 1) ≡ b
   flag k b h = ap (λ (x : ℕ). x == 1) h ∙ read_back b
@@ -88,56 +88,48 @@ module _ (e : ℕ) (m : Machine) (can : CanBeInterrupted m) where
   abbrev r : ℕ → ℕ
   r = m.register
 
-  -- what is pushed, where nothing is padded
+  -- how many words are padded: one where the stack pointer is no multiple of 8
+  abbrev padding : ℕ
+  padding = r 13 / 4 % 2
+
+  -- what is pushed
   abbrev saved : List ℕ
-  saved = r 0 ∷ r 1 ∷ r 2 ∷ r 3 ∷ r 12 ∷ r 14 ∷ m.address ∷ status_word m.flags 0 m.exception ∷ []
+  saved = r 0 ∷ r 1 ∷ r 2 ∷ r 3 ∷ r 12 ∷ r 14 ∷ m.address ∷ status_word m.flags padding m.exception ∷ []
 
   abbrev frame : ℕ
-  frame = r 13 - 32
+  frame = r 13 - 32 - 4 * padding
 
-  unpadded : r 13 / 4 % 2 ≡ 0
-  unpadded = omega (arith, can.stack)
+  padded : r 13 % 8 ≡ 4 * padding
+  padded = omega (arith, can.stack)
 
-  no_more : r 13 - 32 - 4 * 0 ≡ r 13 - 32
-  no_more = omega arith
+  pub stack_is : (entered e m).register 13 + 32 + r 13 % 8 ≡ r 13
+  stack_is = omega (arith, padded, can.room)
 
-  -- the state after the push, said by the padding
-  abbrev by_padding : ℕ → Machine
-  by_padding aligned =
-      with_words (r 13 - 32 - 4 * aligned)
-      (r 0 ∷ r 1 ∷ r 2 ∷ r 3 ∷ r 12 ∷ r 14 ∷ m.address ∷ status_word m.flags aligned m.exception ∷ []) m
-
-  memory_is : (k : ℕ) → (entered e m).memory k ≡ (with_words frame saved m).memory k
-  memory_is k =
-      ap (λ (x : ℕ). (by_padding x).memory k) unpadded ∙ ap (λ (x : ℕ). (with_words x saved m).memory k) no_more
-
-  pub stack_is : (entered e m).register 13 ≡ frame
-  stack_is = ap (λ (x : ℕ). r 13 - 32 - 4 * x) unpadded ∙ no_more
-
-  whole : frame + 32 ≡ r 13
-  whole = omega (arith, can.room)
-
-  up : frame + 32 + 4 * 0 ≡ r 13
-  up = omega (arith, can.room)
+  up : frame + 32 + 4 * padding ≡ r 13
+  up = omega (arith, padded, can.room)
 
   frame_aligned : frame % 4 ≡ 0
-  frame_aligned = omega (arith, can.stack, can.room)
+  frame_aligned = omega (arith, can.stack, padded, can.room)
 
-  pub pushes_below : (k : ℕ) → (4 * k + 4 ≤ r 13 - 32) ⊎ (r 13 ≤ 4 * k) → (entered e m).memory k ≡ m.memory k
+  pub pushes_below : (k : ℕ) → (4 * k + 4 + 32 + r 13 % 8 ≤ r 13) ⊎ (r 13 ≤ 4 * k)
+      → (entered e m).memory k ≡ m.memory k
   pushes_below k apart =
-      memory_is k ∙ keeps saved frame k m frame_aligned (⊎_elim (λ (x : 4 * k + 4 ≤ r 13 - 32). inl x)
-      (λ (x : r 13 ≤ 4 * k). inr (omega (arith, x, whole))) apart)
+      keeps saved frame k m frame_aligned
+      (⊎_elim (λ (x : 4 * k + 4 + 32 + r 13 % 8 ≤ r 13). inl (omega (arith, x, padded)))
+      (λ (x : r 13 ≤ 4 * k). inr (omega (arith, x, up))) apart)
 
   module _ (last : Machine) (there : HasFrameOf (entered e m) last) where
     -- a word of the frame, at the handler's end
     stacked : (k : ℕ) → k < 8 → word_at last (last.register 13 + 4 * k) ≡ slice_index saved k
     stacked k l =
         ap (λ (x : ℕ). word_at last (x + 4 * k)) there.stack
-        ∙ (there.words k l ∙ (ap (λ (x : ℕ). word_at (entered e m) (x + 4 * k)) stack_is
-        ∙ (memory_is ((frame + 4 * k) / 4) ∙ lie saved frame m frame_aligned k l)))
+        ∙ (there.words k l ∙ lie saved frame m frame_aligned k l)
 
-    status_is : word_at last (last.register 13 + 4 * 7) ≡ status_word m.flags 0 m.exception
+    status_is : word_at last (last.register 13 + 4 * 7) ≡ status_word m.flags padding m.exception
     status_is = stacked 7 (omega arith)
+
+    one : padding ≤ 1
+    one = omega arith
 
     registers : (k : ℕ) → k < 4 → (popped last).register k ≡ r k
     registers zero l = stacked 0 (omega arith)
@@ -151,13 +143,13 @@ module _ (e : ℕ) (m : Machine) (can : CanBeInterrupted m) where
       registers = registers;
       register_12 = stacked 4 (omega arith);
       stack = ap (λ (x : ℕ). last.register 13 + 32 + 4 * (x / 2 ^ 9 % 2)) status_is
-          ∙ (ap (λ (x : ℕ). last.register 13 + 32 + 4 * x) (no_padding m.flags m.exception can.exception)
-          ∙ (ap (λ (x : ℕ). x + 32 + 4 * 0) (there.stack ∙ stack_is) ∙ up));
+          ∙ (ap (λ (x : ℕ). last.register 13 + 32 + 4 * x) (padding_read m.flags padding m.exception one can.exception)
+          ∙ (ap (λ (x : ℕ). x + 32 + 4 * padding) there.stack ∙ up));
       link = stacked 5 (omega arith);
       address = ap even (stacked 6 (omega arith))
           ∙ (ap (λ (x : ℕ). m.address - x) can.address ∙ omega arith);
-      flags = ap flags_of status_is ∙ flags_read m.flags m.exception can.exception;
-      exception = ap (λ (x : ℕ). x % 2 ^ 9) status_is ∙ exception_read m.flags m.exception can.exception;
+      flags = ap flags_of status_is ∙ flags_read m.flags padding m.exception one can.exception;
+      exception = ap (λ (x : ℕ). x % 2 ^ 9) status_is ∙ exception_read m.flags padding m.exception one can.exception;
     }
 
 pub entry_pushes_below : EntryPushesBelow

@@ -1,5 +1,5 @@
 -- Where memory holds an executable file, its parts lie where the file says.
-use Rattle.std.proofs.Common.{◌≡◌, ◌∙◌, ℕ, ◌+◌, ◌*◌, ◌/◌, ◌%◌, ◌^◌, ◌<◌, List, ◌++◌, length, refl, sym, ap, arith}
+use Rattle.std.proofs.Common.{◌≡◌, ◌∙◌, ℕ, zero, suc, ◌+◌, ◌*◌, ◌/◌, ◌%◌, ◌^◌, ◌<◌, List, ◌++◌, length, refl, sym, ap, arith}
 use Rattle.std.proofs.Common.{length-append}
 use Rattle.std.specs.Prelude.{slice_index}
 use Rattle.std.proofs.lemmas.List.{get_or_append_left, get_or-append-add}
@@ -28,7 +28,7 @@ in_five x a b c d n l =
     ∙ (get_or_append_left ((x ++ a) ++ b) c 0 n (omega (arith, l, one, two))
     ∙ (get_or_append_left (x ++ a) b 0 n (omega (arith, l, one)) ∙ get_or_append_left x a 0 n l))
 
-module _ (e : Executable) (m : Machine) where
+module _ (e : Executable) where
   front : List ℕ
   front = file_header e (offsets_of e) ++ segment_headers e (offsets_of e)
 
@@ -37,7 +37,7 @@ module _ (e : Executable) (m : Machine) where
   front_long = refl
 
   -- the bytes of `.text`, and of `.data`, in the file
-  text_in : (k : ℕ) → k < length e.text → slice_index (elf_of e) (116 + k) ≡ slice_index e.text k
+  pub text_in : (k : ℕ) → k < length e.text → slice_index (elf_of e) (116 + k) ≡ slice_index e.text k
   unfolding front
   text_in k l =
       let long = front_long in
@@ -49,7 +49,7 @@ module _ (e : Executable) (m : Machine) where
       ∙ (get_or_append_left (front ++ e.text) e.values 0 (116 + k) (omega (arith, l, long, both))
       ∙ (ap (slice_index (front ++ e.text)) place ∙ get_or-append-add front e.text k 0))
 
-  values_in : (k : ℕ) → k < length e.values
+  pub values_in : (k : ℕ) → k < length e.values
       → slice_index (elf_of e) (116 + length e.text + k) ≡ slice_index e.values k
   unfolding front
   values_in k l =
@@ -62,7 +62,7 @@ module _ (e : Executable) (m : Machine) where
       ∙ (ap (slice_index ((front ++ e.text) ++ e.values)) place
       ∙ get_or-append-add (front ++ e.text) e.values k 0)
 
-  module _ (text_address : e.text_address < 2 ^ 32) (data_load : e.data_load < 2 ^ 32)
+  module _ (m : Machine) (text_address : e.text_address < 2 ^ 32) (data_load : e.data_load < 2 ^ 32)
       (small : file_size e < 2 ^ 32) where
     -- the fields of the first header
     text_paddr : elf_word (elf_of e) 64 ≡ e.text_address
@@ -96,3 +96,17 @@ module _ (e : Executable) (m : Machine) where
           ∙ (holds 1 few refl k (omega (arith, l, values_filesz))
           ∙ (ap (λ (a : ℕ). slice_index (elf_of e) (a + k)) values_offset ∙ values_in k l))),
     )
+
+    -- and where they lie so, memory holds the file
+    pub parts_held : BytesLie m e.text_address e.text → BytesLie m e.data_load e.values → HoldsFile (elf_of e) m
+    unfolding file_header segment_headers halves words
+    parts_held text values zero few is k l =
+        let less : k < elf_word (elf_of e) 68 = l in
+        let inside : k < length e.text = omega (arith, less, text_filesz) in
+        ap (λ (a : ℕ). byte_at m (a + k)) text_paddr ∙ (text k inside ∙ sym (text_in k inside))
+    parts_held text values (suc zero) few is k l =
+        let less : k < elf_word (elf_of e) 100 = l in
+        let inside : k < length e.values = omega (arith, less, values_filesz) in
+        ap (λ (a : ℕ). byte_at m (a + k)) values_paddr ∙ (values k inside
+        ∙ sym (ap (λ (a : ℕ). slice_index (elf_of e) (a + k)) values_offset ∙ values_in k inside))
+    parts_held text values (suc (suc n)) few is k l = let two : suc (suc n) < 2 = few in absurd (omega (arith, two))

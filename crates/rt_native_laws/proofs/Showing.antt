@@ -1,24 +1,28 @@
 -- What runs shows the core's masks, cells, time, alarm and requests.
 use Rattle.std.proofs.Common.{◌≡◌, ◌∙◌, ℕ, ◌+◌, ◌*◌, ◌/◌, ◌%◌, ◌≤◌, inr}
-use Rattle.std.proofs.Common.{List, Option, Some, None, IfSome, refl, sym, ap, subst, arith, length}
+use Rattle.std.proofs.Common.{true, List, Option, Some, None, IfSome, refl, sym, ap, subst, arith, length}
 use Rattle.std.specs.Prelude.{if◌then◌else◌}
 use Rattle.rt_code.specs.Image.{Image}
 use Rattle.rt_core.specs.Core.{Core}
 use Rattle.rt_core.specs.Priority.{execution}
+use Rattle.rt_native.specs.Service.{is_called}
 use Rattle.rt_native.specs.declared.outside.Outside.{Outside}
 use Rattle.rt_native.specs.declared.target.Input.{Input}
 use Rattle.rt_thumb.specs.Exceptions.{external}
 use Rattle.rt_thumb.specs.Machine.{Machine, word_at}
 use Rattle.rt_thumb.specs.Step.{Program}
 use Rattle.rt_native_laws.specs.InTail.{Debt, IsInTail, rung}
-use Rattle.rt_native_laws.specs.Moments.{Began, Last, settled_words}
+use Rattle.rt_native_laws.specs.Moments.{HasJustRead, Last, settled_words}
 use Rattle.rt_native_laws.specs.Own.{ChangesItsOwn}
 use Rattle.rt_native_laws.specs.Phases.{IsToCome, IsDone, IsEntering, IsCalling, OthersRan, Phase, ToCome, AlreadyDone}
-use Rattle.rt_native_laws.specs.Phases.{Entering, Calling, Reads, Tails, kept_words, reads_from, tail_of}
+use Rattle.rt_native_laws.specs.InCall.{Within}
+use Rattle.rt_native_laws.specs.Phases.{Calling, Calls, Entering, FunctionCall, Reads, Tails, call_of, kept_words}
+use Rattle.rt_native_laws.specs.Phases.{reads_from, tail_of, viewed}
 use Rattle.rt_native_laws.specs.Reading.{IsReading}
-use Rattle.rt_native_laws.specs.Standing.{IsLaidOut, StandsFor}
+use Rattle.rt_native_laws.specs.Standing.{IsLaidOut, StandsFor, Shows}
 use Rattle.rt_native_laws.specs.Tail.{Meanwhile}
-use Rattle.rt_native_laws.specs.Waiting.{Shows, PhasesShow, IsFresh, KeepsTail, others_tail}
+use Rattle.rt_native_laws.specs.Waiting.{FunctionCalls, PhasesShow, IsFresh, KeepsTail, others_tail}
+use Rattle.rt_native_laws.proofs.CallKept.{call_again, call_is_kept, frame_again}
 use Rattle.rt_native_laws.proofs.Kept.{entering_is_kept, calling_is_kept_so}
 use Rattle.rt_native_laws.proofs.Meanwhile.{tail_is_kept}
 use Rattle.rt_native_laws.proofs.Phases.{apart_of, to_come_is_kept, done_is_kept}
@@ -37,6 +41,9 @@ module _ (at : Outside) (bottom : ℕ) (img : Image) (places : List ℕ) (p : Pr
   same_priority : execution d ≡ execution c
   same_priority = ap execution o.core
 
+  same_registers : n.register ≡ m.register
+  same_registers = ap (λ (y : Machine). y.register) o.processor.rest
+
   abbrev Then : Option Debt → (phase : Phase at bottom img places p c top m) → Type 0
   Then now phase =
       (again : Phase at bottom img places p d top n) × (kept_words at bottom img places p c top m phase
@@ -44,6 +51,9 @@ module _ (at : Outside) (bottom : ℕ) (img : Image) (places : List ℕ) (p : Pr
       × (reads_from at bottom img places p d top n again ≡ reads_from at bottom img places p c top m phase)
       × (tail_of at bottom img places p d top n again
       ≡ tail_then (tail_of at bottom img places p c top m phase) now)
+      × (call_of at bottom img places p d top n again ≡ call_of at bottom img places p c top m phase)
+      × ((viewed at bottom img places p d top n again).register
+      ≡ (viewed at bottom img places p c top m phase).register)
 
   -- a tail
   tail_again : (tail now : Option Debt) → KeepsTail tail now c d → (core : Core)
@@ -65,39 +75,70 @@ module _ (at : Outside) (bottom : ℕ) (img : Image) (places : List ℕ) (p : Pr
         ap (λ (t : Debt). Some t) (debt_is (debt again.0.irq again.0.instant again.0.owes) now
             (again.1 ∙ (sym (ap (λ (t : Debt). t.irq) own) ∙ sym keeps.0))
             (again.2 ∙ (sym (ap (λ (t : Debt). t.instant) own) ∙ sym keeps.1)) again.3),
+        refl,
+        same_registers,
       )
 
   pub phase_is_kept : (ceiling : ℕ) (tail now : Option Debt) → KeepsTail tail now c d
       → (phase : Phase at bottom img places p c top m)
       → IfSome (tail_of at bottom img places p c top m phase) (λ own. (tail ≡ Some own) × (execution c ≤ ceiling))
       → Then now phase
-  phase_is_kept ceiling tail now keeps (ToCome x) own =
-      (ToCome (to_come_is_kept at bottom img places p c d top m n x o), omega (arith, same_frame), refl, refl)
+  phase_is_kept ceiling tail now keeps (ToCome x) own = (
+    ToCome (to_come_is_kept at bottom img places p c d top m n x o),
+    omega
+        (arith, same_frame),
+    refl,
+    refl,
+    refl,
+    same_registers,
+  )
   phase_is_kept ceiling tail now keeps (AlreadyDone x) own = (
     AlreadyDone (done_is_kept at bottom img places p c d top m n laid port x o),
     omega (arith, same_frame),
     refl,
     refl,
+    refl,
+    same_registers,
   )
-  phase_is_kept ceiling tail now keeps (Entering x) own =
-      (Entering (entering_is_kept at bottom img places p c d top m n port x o), omega arith, refl, refl)
+  phase_is_kept ceiling tail now keeps (Entering x) own = (
+    Entering (entering_is_kept at bottom img places p c d top m n port x o),
+    omega arith,
+    refl,
+    refl,
+    refl,
+    same_registers,
+  )
   phase_is_kept ceiling tail now keeps (Calling x) own =
       let again = calling_is_kept_so at bottom img places p c d top m n x o in
-      (Calling again.0, omega (arith, again.1), refl, refl)
+      (Calling again.0, omega (arith, again.1), refl, refl, refl, same_registers)
   phase_is_kept ceiling tail now keeps (Reads x) own =
       let again = reading_is_kept at bottom img places p c d top m n x o in
-      (Reads again.0, omega arith, ap (λ (ds : List Input). Some ds) again.1, refl)
+      (Reads again.0, omega arith, ap (λ (r : List Input × Option (Input × ℕ)). Some r) again.1, refl, refl, same_registers)
+  phase_is_kept ceiling tail now keeps (Calls x f) own =
+      let g = call_is_kept at bottom img places p c d top m n x o in
+      let again = frame_again at bottom img places p c d top m n x x.stage x.called g f
+      (ap (λ (r : ℕ → ℕ). r 13 % 4) same_registers ∙ f.aligned) in (
+        Calls g.call again,
+        omega arith,
+        ap (λ (ds : List Input). Some (ds, None)) g.declared,
+        refl,
+        ap (λ (k : FunctionCall). Some k) (call_again at bottom img places p c d top m n x x.stage x.called g),
+        g.registers,
+      )
   phase_is_kept ceiling tail now keeps (Tails core x same) own = tail_again tail now keeps core x same own.0
 
   -- the job, with its frame as new, and the tail in which others are
-  pub job_is_kept : (highest ceiling : ℕ) (inputs : List Input) (tail now : Option Debt) (last : Last)
+  pub job_is_kept : (highest ceiling : ℕ) (inputs : List Input) (calls : FunctionCalls) (tail now : Option Debt)
+      (last : Last)
       → KeepsTail tail now c d → (phase : Phase at bottom img places p c top m)
-      → IsFresh at bottom highest ceiling inputs img places p tail last c top m phase
+      → IsFresh at bottom highest ceiling inputs calls img places p tail last c top m phase
       → (again : Phase at bottom img places p d top n)
-      × IsFresh at bottom highest ceiling inputs img places p now last d top n again
+      × IsFresh at bottom highest ceiling inputs calls img places p now last d top n again
       × KeepsTail (others_tail (tail_of at bottom img places p c top m phase) tail)
       (others_tail (tail_of at bottom img places p d top n again) now) c d
-  job_is_kept highest ceiling inputs tail now last keeps phase fresh =
+      × ((viewed at bottom img places p d top n again).register
+      ≡ (viewed at bottom img places p c top m phase).register)
+  job_is_kept highest ceiling inputs calls tail now last keeps phase fresh =
       let own = tail_of at bottom img places p c top m phase in
       let job = phase_is_kept ceiling tail now keeps phase fresh.2 in
       let kept = fresh.0 in
@@ -106,13 +147,17 @@ module _ (at : Outside) (bottom : ℕ) (img : Image) (places : List ℕ) (p : Pr
         (
           subst (λ (w : ℕ). settled_words last w ≤ kept_words at bottom img places p d top n job.0)
               (sym same_frame) (omega (arith, kept, more)),
-          subst (λ (r : Option (List Input)). IfSome r (λ declared. (last ≡ Began) × (declared ≡ inputs)))
+          subst (λ (r : Option (List Input × Option (Input × ℕ))). IfSome r
+              (λ reads. HasJustRead reads.1 last × (reads.0 ≡ inputs)))
               (sym job.2) fresh.1,
           subst (λ (t : Option Debt). IfSome t (λ own. (now ≡ Some own) × (execution d ≤ ceiling))) (sym job.3)
               (holds_then own tail now c d (execution c) (execution d) ceiling same_priority keeps fresh.2),
+          subst (λ (o : Option FunctionCall). IfSome o (λ call. (is_called calls.irqs call.irq ≡ true)
+              × (call.stage ≡ Within → calls.under_way (external call.irq) ≡ Some call.called))) (sym job.4) fresh.3,
         ),
         subst (λ (t : Option Debt). KeepsTail (others_tail own tail) (others_tail t now) c d) (sym job.3)
             (others_keep own tail now c d (only_tail own tail (execution c) ceiling fresh.2) keeps),
+        job.5,
       )
 
 module _ (at : Outside) (bottom : ℕ) (places : List ℕ) (c : Core) where
@@ -257,6 +302,7 @@ module _ (at : Outside) (bottom : ℕ) (img : Image) (places : List ℕ) (p : Pr
   shows laid (Entering x) = entering_shows x
   shows laid (Calling x) = calling_shows x
   shows laid (Reads x) = reading_shows x
+  shows laid (Calls x f) = x.shows
   shows laid (Tails core x same) = tail_shows core x same
 
 pub phases_show : PhasesShow

@@ -12,7 +12,6 @@ use Rattle.rt_code.specs.declared.instr.Instr.TheVariants as instr
 use Rattle.rt_core.specs.Core.{Context, Core}
 use Rattle.rt_core.specs.Priority.{base_value, execution, mask_value, running_value}
 use Rattle.rt_core.specs.Stepping.{step}
-use Rattle.rt_core.specs.declared.alarm.Alarm.{Alarm}
 use Rattle.rt_native.specs.Layout.{outside, places, stack_top}
 use Rattle.rt_native.specs.Service.{timer_irq}
 use Rattle.rt_native.specs.Target.{Target}
@@ -31,8 +30,8 @@ use Rattle.rt_native_laws.specs.InTail.{Debt, IsInTail, paid}
 use Rattle.rt_native_laws.specs.Moments.{Comes, Happening, Last, Moment, Went, after_instruction, after_step}
 use Rattle.rt_native_laws.specs.Moments.{instruction_at, moment_after, shown, with_core}
 use Rattle.rt_native_laws.specs.Own.{Executes}
-use Rattle.rt_native_laws.specs.Phases.{AlreadyDone, IsDone, Phase, Tails, tail_of}
-use Rattle.rt_native_laws.specs.Relating.{IsAlarmOf, IsInPlace, IsOfTimer, IsWhere, LeadsOn, lowest}
+use Rattle.rt_native_laws.specs.Phases.{AlreadyDone, IsDone, Phase, Tails, tail_of, viewed}
+use Rattle.rt_native_laws.specs.Relating.{calls_of, IsAlarmOf, IsInPlace, IsOfTimer, IsWhere, LeadsOn, lowest}
 use Rattle.rt_native_laws.specs.Simulating.{compared, seen_of_label}
 use Rattle.rt_native_laws.specs.Standing.{HoldsWords, IsLaidOut}
 use Rattle.rt_native_laws.specs.Tail.{TailGoes}
@@ -49,6 +48,7 @@ use Rattle.rt_native_laws.proofs.Tails.{debt}
 use Rattle.rt_native_laws.proofs.Tests.{same_number}
 use Rattle.rt_native_laws.proofs.Unpaid.{IsQuiet, IsSameButAlarm, by_debt, moment_same, of_some, paid_same}
 use Rattle.rt_native_laws.proofs.Unpaid.{parts_same, step_same}
+use Rattle.rt_native_laws.proofs.Viewing.{IsAlone, view_above}
 
 -- a request of the interrupt that alarms pend is not compared
 pub posted_unseen : (timer : Option ℕ) (irq : ℕ) → timer ≡ Some irq → (seen : List Seen)
@@ -98,8 +98,9 @@ alarm_there img at bottom pl p core top m x timer small =
     subst (IsAlarmOf img) (sym e.0) tt) x.set
 
 module _ (img : Image) (target : Target) (p : Program) (there : IsInPlace img target p) (ceiling : ℕ)
+    (called : ℕ → Option Machine)
     (fits : List Happening → Bool) (s : Moment) (m n : Machine)
-    (stays : StaysGood img target.inputs ceiling fits s) (w : IsWhere img target p ceiling s m)
+    (stays : StaysGood img target.inputs ceiling fits s) (w : IsWhere img target p ceiling called s m)
     (executed : Instruction) (exec : Executes p executed m n) where
   abbrev at : Outside
   at = outside img target
@@ -116,6 +117,9 @@ module _ (img : Image) (target : Target) (p : Program) (there : IsInPlace img ta
   abbrev Own : (c : Core) (y : Machine) → Phase at bottom img pl p c w.top y → Option Debt
   Own c y phase = tail_of at bottom img pl p c w.top y phase
 
+  abbrev View : (c : Core) (y : Machine) → Phase at bottom img pl p c w.top y → Machine
+  View c y phase = viewed at bottom img pl p c w.top y phase
+
   laid : IsLaidOut at bottom (length u.processor.cells)
   laid = subst (IsLaidOut at bottom) (sym w.cells) there.laid
 
@@ -125,27 +129,35 @@ module _ (img : Image) (target : Target) (p : Program) (there : IsInPlace img ta
   -- it leads to a core, and to a phase of it, and others see at most a request that is not compared
   module _ (tail : Option Debt) (of_timer : IfSome tail (IsOfTimer img ceiling)) (d : Core) (last : Last)
       (phase : Phase at bottom img pl p d w.top n)
-      (fresh : IsFresh at bottom (stack_top img target) ceiling target.inputs img pl p tail last d w.top n phase)
+      (fresh : IsFresh at bottom (stack_top img target) ceiling target.inputs
+      (calls_of target called) img pl p tail last d w.top n phase)
       (meanwhile : KeepsTail (others_tail (Own u m w.phase) w.tail) (others_tail (Own d n phase) tail) u d)
       (said : Option What) (others : LeavesOthers at w.top said m n) (words : HoldsWords n) (below : d.below ≡ u.below)
       (as_many : length d.processor.cells ≡ length u.processor.cells) (requests : length d.pending ≡ length u.pending)
-      (stopped : d.stopped ≡ u.stopped) (alarm : IsAlarmOf img d.alarm) where
+      (stopped : d.stopped ≡ u.stopped) (alarm : IsAlarmOf img d.alarm) (before : View u m w.phase ≡ m)
+      (behind : View d n phase ≡ n) where
     low_now : bottom ≤ n.register 13
     low_now =
         (phases_are_within_frames at bottom img pl p d w.top n (subst (IsLaidOut at bottom) (sym as_many) laid)
         there.has.port phase).low
 
-    where_now : IsWhere img target p ceiling (record { core = paid tail d; last = last; takings = s.takings }) n
+    where_now : IsWhere img target p ceiling called (record { core = paid tail d; last = last; takings = s.takings }) n
     where_now =
-        is_where_on img target p there ceiling s m n w tail of_timer d last phase fresh meanwhile
-        (steps_keep_above at w.top said m n others) (steps_keep_outside at bottom w.top said m n low low_now others)
-        words (placed img target p there ceiling fits s m n stays w executed exec) below as_many requests stopped alarm
+        is_where_on img target p there ceiling called called s m n w
+        (λ jobs. jobs) tail of_timer d last phase fresh meanwhile
+        (view_above at w.top m n (View u m w.phase) (View d n phase) before behind
+        (steps_keep_above at w.top said m n others)) (steps_keep_outside at bottom w.top said m n low low_now others)
+        words (placed img target p there ceiling called fits s m n stays w executed exec) below as_many requests
+        stopped alarm
 
   -- in the tail
   module _ (core : Core) (x : IsInTail at bottom img pl p core w.top m) (same : x.unpaid ≡ u)
       (is : w.phase ≡ Tails core x same) where
     abbrev own : Debt
     own = debt x.irq x.instant x.owes
+
+    seen_as : View u m w.phase ≡ m
+    seen_as = ap (View u m) is
 
     own_is : Own u m w.phase ≡ Some own
     own_is = ap (Own u m) is
@@ -166,7 +178,7 @@ module _ (img : Image) (target : Target) (p : Program) (there : IsInPlace img ta
         ∙ (ap (λ (k : Core). paid (Some own) k) (sym same) ∙ sym x.debt))
 
     core_same : IsSameButAlarm core u
-    core_same = subst (λ (c : Core). IsSameButAlarm c u) core_is (parts_same img target p ceiling s m w)
+    core_same = subst (λ (c : Core). IsSameButAlarm c u) core_is (parts_same img target p ceiling called s m w)
 
     none_others : (tail : Option Debt) (d : Core) → tail ≡ None
         → KeepsTail (others_tail (Own u m w.phase) w.tail) tail u d
@@ -183,7 +195,7 @@ module _ (img : Image) (target : Target) (p : Program) (there : IsInPlace img ta
 
     -- still in it
     goes_on : (again : IsInTail at bottom img pl p core w.top n) → again.irq ≡ x.irq
-        → IsWhere img target p ceiling s n
+        → IsWhere img target p ceiling called s n
     goes_on again irq =
         let now = debt again.irq again.instant again.owes in
         let alike = same_but core u again.unpaid core_same
@@ -194,40 +206,43 @@ module _ (img : Image) (target : Target) (p : Program) (there : IsInPlace img ta
         let priority : execution again.unpaid ≡ execution u =
         priority_by again.unpaid u (ap (λ (q : Processor). q.basepri) alike.processor)
         (ap (λ (q : Processor). q.primask) alike.processor) alike.below in
-        subst (λ (c : Core). IsWhere img target p ceiling (with_core s c) n) (sym (core_is ∙ again.debt))
+        subst (λ (c : Core). IsWhere img target p ceiling called (with_core s c) n) (sym (core_is ∙ again.debt))
         (where_now (Some now) timed_now again.unpaid s.last (Tails core again refl) (
           settled_within s.last (length again.unpaid.processor.slots),
           tt,
           (refl, omega (arith, priority, holds)),
+          tt,
         ) (none_others None again.unpaid refl) y.said y.others words_now alike.below
         (ap (λ (q : Processor). length q.cells) alike.processor) alike.requests alike.stopped
-        (alarm_there img at bottom pl p core w.top n again timed_now.1 timed_now.2))
+        (alarm_there img at bottom pl p core w.top n again timed_now.1 timed_now.2) seen_as refl)
 
     -- it ends, and nothing is owed
-    ends : IsDone at bottom img pl p core w.top n → IsWhere img target p ceiling s n
+    ends : IsDone at bottom img pl p core w.top n → IsWhere img target p ceiling called s n
     ends done =
-        subst (λ (c : Core). IsWhere img target p ceiling (with_core s c) n) (sym core_is)
+        subst (λ (c : Core). IsWhere img target p ceiling called (with_core s c) n) (sym core_is)
         (where_now None tt core s.last (AlreadyDone done)
-        (settled_within s.last (length core.processor.slots), tt, tt) (none_others None core refl) y.said y.others
+        (settled_within s.last (length core.processor.slots), tt, tt, tt) (none_others None core refl) y.said y.others
         words_now core_same.below (ap (λ (q : Processor). length q.cells) core_same.processor) core_same.requests
         core_same.stopped
         (subst (λ (c : Core). IsAlarmOf img c.alarm) (sym w.owed ∙ core_is)
-        (by_debt (λ (f : Core → Core). IsAlarmOf img (f u).alarm) w.tail w.alarm (λ t e. tt))))
+        (by_debt (λ (f : Core → Core). IsAlarmOf img (f u).alarm) w.tail w.alarm (λ t e. tt))) seen_as refl)
 
-    here : IsWhere img target p ceiling s n
+    here : IsWhere img target p ceiling called s n
     here =
         ⊎_elim
         (λ (z : (again : IsInTail at bottom img pl p core w.top n) × (again.irq ≡ x.irq)
         × (again.instant ≡ x.instant) × (again.owes ≡ x.owes)). goes_on z.0 z.1)
         (λ (z : IsDone at bottom img pl p core w.top n). ends z) y.phase
 
-    pub tail_leads_on : LeadsOn img target p ceiling fits s m n
+    pub tail_leads_on : LeadsOn img target p ceiling called fits s m n
     tail_leads_on =
-        let marked = marks_are_done img target p there ceiling fits s n stays here in
+        let marked = marks_are_done img target p there ceiling called fits s n stays here in
         record {
           happened = marked.happened;
           can = marked.can;
           arrivals = marked.arrivals;
+          few = omega (arith, marked.few);
+          words = marked.words m;
           seen = ap (compared (timer_irq img.code)) y.others.seen
               ∙ (item_unseen (timer_irq img.code) x.irq timed.1 y.said y.request m.seen
               ∙ ap (compared (timer_irq img.code))
@@ -239,7 +254,8 @@ module _ (img : Image) (target : Target) (p : Program) (there : IsInPlace img ta
         }
 
   -- the store of an alarm
-  module _ (own : Own u m w.phase ≡ None) (none_owed : w.tail ≡ None) (quiet : IsQuiet img target p ceiling s m w)
+  module _ (own : IsAlone at bottom img pl p u w.top m w.phase) (none_owed : w.tail ≡ None)
+      (quiet : IsQuiet img target p ceiling called s m w)
       (slot irq : ℕ) (st : StepsBy img (instr.Alarm slot irq) u (step img u).0 (step img u).1)
       (well : SetsTheAlarm img ceiling irq u) (x : IsInTail at bottom img pl p (step img u).0 w.top n)
       (same_irq : x.irq ≡ irq) (set : x.unpaid ≡ record u {
@@ -271,48 +287,51 @@ module _ (img : Image) (target : Target) (p : Program) (there : IsInPlace img ta
     next_is : moment_after img s (Comes Step)
         ≡ record { core = paid (Some now) x.unpaid; last = Went; takings = s.takings }
     next_is =
-        moment_same img target p ceiling s m w quiet
+        moment_same img target p ceiling called s m w quiet
         ∙ (ap (λ (z : Moment). with_core z (paid w.tail z.core))
         (ap (after_step img (with_core s u) d) st.takes_none ∙ ap (after_instruction img (with_core s u) d) at_it)
         ∙ (ap (λ (o : Option Debt). went (paid o d)) none_owed ∙ ap went x.debt))
 
-    stored : IsWhere img target p ceiling (moment_after img s (Comes Step)) n
+    stored : IsWhere img target p ceiling called (moment_after img s (Comes Step)) n
     stored =
-        subst (λ (z : Moment). IsWhere img target p ceiling z n) (sym next_is)
+        subst (λ (z : Moment). IsWhere img target p ceiling called z n) (sym next_is)
         (where_now (Some now) timed_now x.unpaid Went (Tails d x refl) (
           settled_within Went (length x.unpaid.processor.slots),
           tt,
           (refl, (let at_ceiling = well.at_ceiling.holds_off in omega (arith, priority, at_ceiling))),
+          tt,
         )
-        (subst (λ (o : Option Debt). KeepsTail (others_tail o w.tail) None u x.unpaid) (sym own)
+        (subst (λ (o : Option Debt). KeepsTail (others_tail o w.tail) None u x.unpaid) (sym own.tail)
         (subst (λ (o : Option Debt). KeepsTail o None u x.unpaid) (sym none_owed) tt))
         None others
         (words_stay_in_steps at img pl p executed w.top None m n there.has exec others w.words)
         (ap (λ (c : Core). c.below) set) (ap (λ (c : Core). length c.processor.cells) set)
         (ap (λ (c : Core). length c.pending) set) (ap (λ (c : Core). c.stopped) set)
-        (alarm_there img at bottom pl p d w.top n x timed_now.1 timed_now.2))
+        (alarm_there img at bottom pl p d w.top n x timed_now.1 timed_now.2) own.view refl)
 
     time_is : (moment_after img s (Comes Step)).core.time ≡ s.core.time
     time_is =
         ap (λ (z : Moment). z.core.time) next_is
         ∙ ((paid_same (Some now) x.unpaid).time ∙ (ap (λ (c : Core). c.time) set
-        ∙ sym (parts_same img target p ceiling s m w).time))
+        ∙ sym (parts_same img target p ceiling called s m w).time))
 
-    pub store_leads_on : LeadsOn img target p ceiling fits s m n
+    pub store_leads_on : LeadsOn img target p ceiling called fits s m n
     store_leads_on =
         let s1 = moment_after img s (Comes Step) in
-        let marked = marks_are_done img target p there ceiling (λ more. fits (Comes Step ∷ more)) s1 n
+        let marked = marks_are_done img target p there ceiling called (λ more. fits (Comes Step ∷ more)) s1 n
         (λ more ok f. stays (Comes Step ∷ more) (tt, ok) f) stored in
         record {
           happened = Comes Step ∷ marked.happened;
           can = (tt, marked.can);
           arrivals = marked.arrivals;
+          few = omega (arith, marked.few);
+          words = (tt, marked.words m);
           seen = ap (compared (timer_irq img.code)) (others.seen
               ∙ sym (ap (λ (xs : List Seen). reverse xs ++ m.seen)
               (step_seen img s marked.happened
               ∙ (ap (λ (xs : List Seen). xs ++ flat_map seen_of_label (shown img s1 marked.happened))
               (ap (λ (z : Core × Option What). seen_of_label (Stepped z.1))
-              (step_same img target p ceiling s m w quiet) ∙ alarm_is_unseen img slot irq u d (step img u).1 st)
+              (step_same img target p ceiling called s m w quiet) ∙ alarm_is_unseen img slot irq u d (step img u).1 st)
               ∙ marked.seen))));
           ticks = others.tick;
           time = marked.time ∙ time_is;

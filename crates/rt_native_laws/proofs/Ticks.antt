@@ -1,5 +1,5 @@
 -- A tick begins: what it leads to is where the image is after its own tick.
-use Rattle.std.proofs.Common.{◌≡◌, ◌≢◌, ◌∙◌, ℕ, suc, ◌+◌, ◌-◌, ◌*◌, ◌/◌, ◌%◌, ◌^◌, ◌<◌, ◌≤◌, ◌⊎◌, inl, inr, Bool}
+use Rattle.std.proofs.Common.{◌≡◌, ◌≢◌, ◌∙◌, ℕ, suc, ◌+◌, ◌*◌, ◌/◌, ◌%◌, ◌^◌, ◌<◌, ◌≤◌, ◌⊎◌, inl, inr, Bool}
 use Rattle.std.proofs.Common.{true, false}
 use Rattle.std.proofs.Common.{List, [], ◌∷◌, ◌++◌, Option, Some, None, refl, sym, ap, subst, arith, length}
 use Rattle.std.proofs.Common.{flat_map, IfSome, ⊎_elim}
@@ -11,7 +11,7 @@ use mathlib.Core.Path.{fun_ext}
 use Rattle.rt_ids.specs.Event.{Tick}
 use Rattle.rt_code.specs.Image.{Image}
 use Rattle.rt_code.specs.Processor.{Processor}
-use Rattle.rt_core.specs.Core.{Core}
+use Rattle.rt_core.specs.Core.{Core, depth, exception_number}
 use Rattle.rt_core.specs.Trace.{happen, ring, tick}
 use Rattle.rt_core.specs.Transfer.{core_after_pend}
 use Rattle.rt_core.specs.declared.alarm.Alarm.{Alarm}
@@ -22,42 +22,45 @@ use Rattle.rt_native.specs.declared.outside.Outside.{Outside}
 use Rattle.rt_native.specs.declared.target.Input.{Input}
 use Rattle.rt_priorities.specs.Ticking.{HasTicked, TicksAtOnce, alarm_word, requested}
 use Rattle.rt_priorities.proofs.Ticking.{number_is_small, ticks_are_one_event}
-use Rattle.rt_priorities.proofs.Vectors.{ticks_lead_to_theirs}
 use Rattle.rt_thumb.specs.Exceptions.{entered, status_word, systick, taken}
 use Rattle.rt_thumb.specs.Machine.{Entered, Flags, Machine, Posted, Returned, Seen}
 use Rattle.rt_thumb.specs.Step.{Program}
 use Rattle.rt_trace.specs.Label.{Label, Rang}
 use Rattle.rt_native_laws.specs.Behaving.{HasEvenFrames, IsGood}
 use Rattle.rt_native_laws.specs.Deep.{IsWithinFrames}
+use Rattle.rt_native_laws.specs.Devices.{is_devices}
 use Rattle.rt_native_laws.specs.InTail.{Debt, paid}
 use Rattle.rt_native_laws.specs.Moments.{Comes, Happening, Moment, moment_after, shown, with_core}
-use Rattle.rt_native_laws.specs.Phases.{OthersRan, tail_of}
-use Rattle.rt_native_laws.specs.Relating.{IsAlarmOf, IsEvenFrame, IsInPlace, IsOfTimer, IsWhere, lowest}
+use Rattle.rt_native_laws.specs.Phases.{OthersRan, tail_of, viewed}
+use Rattle.rt_native_laws.specs.Relating.{calls_of, IsAlarmOf, IsEvenFrame, IsInPlace, IsOfTimer, IsWhere, lowest}
 use Rattle.rt_native_laws.specs.Saving.{CanBeInterrupted}
 use Rattle.rt_native_laws.specs.Simulating.{compared, seen_of_label}
-use Rattle.rt_native_laws.specs.Standing.{HoldsWords, IsLaidOut, LieFrom}
-use Rattle.rt_native_laws.specs.Waiting.{KeepsTail, Shows, others_tail}
+use Rattle.rt_native_laws.specs.Standing.{HoldsWords, IsLaidOut, LieFrom, Shows, frame_bytes}
+use Rattle.rt_native_laws.specs.Waiting.{FunctionCalls, KeepsAbove, KeepsTail, others_tail}
 use Rattle.rt_native_laws.proofs.Above.{tick_leaves, ticks_keep_above}
-use Rattle.rt_native_laws.proofs.Deep.{phases_are_within_frames}
-use Rattle.rt_native_laws.proofs.Eights.{phase_is_eight}
+use Rattle.rt_native_laws.proofs.Deep.{phases_are_within_frames, no_deeper_with_padding}
+use Rattle.rt_native_laws.proofs.Devices.{devices_aside, devices_outside}
+use Rattle.rt_native_laws.proofs.Eights.{phase_is_rounded}
 use Rattle.rt_native_laws.proofs.Interrupting.{exception_is, top_is_eight}
+use Rattle.rt_native_laws.proofs.Linked.{linked_service_lies}
 use Rattle.rt_native_laws.proofs.Owing.{ticks_in_tails}
 use Rattle.rt_native_laws.proofs.Relating.{KeepsOutside, is_where_on}
 use Rattle.rt_native_laws.proofs.Saving.{entry_pushes_below, stack_is as pushed_stack}
 use Rattle.rt_native_laws.proofs.Showing.{job_is_kept, phases_show}
 use Rattle.rt_native_laws.proofs.Tailing.{posted_unseen}
 use Rattle.rt_native_laws.proofs.Tails.{IsOwingSo, debt}
-use Rattle.rt_native_laws.proofs.Unpaid.{IsSameButAlarm, owing, parts_same}
+use Rattle.rt_native_laws.proofs.Unpaid.{IsSameButAlarm, by_debt, owing, parts_same}
+use Rattle.rt_native_laws.proofs.Viewing.{view_rest, views_keep}
 use Rattle.rt_native_laws.proofs.Waiting.{pushed_words, status_small}
 
 -- what a tick leaves of the core; and nobody else sees what is shown of it
-record TickShape (c d : Core) (said : List Label) : Type 0 where
-  core : d ≡ record c { time = suc c.time; alarm = d.alarm; pending = d.pending }
+pub record TickShape (c d : Core) (said : List Label) : Type 0 where
+  pub core : d ≡ record c { time = suc c.time; alarm = d.alarm; pending = d.pending }
   requests : length d.pending ≡ length c.pending
   alarm : (d.alarm ≡ c.alarm) ⊎ (d.alarm ≡ None)
   unseen : (more : List Label) → flat_map seen_of_label (said ++ more) ≡ flat_map seen_of_label more
 
-tick_shape : (c : Core) → TickShape c (tick c).0 (tick c).1
+pub tick_shape : (c : Core) → TickShape c (tick c).0 (tick c).1
 tick_shape c = by_alarm c.alarm refl
   where
     by_due : (a : Alarm) → c.alarm ≡ Some a → (b : Bool) → (x : Core × List Label)
@@ -109,9 +112,10 @@ entry_words_small e m words low small k =
     pushed_words (r 0 ∷ r 1 ∷ r 2 ∷ r 3 ∷ r 12 ∷ r 14 ∷ m.address ∷ status ∷ []) _ m
     (words.registers 0, (words.registers 1, most)) words.memory k
 
-module _ (img : Image) (target : Target) (p : Program) (ceiling : ℕ) (fits : List Happening → Bool) (s : Moment)
+module _ (img : Image) (target : Target) (p : Program) (ceiling : ℕ)
+    (called : ℕ → Option Machine) (fits : List Happening → Bool) (s : Moment)
     (m : Machine) (there : IsInPlace img target p) (even_frames : HasEvenFrames img)
-    (good : IsGood img ceiling s) (w : IsWhere img target p ceiling s m)
+    (good : IsGood img ceiling s) (w : IsWhere img target p ceiling called s m)
     (fits_in : s.core.time + 2 < 2 ^ 32) (ticks : taken m ≡ Some systick) where
   abbrev at : Outside
   at = outside img target
@@ -127,6 +131,9 @@ module _ (img : Image) (target : Target) (p : Program) (ceiling : ℕ) (fits : L
 
   abbrev inputs : List Input
   inputs = target.inputs
+
+  abbrev calls : FunctionCalls
+  calls = calls_of target called
 
   abbrev c : Core
   c = w.unpaid
@@ -147,7 +154,7 @@ module _ (img : Image) (target : Target) (p : Program) (ceiling : ℕ) (fits : L
   shows = phases_show at bottom img pl p c w.top m laid there.has.port w.phase
 
   same : IsSameButAlarm s.core c
-  same = parts_same img target p ceiling s m w
+  same = parts_same img target p ceiling called s m w
 
   even_here : IsEvenFrame c.caller c.processor.slots
   even_here =
@@ -157,16 +164,37 @@ module _ (img : Image) (target : Target) (p : Program) (ceiling : ℕ) (fits : L
   highest_eight : highest % 8 ≡ 0
   highest_eight = omega (arith, there.image.ram.0)
 
-  eights : m.register 13 % 8 ≡ 0
-  eights =
-      phase_is_eight at bottom img pl p there.has even_frames c w.top m
-      (top_is_eight at bottom highest ceiling inputs img pl p others c w.top m s.takings c.below w.waiting
+  -- the processor as those who wait will find it
+  abbrev seen_now : Machine
+  seen_now = viewed at bottom img pl p c w.top m w.phase
+
+  rounded : (m.register 13 % 4 ≡ 0) × (w.top + m.register 13 % 8 ≤ m.register 13 + frame_bytes c)
+  rounded =
+      phase_is_rounded at bottom img pl p there.has even_frames c w.top m
+      (top_is_eight at bottom highest ceiling inputs calls img pl p others c w.top seen_now s.takings c.below w.waiting
       highest_eight)
-      even_here
-      w.phase
+      even_here within w.phase
+
+  exception_here : m.exception ≡ exception_number c.below
+  exception_here =
+      sym (ap (λ (y : Machine). y.exception) (view_rest at bottom img pl p c w.top m w.phase))
+      ∙ exception_is at bottom highest ceiling inputs calls img pl p others c w.top seen_now s.takings c.below w.waiting
+
+  -- the stack is no deeper than the image's, with an entry's padding
+  pub low_here : highest + m.register 13 % 8 ≤ m.register 13 + depth img s.core
+  low_here =
+      let deep = no_deeper_with_padding at bottom highest ceiling inputs calls img pl p others s.takings c w.top m
+      seen_now laid there.has.port rounded.1 w.waiting in
+      let depth_same : depth img s.core ≡ depth img c =
+      ap (λ (k : Core). depth img k) w.owed
+      ∙ by_debt (λ (f : Core → Core). depth img (f c) ≡ depth img c) w.tail refl (λ t e. refl) in
+      omega (arith, deep, depth_same)
 
   room : 40 ≤ m.register 13
   room = omega (arith, within.low, there.reach, there.image.above_zero)
+
+  bottom_eight : bottom % 8 ≡ 0
+  bottom_eight = omega (arith, there.reach, highest_eight, there.image.runnable.sizes.stack_pairs)
 
   cells_below : at.cells ≤ at.time
   cells_below = omega (arith, there.laid.time)
@@ -194,23 +222,32 @@ module _ (img : Image) (target : Target) (p : Program) (ceiling : ℕ) (fits : L
 
   after : (now : Option Debt) × IfSome now (IsOfTimer img ceiling) × KeepsTail w.tail now c d
       × ((tick (paid w.tail c)).0 ≡ paid now d)
-  after = ticked w.tail (owing img target p ceiling s m w) w.of_timer
+  after = ticked w.tail (owing img target p ceiling called s m w) w.of_timer
 
   alarm_then : IsAlarmOf img d.alarm
   alarm_then =
       ⊎_elim (λ (e : d.alarm ≡ c.alarm). subst (IsAlarmOf img) (sym e) w.alarm)
       (λ (e : d.alarm ≡ None). subst (IsAlarmOf img) (sym e) tt) shape.alarm
 
-  pub once : TicksAtOnce p img at c m
+  can : CanBeInterrupted m
+  can = record {
+    stack = rounded.0;
+    room = omega (arith, room);
+    address = w.placed.0;
+    exception = subst (λ (x : ℕ). x < 2 ^ 9) (sym exception_here) (number_is_small m c.below w.agrees.values);
+  }
+
+  pub once : TicksAtOnce p (is_devices target) img at c m
   once =
-      ticks_are_one_event p img at (timer_irq img.code) c m w.agrees w.requests (record {
+      ticks_are_one_event p (is_devices target) img at (timer_irq img.code) c m w.agrees w.requests (record {
         taken = ticks;
         highest = w.tick;
-        exception = exception_is at bottom highest ceiling inputs img pl p others c w.top m s.takings c.below w.waiting;
+        exception = exception_here;
         address = w.placed.0;
-        aligned = omega (arith, eights);
+        aligned = rounded.0;
         room = omega (arith, room);
-      }) (ticks_lead_to_theirs img target p m w.loaded) (record {
+      }) (linked_service_lies img target w.loaded.functions w.loaded.object p m w.loaded.loaded w.loaded.linked).0
+      (record {
         aligned = omega (arith, there.laid.aligned, there.laid.time);
         in_memory = there.laid.in_memory;
         above_stack = omega (arith, within.high, within.below_cells, cells_below);
@@ -226,6 +263,12 @@ module _ (img : Image) (target : Target) (p : Program) (ceiling : ℕ) (fits : L
             )))
             (λ (x : at.time + 8 ≤ at.port). inr (omega (arith, x, there.has.port))) there.laid.port_apart;
         port_is_no_request = λ e. there.laid.port_is_no_request (sym there.has.port ∙ e);
+      }) (record {
+        apart = λ k f. ⊎_elim
+            (λ (x : 4 * k + 4 + TICK_BYTES ≤ bottom). inl (omega
+            (arith, x, within.low, pushed_stack systick m can, can.room, bottom_eight, rounded.0)))
+            (λ (x : at.time + 8 ≤ 4 * k). inr x) (devices_aside img target p there.image.fits there.image.ram k f);
+        system = devices_outside target;
       }) (record { time = shows.time; alarm = shows.alarm }) (record {
         time = omega (arith, fits_in, same.time);
         alarm = w.alarm;
@@ -240,19 +283,9 @@ module _ (img : Image) (target : Target) (p : Program) (ceiling : ℕ) (fits : L
   t : HasTicked img at c m last
   t = once.has_ticked
 
-  can : CanBeInterrupted m
-  can = record {
-    stack = eights;
-    room = omega (arith, room);
-    address = w.placed.0;
-    exception = subst (λ (x : ℕ). x < 2 ^ 9)
-        (sym (exception_is at bottom highest ceiling inputs img pl p others c w.top m s.takings c.below w.waiting))
-        (number_is_small m c.below w.agrees.values);
-  }
-
   -- memory but for the time and the alarm, and for the frame
   memory_is : (k : ℕ) → (k < at.time / 4) ⊎ ((at.time + 8) / 4 ≤ k)
-      → (4 * k + 4 ≤ m.register 13 - 32) ⊎ (m.register 13 ≤ 4 * k) → last.memory k ≡ m.memory k
+      → (4 * k + 4 + 32 + m.register 13 % 8 ≤ m.register 13) ⊎ (m.register 13 ≤ 4 * k) → last.memory k ≡ m.memory k
   memory_is k beside away = t.others k beside ∙ entry_pushes_below systick m can k away
 
   keeps : KeepsOutside at bottom m last
@@ -260,7 +293,7 @@ module _ (img : Image) (target : Target) (p : Program) (ceiling : ℕ) (fits : L
       ⊎_elim
       (λ (x : 4 * k + 4 + TICK_BYTES ≤ bottom).
       memory_is k (inl (omega (arith, x, within.low, within.high, within.below_cells, cells_below)))
-      (inl (omega (arith, x, within.low, room))))
+      (inl (omega (arith, x, within.low, bottom_eight, rounded.0))))
       (λ (x : at.time + 8 ≤ 4 * k).
       memory_is k (inr (omega (arith, x, there.laid.aligned, there.laid.time)))
       (inr (omega (arith, x, within.high, within.below_cells, cells_below)))) beside
@@ -373,20 +406,29 @@ module _ (img : Image) (target : Target) (p : Program) (ceiling : ℕ) (fits : L
     words = words_last;
   }
 
-  pub where_last : IsWhere img target p ceiling
+  above : KeepsAbove at w.top m last
+  above = ticks_keep_above at img w.top c m last cells_below within.high w.agrees t
+
+  pub where_last : IsWhere img target p ceiling called
       (record { core = (tick s.core).0; last = s.last; takings = s.takings }) last
   where_last =
-      let job = job_is_kept at bottom img pl p c d w.top m last laid there.has.port ran highest ceiling inputs w.tail
+      let job = job_is_kept at bottom img pl p c d w.top m last laid there.has.port ran highest ceiling inputs calls
+      w.tail
       after.0 s.last after.2 w.phase w.fresh in
-      subst (λ (k : Core). IsWhere img target p ceiling (with_core s k) last)
+      subst (λ (k : Core). IsWhere img target p ceiling called (with_core s k) last)
       (sym (ap (λ (k : Core). (tick k).0) w.owed ∙ after.3))
-      (is_where_on img target p there ceiling s m last w after.0 after.1 d s.last job.0 job.1 job.2
-      (ticks_keep_above at img w.top c m last cells_below within.high w.agrees t) keeps words_last
+      (is_where_on img target p there ceiling called called s m last w
+      (λ jobs. jobs) after.0 after.1 d s.last job.0 job.1 job.2
+      (views_keep at bottom img pl p c d w.top w.top m last w.phase job.0 w.top
+      (λ k h f g. ap (λ (r : ℕ → ℕ). r k) job.3) above.memory above.exception above.active) keeps words_last
       (subst (λ (a : ℕ). (a % 2 ≡ 0) × (a < 2 ^ 32)) (sym t.address) w.placed) (tick_leaves c) ran.as_many
       shape.requests (ap (λ (y : Core). y.stopped) core_is) alarm_then)
 
-  pub frame_deep : last.register 13 ≤ (entered systick m).register 13 + 32
-  frame_deep = omega (arith, t.registers 13, pushed_stack systick m can, can.room)
+  pub stack_last : last.register 13 ≡ m.register 13
+  stack_last = t.registers 13
+
+  pub frame_deep : last.register 13 ≤ (entered systick m).register 13 + 32 + last.register 13 % 8
+  frame_deep = omega (arith, t.registers 13, pushed_stack systick m can)
 
   pub seen_is : compared (timer_irq img.code) last.seen ≡ compared (timer_irq img.code) (entered systick m).seen
   seen_is =

@@ -22,10 +22,11 @@ use Rattle.rt_native_laws.specs.Alike.{IsNotTaken, SetsNoAlarm}
 use Rattle.rt_native_laws.specs.Behaving.{GoesWell, IsGood}
 use Rattle.rt_native_laws.specs.InTail.{Debt, paid, rung}
 use Rattle.rt_native_laws.specs.Moments.{Comes, Last, Moment, Taking, instruction_at, moment_after, with_core}
-use Rattle.rt_native_laws.specs.Phases.{AlreadyDone, Calling, Entering, Phase, Reads, Tails, ToCome, tail_of}
-use Rattle.rt_native_laws.specs.Relating.{IsOfTimer, IsWhere, lowest}
+use Rattle.rt_native_laws.specs.Phases.{AlreadyDone, Calling, Calls, Entering, Phase, Reads, Tails, ToCome, tail_of}
+use Rattle.rt_native_laws.specs.Phases.{viewed}
+use Rattle.rt_native_laws.specs.Relating.{calls_of, IsOfTimer, IsWhere, lowest}
 use Rattle.rt_native_laws.specs.Tail.{IsOwing}
-use Rattle.rt_native_laws.specs.Waiting.{IsFresh, Waiting, interrupted_core, others_tail, resumed}
+use Rattle.rt_native_laws.specs.Waiting.{FunctionCalls, IsFresh, Waiting, interrupted_core, others_tail, resumed}
 use Rattle.rt_native_laws.proofs.Alike.{same_pick, steps_are_alike}
 use Rattle.rt_native_laws.proofs.Owing.{ceilings_hold_off, happenings_are_alike, none_above_sets_alarms}
 use Rattle.rt_native_laws.proofs.Tail.{tail_owes}
@@ -76,17 +77,22 @@ owing_there priority x below c None h = tt
 owing_there priority x below c (Some t) h = record { due = h.due; has_come = h.has_come; set = h.set }
 
 -- what interrupted jobs say of a tail in which one of them is
-module _ (at : Outside) (bottom highest ceiling : ℕ) (inputs : List Input) (img : Image) (places : List ℕ)
+module _ (at : Outside) (bottom highest ceiling : ℕ) (inputs : List Input) (calls : FunctionCalls) (img : Image)
+    (places : List ℕ)
     (p : Program) where
   abbrev Own : (c : Core) (top : ℕ) (m : Machine) → Phase at bottom img places p c top m → Option Debt
   Own c top m phase = tail_of at bottom img places p c top m phase
 
   abbrev Fresh : Option Debt → Last → (c : Core) (top : ℕ) (m : Machine) → Phase at bottom img places p c top m
       → Type 0
-  Fresh tail last c top m phase = IsFresh at bottom highest ceiling inputs img places p tail last c top m phase
+  Fresh tail last c top m phase = IsFresh at bottom highest ceiling inputs calls img places p tail last c top m phase
 
   abbrev Jobs : Option Debt → List Taking → List Context → Core → ℕ → Machine → Type 0
-  Jobs tail takings below c top m = Waiting at bottom highest ceiling inputs img places p tail takings below c top m
+  Jobs tail takings below c top m = Waiting at bottom highest ceiling inputs calls img places p tail takings below c
+      top m
+
+  abbrev view : (c : Core) (top : ℕ) (m : Machine) → Phase at bottom img places p c top m → Machine
+  view c top m phase = viewed at bottom img places p c top m phase
 
   pub phase_owing : (tail : Option Debt) (last : Last) (c : Core) (top : ℕ) (m : Machine)
       → (phase : Phase at bottom img places p c top m) → Fresh tail last c top m phase
@@ -96,6 +102,7 @@ module _ (at : Outside) (bottom highest ceiling : ℕ) (inputs : List Input) (im
   phase_owing tail last c top m (Entering x) fresh rest = rest refl
   phase_owing tail last c top m (Calling x) fresh rest = rest refl
   phase_owing tail last c top m (Reads x) fresh rest = rest refl
+  phase_owing tail last c top m (Calls x f) fresh rest = rest refl
   phase_owing tail last c top m (Tails core x same) fresh rest =
       subst (λ (o : Option Debt). IsOwingSo o c) (sym fresh.2.0)
       (subst (λ (y : Core). IsOwing x.irq x.instant x.owes y) same (tail_owes at bottom img places p core top m x))
@@ -109,14 +116,16 @@ module _ (at : Outside) (bottom highest ceiling : ℕ) (inputs : List Input) (im
   phase_holds tail last c top m (Entering x) fresh rest = rest refl
   phase_holds tail last c top m (Calling x) fresh rest = rest refl
   phase_holds tail last c top m (Reads x) fresh rest = rest refl
+  phase_holds tail last c top m (Calls x f) fresh rest = rest refl
   phase_holds tail last c top m (Tails core x same) fresh rest =
       subst (λ (o : Option Debt). IfSome o (λ t. execution c ≤ ceiling)) (sym fresh.2.0) fresh.2.1
 
   pub same_others : (tail : Option Debt) (takings : List Taking) (below : List Context) (c : Core) (top : ℕ)
       (m : Machine) (phase : Phase at bottom img places p c top m) → Own c top m phase ≡ None
-      → Jobs (others_tail (Own c top m phase) tail) takings below c top m → Jobs tail takings below c top m
+      → Jobs (others_tail (Own c top m phase) tail) takings below c top (view c top m phase)
+      → Jobs tail takings below c top (view c top m phase)
   same_others tail takings below c top m phase e jobs =
-      subst (λ (o : Option Debt). Jobs (others_tail o tail) takings below c top m) e jobs
+      subst (λ (o : Option Debt). Jobs (others_tail o tail) takings below c top (view c top m phase)) e jobs
 
   pub waiting_owing : (tail : Option Debt) (takings : List Taking) (below : List Context) (c : Core) (top : ℕ)
       (m : Machine) → Jobs tail takings below c top m → IsOwingSo tail c
@@ -130,7 +139,7 @@ module _ (at : Outside) (bottom highest ceiling : ℕ) (inputs : List Input) (im
       let there = interrupted_core priority c x below in
       owing_there priority x below c tail
       (phase_owing tail taking.last there next back phase fresh (λ e.
-      waiting_owing tail takings below there next back
+      waiting_owing tail takings below there next (view there next back phase)
       (same_others tail takings below there next back phase e more)))
 
   -- who runs above it has a priority above the ceiling
@@ -148,7 +157,7 @@ module _ (at : Outside) (bottom highest ceiling : ℕ) (inputs : List Input) (im
       if_some tail (execution there ≤ ceiling) (x.value < ceiling) (λ h. omega (arith, h, higher))
       (phase_holds tail taking.last there next back phase fresh (λ e.
       if_some tail (running_value below < ceiling) (execution there ≤ ceiling) (λ h. omega (arith, h))
-      (waiting_below tail takings below there next back
+      (waiting_below tail takings below there next (view there next back phase)
       (same_others tail takings below there next back phase e more))))
 
 -- An instruction goes well at a core with its alarm come as it does at the one without.
@@ -190,35 +199,46 @@ module _ (img : Image) (ceiling irq : ℕ) (s : Moment) (u : Core) where
             well_without i (good.instruction i note line (same_pick img irq u free ∙ picks));
       }
 
-module _ (img : Image) (target : Target) (p : Program) (ceiling : ℕ) (s : Moment) (m : Machine)
-    (w : IsWhere img target p ceiling s m) where
+module _ (img : Image) (target : Target) (p : Program) (ceiling : ℕ)
+    (called : ℕ → Option Machine) (s : Moment) (m : Machine)
+    (w : IsWhere img target p ceiling called s m) where
   abbrev u : Core
   u = w.unpaid
 
   abbrev own : Option Debt
   own = tail_of (outside img target) (lowest img target p) img (places img target) p u w.top m w.phase
 
+  -- the processor as those who wait will find it
+  abbrev seen : Machine
+  seen = viewed (outside img target) (lowest img target p) img (places img target) p u w.top m w.phase
+
   -- what is owed is so of the core
   pub owing : IsOwingSo w.tail u
   owing =
-      phase_owing (outside img target) (lowest img target p) (stack_top img target) ceiling target.inputs img
+      phase_owing (outside img target) (lowest img target p) (stack_top img target) ceiling target.inputs
+      (calls_of target called) img
       (places img target) p w.tail s.last u w.top m w.phase w.fresh (λ e.
-      waiting_owing (outside img target) (lowest img target p) (stack_top img target) ceiling target.inputs img
-      (places img target) p w.tail s.takings u.below u w.top m
-      (same_others (outside img target) (lowest img target p) (stack_top img target) ceiling target.inputs img
+      waiting_owing (outside img target) (lowest img target p) (stack_top img target) ceiling target.inputs
+      (calls_of target called) img
+      (places img target) p w.tail s.takings u.below u w.top seen
+      (same_others (outside img target) (lowest img target p) (stack_top img target) ceiling target.inputs
+      (calls_of target called) img
       (places img target) p w.tail s.takings u.below u w.top m w.phase e w.waiting))
 
   -- who is in no tail runs above the ceiling of one in which another is
   pub above : own ≡ None → IfSome w.tail (λ t. running_value u.below < ceiling)
   above e =
-      waiting_below (outside img target) (lowest img target p) (stack_top img target) ceiling target.inputs img
-      (places img target) p w.tail s.takings u.below u w.top m
-      (same_others (outside img target) (lowest img target p) (stack_top img target) ceiling target.inputs img
+      waiting_below (outside img target) (lowest img target p) (stack_top img target) ceiling target.inputs
+      (calls_of target called) img
+      (places img target) p w.tail s.takings u.below u w.top seen
+      (same_others (outside img target) (lowest img target p) (stack_top img target) ceiling target.inputs
+      (calls_of target called) img
       (places img target) p w.tail s.takings u.below u w.top m w.phase e w.waiting)
 
   pub holds : IfSome w.tail (λ t. execution u ≤ ceiling)
   holds =
-      phase_holds (outside img target) (lowest img target p) (stack_top img target) ceiling target.inputs img
+      phase_holds (outside img target) (lowest img target p) (stack_top img target) ceiling target.inputs
+      (calls_of target called) img
       (places img target) p w.tail s.last u w.top m w.phase w.fresh (λ e.
       if_some w.tail (running_value u.below < ceiling) (execution u ≤ ceiling) (λ h. omega (arith, h)) (above e))
 

@@ -24,12 +24,12 @@ use Rattle.rt_native_laws.specs.Going.{HasCode}
 use Rattle.rt_native_laws.specs.InTail.{Debt}
 use Rattle.rt_native_laws.specs.Moments.{Last, Taking}
 use Rattle.rt_native_laws.specs.Own.{Spans}
-use Rattle.rt_native_laws.specs.Phases.{OthersRan, Phase, Entering, tail_of}
+use Rattle.rt_native_laws.specs.Phases.{Entering, OthersRan, Phase, tail_of, viewed}
 use Rattle.rt_native_laws.specs.Saving.{CanBeInterrupted, HasAgain}
-use Rattle.rt_native_laws.specs.Standing.{IsLaidOut, HoldsWords}
-use Rattle.rt_native_laws.specs.Waiting.{Shows, KeepsAbove, Waiting, WaitingIsKept, EntryAddsAJob, EntryBegins, resumed}
-use Rattle.rt_native_laws.specs.Waiting.{return_value, IsFresh, KeepsTail}
-use Rattle.rt_native_laws.specs.Waiting.{interrupted_core, context_of, others_tail}
+use Rattle.rt_native_laws.specs.Standing.{HoldsWords, IsLaidOut, Shows, frame_bytes}
+use Rattle.rt_native_laws.specs.Waiting.{FunctionCalls, KeepsAbove, Waiting, WaitingIsKept, EntryAddsAJob, EntryBegins}
+use Rattle.rt_native_laws.specs.Waiting.{resumed}
+use Rattle.rt_native_laws.specs.Waiting.{return_value, IsFresh, KeepsTail, interrupted_core, context_of, others_tail}
 use Rattle.rt_native_laws.proofs.Pieces.{other}
 use Rattle.rt_native_laws.proofs.Private.{equals}
 use Rattle.rt_native_laws.proofs.Saving.{entry_is_undone, entry_pushes_below, stack_is as pushed_stack}
@@ -38,17 +38,21 @@ use Rattle.rt_native_laws.proofs.Showing.{job_is_kept, phases_show}
 use Rattle.rt_native_laws.proofs.Tails.{keeps_entered, keeps_in, none_then}
 use Rattle.rt_native_laws.proofs.Tests.{is_less, not_less, not_equal, same_number}
 use Rattle.rt_native_laws.proofs.Unopened.{IsUnopened}
+use Rattle.rt_native_laws.proofs.Viewing.{view_shows, view_words, views_keep}
 
 -- two choices by the same tests
 chosen : (a b c d : Bool) (s s2 t t2 u u2 v v2 w w2 : ℕ) → (a ≡ true → s ≡ s2) → t ≡ t2 → u ≡ u2 → v ≡ v2
-    → (a ≡ false → c ≡ false → w ≡ w2)
+    → (a ≡ false → b ≡ false → c ≡ false → w ≡ w2)
     → (if a then s else if b then t else if c then u else if d then v else w)
     ≡ (if a then s2 else if b then t2 else if c then u2 else if d then v2 else w2)
 chosen true b c d s s2 t t2 u u2 v v2 w w2 f g h i j = f refl
 chosen false true c d s s2 t t2 u u2 v v2 w w2 f g h i j = g
 chosen false false true d s s2 t t2 u u2 v v2 w w2 f g h i j = h
 chosen false false false true s s2 t t2 u u2 v v2 w w2 f g h i j = i
-chosen false false false false s s2 t t2 u u2 v v2 w w2 f g h i j = j refl refl
+chosen false false false false s s2 t t2 u u2 v v2 w w2 f g h i j = j refl refl refl
+
+differs_12 : (k : ℕ) → (k == 12) ≡ false → k ≢ 12
+differs_12 k h e = grind (arith, nat_tests)
 
 differs : (k : ℕ) → (k == 13) ≡ false → k ≢ 13
 differs k h e = grind (arith, nat_tests)
@@ -84,7 +88,8 @@ module _ (at : Outside) (priority top : ℕ) (m n : Machine) (keeps : KeepsAbove
       chosen (nat_lt k 4) (k == 12) (k == 13) (k == 14) _ _ _ _ _ _ _ _ _ _
       (λ l. stacked k (omega (arith, is_less k 4 l))) (stacked 4 (omega arith))
       (ap stack_by (stacked 7 (omega arith))) (stacked 5 (omega arith))
-      (λ l f. ap (λ (v : ℕ). if k == 13 then top else v) (keeps.registers k (not_less k 4 l) (differs k f)))
+      (λ l g f. ap (λ (v : ℕ). if k == 13 then top else v)
+      (keeps.registers k (not_less k 4 l) (differs_12 k g) (differs k f)))
 
   -- the state, by what might have changed
   abbrev made : (ℕ → ℕ) → ℕ → ℕ → ℕ → List ℕ → Machine
@@ -122,7 +127,7 @@ module _ (at : Outside) (priority top : ℕ) (m n : Machine) (keeps : KeepsAbove
   -- it keeps what lies above, further up
   pub above_kept : (next : ℕ) → top ≤ next → KeepsAbove at next before after
   above_kept next h = record {
-    registers = λ k l f. register_same k;
+    registers = λ k l f g. register_same k;
     memory = λ k l f. keeps.memory k (omega (arith, h, l)) f;
     exception = exception_same;
     active = active_same;
@@ -152,18 +157,20 @@ module _ (at : Outside) (priority top : ℕ) (m n : Machine) (keeps : KeepsAbove
   }
 
 -- Jobs that wait are kept.
-module _ (at : Outside) (bottom highest ceiling : ℕ) (inputs : List Input) (img : Image) (places : List ℕ)
+module _ (at : Outside) (bottom highest ceiling : ℕ) (inputs : List Input) (calls : FunctionCalls) (img : Image)
+    (places : List ℕ)
     (p : Program) (port : p.port ≡ at.port)
   where
     abbrev Jobs : Option Debt → List Taking → List Context → Core → ℕ → Machine → Type 0
-    Jobs tail takings below c top m = Waiting at bottom highest ceiling inputs img places p tail takings below c top m
+    Jobs tail takings below c top m = Waiting at bottom highest ceiling inputs calls img places p tail takings below c
+        top m
 
     -- the next one
     module _ (priority : ℕ) (x : Context) (below : List Context) (c d : Core) (top : ℕ) (m n : Machine)
         (laid : IsLaidOut at bottom (length c.processor.cells))
         (as_many : length d.processor.cells ≡ length c.processor.cells) (stopped : d.stopped ≡ c.stopped)
         (keeps : KeepsAbove at top m n) (shown : Shows at d n) (words : HoldsWords n) (aligned : top % 8 ≡ 0)
-        (small : priority < 2 ^ 8) (next : ℕ) (up : (resumed priority top m).register 13 ≡ top + 32)
+        (small : priority < 2 ^ 8) (next : ℕ) (up : top + 32 ≤ (resumed priority top m).register 13)
         (within : next ≤ at.cells) (fits : (resumed priority top m).register 13 ≤ next) where
       abbrev there : Core
       there = interrupted_core priority c x below
@@ -222,21 +229,21 @@ module _ (at : Outside) (bottom highest ceiling : ℕ) (inputs : List Input) (im
         let back_now = resumed priority top n in
         let there = interrupted_core priority c x below in
         let there_now = interrupted_core priority d x below in
-        let room : top + 32 ≤ at.cells = omega (arith, up, within, fits) in
+        let room : top + 32 ≤ at.cells = omega (arith, up, within.0, fits) in
         let stack = register_same at priority top m n keeps aligned room 13 in
         let ran = others priority x below c d top m n laid as_many stopped keeps shown words aligned small next up
-        within fits in
+        within.0 fits in
         let above = above_kept at priority top m n keeps aligned room next (omega (arith, up, fits)) in
         let job = job_is_kept at bottom img places p there there_now next back back_now laid port ran highest ceiling
-        inputs tail now taking.last (keeps_in priority x below c d tail now meanwhile) phase fresh in (
+        inputs calls tail now taking.last (keeps_in priority x below c d tail now meanwhile) phase fresh in (
           aligned,
           small,
           keeps.exception ∙ runs,
           keeps.active ∙ (active ∙ ap (λ (es : List ℕ). external x.irq ∷ es)
               (sym (active_same at priority top m n keeps aligned room))),
-          keeps.registers 14 (omega arith) (λ e. omega (arith, e)) ∙ (link ∙ ap return_value
+          keeps.registers 14 (omega arith) (λ e. omega (arith, e)) (λ e. omega (arith, e)) ∙ (link ∙ ap return_value
               (sym (exception_same at priority top m n keeps aligned room))),
-          stack ∙ up,
+          subst (λ (y : ℕ). top + 32 ≤ y) (sym stack) up,
           next,
           within,
           subst (λ (y : ℕ). y ≤ next) (sym stack) fits,
@@ -245,15 +252,20 @@ module _ (at : Outside) (bottom highest ceiling : ℕ) (inputs : List Input) (im
           job.1,
           kept (others_tail (tail_of at bottom img places p there next back phase) tail)
               (others_tail (tail_of at bottom img places p there_now next back_now job.0) now) takings below there
-              there_now next back back_now laid as_many stopped above
+              there_now next (viewed at bottom img places p there next back phase)
+              (viewed at bottom img places p there_now next back_now job.0) laid as_many stopped
+              (views_keep at bottom img places p there there_now next next back back_now phase job.0 next
+              (λ k h f g. ap (λ (r : ℕ → ℕ). r k) job.3) above.memory above.exception above.active)
+              (view_shows at bottom img places p there_now next back_now job.0 there_now
               (shown_now priority x below c d top m n laid as_many stopped keeps shown words aligned small next up
-              within fits) ran.words job.2 more,
+              within.0 fits)) (view_words at bottom img places p there_now next back_now job.0 ran.words) job.2 more,
         )
 
 pub waiting_is_kept : WaitingIsKept
-waiting_is_kept at bottom highest ceiling inputs img places p tail now takings below c d top m n laid port as_many
+waiting_is_kept at bottom highest ceiling inputs calls img places p tail now takings below c d top m n laid port as_many
     stopped keeps shown words meanwhile jobs =
-    kept at bottom highest ceiling inputs img places p port tail now takings below c d top m n laid as_many stopped
+    kept at bottom highest ceiling inputs calls img places p port tail now takings below c d top m n laid as_many
+    stopped
     keeps
     shown words meanwhile jobs
 
@@ -341,8 +353,8 @@ module _ (at : Outside) (bottom : ℕ) (img : Image) (places : List ℕ) (p : Pr
   has : HasAgain m (popped (with_register 13 frame inside))
   has = entry_is_undone e m (with_register 13 frame inside) can (record { stack = refl; words = λ k l. refl })
 
-  stack_is : frame + 32 ≡ m.register 13
-  stack_is = omega (arith, pushed_stack e m can, can.room)
+  stack_is : frame + 32 + m.register 13 % 8 ≡ m.register 13
+  stack_is = pushed_stack e m can
 
   -- registers that an entry does not push
   others_stay : (k : ℕ) → k ≢ 13 → k ≢ 14 → inside.register k ≡ m.register k
@@ -450,41 +462,49 @@ module _ (at : Outside) (bottom : ℕ) (img : Image) (places : List ℕ) (p : Pr
 
   above : KeepsAbove at top m after_it
   above = record {
-    registers = λ k f g. registers_are k;
+    registers = λ k f g h. registers_are k;
     memory = λ k f g. memory_kept k (omega (arith, f, fits));
     exception = has.exception;
     active = active_is;
   }
 
-  pub added : (highest ceiling : ℕ) (inputs : List Input) (tail : Option Debt) (takings : List Taking) (last : Last)
-      → h.value < execution c → KeepsTail tail tail c core_inside
-      → IsFresh at bottom highest ceiling inputs img places p tail last c top m phase
-      → Waiting at bottom highest ceiling inputs img places p
-      (others_tail (tail_of at bottom img places p c top m phase) tail) takings c.below c top m
-      → Waiting at bottom highest ceiling inputs img places p tail
+  pub added : (highest ceiling : ℕ) (inputs : List Input) (calls : FunctionCalls) (tail : Option Debt)
+      (takings : List Taking) (last : Last)
+      → top + m.register 13 % 8 ≤ m.register 13 + frame_bytes c → h.value < execution c
+      → KeepsTail tail tail c core_inside
+      → IsFresh at bottom highest ceiling inputs calls img places p tail last c top m phase
+      → Waiting at bottom highest ceiling inputs calls img places p
+      (others_tail (tail_of at bottom img places p c top m phase) tail) takings c.below c top
+      (viewed at bottom img places p c top m phase)
+      → Waiting at bottom highest ceiling inputs calls img places p tail
       (record { base_priority = priority; last = last } ∷ takings)
       (context_of c irq h ∷ c.below) core_inside frame inside
-  added highest ceiling inputs tail takings last higher meanwhile fresh jobs =
+  added highest ceiling inputs calls tail takings last deep higher meanwhile fresh jobs =
       let job = job_is_kept at bottom img places p c core_then top m after_it laid port others_ran highest ceiling
-      inputs
+      inputs calls
       tail tail last (keeps_entered priority irq h c tail tail meanwhile) phase fresh in (
         omega (arith, stack_is, can.stack),
         subst (λ (x : ℕ). x < 2 ^ 8) shown.base_priority words.base_priority,
         refl,
         ap (λ (es : List ℕ). e ∷ es) (sym active_is),
         ap return_value (sym has.exception),
-        registers_are 13 ∙ sym stack_is,
+        omega (arith, registers_are 13, stack_is),
         top,
-        within,
+        (within, omega (arith, deep, stack_is)),
         omega (arith, fits, registers_are 13),
         subst (λ (b : Bool). h.value < min (running_value c.below) (min (base_value priority) (mask_value b))) unmasked
             higher,
         job.0,
         job.1,
-        waiting_is_kept at bottom highest ceiling inputs img places p
+        waiting_is_kept at bottom highest ceiling inputs calls img places p
             (others_tail (tail_of at bottom img places p c top m phase) tail)
             (others_tail (tail_of at bottom img places p core_then top after_it job.0) tail) takings c.below c core_then
-            top m after_it laid port refl refl above shown_then words_after job.2 jobs,
+            top (viewed at bottom img places p c top m phase)
+            (viewed at bottom img places p core_then top after_it job.0) laid port refl refl
+            (views_keep at bottom img places p c core_then top top m after_it phase job.0 top
+            (λ k f g i. ap (λ (r : ℕ → ℕ). r k) job.3) above.memory above.exception above.active)
+            (view_shows at bottom img places p core_then top after_it job.0 core_then shown_then)
+            (view_words at bottom img places p core_then top after_it job.0 words_after) job.2 jobs,
       )
 
   -- what runs then is a handler
@@ -494,7 +514,7 @@ module _ (at : Outside) (bottom : ℕ) (img : Image) (places : List ℕ) (p : Pr
       (one_of (k == 13) _ _ (omega (arith, words.registers 13)) (words.registers k))
 
   module _ (code : HasCode at img places p) (to : ℕ) (below : to < 0xE0000000)
-      (room : bottom + 4 * h.frame + 32 ≤ m.register 13) where
+      (room : bottom + 4 * h.frame + 32 + m.register 13 % 8 ≤ m.register 13) where
     pub unopened_inside : IsUnopened at bottom img places p to h core_inside frame inside
     unopened_inside = record {
       low = below;
@@ -570,7 +590,7 @@ entry_begins at bottom img places p to irq h c top m code laid can low inactive 
     to below room lies
 
 pub entry_adds_a_job : EntryAddsAJob
-entry_adds_a_job at bottom highest ceiling inputs img places p tail takings last irq h c top m laid port can low
-    inactive unmasked words fits within higher meanwhile phase fresh jobs =
+entry_adds_a_job at bottom highest ceiling inputs calls img places p tail takings last irq h c top m laid port can low
+    inactive unmasked words fits within deep higher meanwhile phase fresh jobs =
     added at bottom img places p irq h c top m laid port can low inactive unmasked words fits within phase highest
-    ceiling inputs tail takings last higher meanwhile fresh jobs
+    ceiling inputs calls tail takings last deep higher meanwhile fresh jobs

@@ -1,6 +1,6 @@
 -- A function of C goes on within its call, others leave it there, and an entry begins it.
-use Rattle.std.proofs.Common.{◌≡◌, ◌∙◌, ℕ, ◌+◌, ◌-◌, ◌*◌, ◌/◌, ◌≤◌}
-use Rattle.std.proofs.Common.{List, sym, refl, subst, arith}
+use Rattle.std.proofs.Common.{◌≡◌, ◌∙◌, ℕ, ◌+◌, ◌-◌, ◌*◌, ◌/◌}
+use Rattle.std.proofs.Common.{List, refl, subst, arith}
 use Rattle.rt_code.specs.Image.{Image}
 use Rattle.rt_core.specs.Core.{Core}
 use Rattle.rt_core.specs.Transfer.{core_after_entry}
@@ -9,18 +9,15 @@ use Rattle.rt_native.specs.declared.target.Region.{Region}
 use Rattle.rt_thumb.specs.Exceptions.{even, external, entered}
 use Rattle.rt_thumb.specs.Machine.{Machine, word_at}
 use Rattle.rt_thumb.specs.Step.{Program}
-use Rattle.rt_native_laws.specs.Functions.{IsHarmless, IsOurs, PreservesRegisters, OfCells}
-use Rattle.rt_native_laws.specs.Functions.{OfFlash, OfStack, OfSystem, OfTime, cells_with, core_with_cells}
-use Rattle.rt_native_laws.specs.InCall.{AtBranch, AtFall, AtKeep, AtRise, AtTake, CallIsKept}
-use Rattle.rt_native_laws.specs.InCall.{EntryBeginsCall, FunctionGoes, FunctionGoesOn, GoesOnIn}
-use Rattle.rt_native_laws.specs.InCall.{IsInCall, CallStage, IsAtStage, Within}
-use Rattle.rt_native_laws.specs.InCall.{keeper}
-use Rattle.rt_native_laws.specs.Phases.{OthersRan}
-use Rattle.rt_native_laws.specs.Standing.{HoldsWords}
-use Rattle.rt_native_laws.specs.Waiting.{Shows}
+use Rattle.rt_native_laws.specs.Functions.{IsHarmless, IsOurs, OfCells, OfFlash, OfStack, OfSystem, OfTime, cells_with}
+use Rattle.rt_native_laws.specs.Functions.{core_with_cells}
+use Rattle.rt_native_laws.specs.InCall.{PreservesRegisters, AtFall, AtTake, IsInCall}
+use Rattle.rt_native_laws.specs.InCall.{CallStage, IsAtStage, Within, keeper}
+use Rattle.rt_native_laws.specs.Standing.{Shows}
+use Rattle.rt_native_laws.specs.GoingInCall.{EntryBeginsCall, FunctionGoes, FunctionGoesOn, GoesOnIn}
 use Rattle.rt_native_laws.proofs.Functions.{cells_lie, cells_long, no_places}
 use Rattle.rt_native_laws.proofs.Waiting.{unopened_inside}
-use Rattle.rt_native_laws.proofs.InCall.{made}
+use Rattle.rt_native_laws.proofs.CallKept.{made}
 
 module _ (at : Outside) (bottom : ℕ) (img : Image) (places : List ℕ) (p : Program) (flash : Region) (written : List ℕ)
     (c : Core) (top : ℕ) (m n : Machine) (x : IsInCall at bottom img places p c top m)
@@ -103,69 +100,6 @@ function_goes_on at bottom img places p flash written c top m n x e i =
     PreservesRegisters x.registers (keeper x.begins top (x.registers 14) x.room x.called m s)) e
     x.keeps)
 
-module _ (at : Outside) (bottom : ℕ) (img : Image) (places : List ℕ) (p : Program) (c d : Core) (top : ℕ)
-    (m n : Machine) (x : IsInCall at bottom img places p c top m) (o : OthersRan at (m.register 13) top c d m n) where
-  abbrev now : Machine
-  now = record m {
-    memory = n.memory;
-    is_pending = n.is_pending;
-    is_unsettled = n.is_unsettled;
-    seen = n.seen;
-  }
-
-  abbrev core_now : Core
-  core_now = record c {
-    time = d.time;
-    alarm = d.alarm;
-    pending = d.pending;
-    processor = record c.processor { cells = d.processor.cells };
-  }
-
-  word_still : m.register 13 ≤ top - 8 → word_at m (top - 8) ≡ x.registers 14 → word_at n (top - 8) ≡ x.registers 14
-  word_still low w =
-      o.processor.memory ((top - 8) / 4) (omega (arith, low, x.eights, x.for_function))
-      (omega (arith, x.eights, x.for_function)) ∙ w
-
-  held : (stage : CallStage) → IsAtStage x.begins top (x.registers 14) x.room x.called m stage
-      → IsAtStage x.begins top (x.registers 14) x.room x.called now stage
-  held AtFall t = t
-  held AtKeep t = t
-  held AtBranch (a, sp, w) = (a, sp, word_still (omega (arith, sp)) w)
-  held Within (l, sp, w, low, deep) = (l, sp, word_still low w, low, deep)
-  held AtTake (a, sp, w) = (a, sp, word_still (omega (arith, sp)) w)
-  held AtRise t = t
-
-  kept_by : (stage : CallStage)
-      → PreservesRegisters x.registers (keeper x.begins top (x.registers 14) x.room x.called m stage)
-      → PreservesRegisters x.registers (keeper x.begins top (x.registers 14) x.room x.called now stage)
-  kept_by AtFall k = k
-  kept_by AtKeep k = k
-  kept_by AtBranch k = k
-  kept_by Within k = k
-  kept_by AtTake k = k
-  kept_by AtRise k = k
-
-  again : GoesOnIn at bottom img places p top c core_now m now x x.stage x.called
-  again =
-      made at bottom img places p c top m x core_now now x.stage x.called o.as_many refl refl refl
-      (held x.stage x.there) (kept_by x.stage x.keeps) refl (record {
-        base_priority = x.shows.base_priority;
-        is_masked = x.shows.is_masked;
-        cells = o.cells;
-        time = o.time;
-        alarm = o.alarm;
-        pending = o.pending;
-      }) o.settled (subst HoldsWords o.processor.rest o.words)
-
-  kept_so : GoesOnIn at bottom img places p top c d m n x x.stage x.called
-  kept_so =
-      subst (λ (k : Core). GoesOnIn at bottom img places p top c k m n x x.stage x.called) (sym o.core)
-      (subst (λ (y : Machine). GoesOnIn at bottom img places p top c core_now m y x x.stage x.called)
-      (sym o.processor.rest) again)
-
-pub call_is_kept : CallIsKept
-call_is_kept at bottom img places p c d top m n x o = kept_so at bottom img places p c d top m n x o
-
 pub entry_begins_call : EntryBeginsCall
 entry_begins_call at bottom img places p inputs room function to irq h c top m code laid can low inactive unmasked words
     fits within phase below all reached span frame deep =
@@ -210,4 +144,4 @@ entry_begins_call at bottom img places p inputs room function to irq h c top m c
       settled = refl;
       words = u.words;
     } in
-    (begun, refl, refl, refl, refl, refl)
+    (begun, refl, refl, refl, refl, refl, refl, refl)

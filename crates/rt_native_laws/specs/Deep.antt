@@ -7,9 +7,9 @@ use Rattle.rt_native.specs.declared.outside.Outside.{Outside}
 use Rattle.rt_native.specs.declared.target.Input.{Input}
 use Rattle.rt_native_laws.specs.InTail.{Debt}
 use Rattle.rt_native_laws.specs.Moments.{Taking}
-use Rattle.rt_native_laws.specs.Phases.{Phase}
+use Rattle.rt_native_laws.specs.Phases.{Phase, viewed}
 use Rattle.rt_native_laws.specs.Standing.{IsLaidOut, frame_bytes}
-use Rattle.rt_native_laws.specs.Waiting.{Waiting}
+use Rattle.rt_native_laws.specs.Waiting.{FunctionCalls, Waiting}
 use Rattle.rt_thumb.specs.Machine.{Machine}
 use Rattle.rt_thumb.specs.Step.{Program}
 
@@ -31,9 +31,11 @@ PhasesAreWithinFrames =
 -- From where the stack begins it is no deeper than the core's.
 abbrev pub StackIsNoDeeper : Type 0
 StackIsNoDeeper =
-    (at : Outside) (bottom highest ceiling : ℕ) (inputs : List Input) (img : Image) (places : List ℕ) (p : Program)
+    (at : Outside) (bottom highest ceiling : ℕ) (inputs : List Input) (calls : FunctionCalls) (img : Image)
+    (places : List ℕ) (p : Program)
     (tail : Option Debt) (takings : List Taking) (c : Core) (top : ℕ) (m : Machine)
     → IsLaidOut at bottom (length c.processor.cells) → p.port ≡ at.port
-    → Phase at bottom img places p c top m
-    → Waiting at bottom highest ceiling inputs img places p tail takings c.below c top m
+    → (phase : Phase at bottom img places p c top m)
+    → Waiting at bottom highest ceiling inputs calls img places p tail takings c.below c top
+    (viewed at bottom img places p c top m phase)
     → highest ≤ m.register 13 + depth img c

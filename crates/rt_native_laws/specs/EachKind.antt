@@ -15,7 +15,7 @@ use Rattle.rt_native_laws.specs.Moments.{Moment, instruction_at, last_after, set
 use Rattle.rt_native_laws.specs.Own.{Executes}
 use Rattle.rt_native_laws.specs.Phases.{IsButForWords, IsOrdinary, Phase, kept_words}
 use Rattle.rt_native_laws.specs.Standing.{HoldsWords, IsLaidOut}
-use Rattle.rt_native_laws.specs.Waiting.{Waiting}
+use Rattle.rt_native_laws.specs.Waiting.{FunctionCalls, Waiting}
 use Rattle.rt_thumb.specs.Exceptions.{returned}
 use Rattle.rt_thumb.specs.Machine.{Machine}
 use Rattle.rt_thumb.specs.Step.{Program}
@@ -48,12 +48,13 @@ module _ (at : Outside) (bottom : ℕ) (img : Image) (places : List ℕ) (p : Pr
 -- Of each kind there is such a machine instruction, and it is no fault.
 abbrev pub EachKindGoesOn : Type 0
 EachKindGoesOn =
-    (at : Outside) (bottom highest ceiling : ℕ) (inputs : List Input) (img : Image) (places : List ℕ) (p : Program)
+    (at : Outside) (bottom highest ceiling : ℕ) (inputs : List Input) (calls : FunctionCalls) (img : Image)
+    (places : List ℕ) (p : Program)
     (i : Instr) (tail : Option Debt) (s : Moment) (d : Core) (said : Option What) (top : ℕ) (m : Machine)
     → HasCode at img places p
     → IsLaidOut at bottom (length s.core.processor.cells) → highest ≡ bottom + img.stack_bytes
     → img.stack_bytes % 4 ≡ 0 → HasOneCommit i → StepsBy img i s.core d said → GoesWell img ceiling s i → HoldsWords m
     → (phase : Phase at bottom img places p s.core top m) → IsOrdinary at bottom img places p s.core top m phase
-    → Waiting at bottom highest ceiling inputs img places p tail s.takings s.core.below s.core top m
+    → Waiting at bottom highest ceiling inputs calls img places p tail s.takings s.core.below s.core top m
     → (executed : Instruction) × (n : Machine) × Executes p executed m n
     × EachGoes at bottom img places p s.core top m n (kept_words at bottom img places p s.core top m phase) d said

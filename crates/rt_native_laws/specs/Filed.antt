@@ -3,21 +3,18 @@
 -- finds words and halfwords there with the lowest byte first (ARMv7-M Architecture Reference Manual, section A3.3), and
 -- at an address the instruction whose halfwords lie there (section A5.1). A program of rt_thumb stands beside memory:
 -- here it is what flash has.
-use Rattle.std.specs.Prelude.{◌≡◌, ◌↔◌, ℕ, ◌+◌, ◌-◌, ◌*◌, ◌%◌, ◌^◌, ◌<◌, ◌≤◌, false, List, [], Some, slice_index}
+use Rattle.std.specs.Prelude.{◌≡◌, ◌↔◌, ℕ, ◌+◌, ◌*◌, ◌^◌, ◌<◌, ◌≤◌, List, [], Some, slice_index}
 use Rattle.std.specs.List.{AllByRecursion}
 use Rattle.rt_code.specs.Image.{Image}
 use Rattle.rt_native.specs.File.{file}
 use Rattle.rt_native.specs.Fitting.{Fits, IsRegion}
 use Rattle.rt_native.specs.Program.{bytes_of_halfwords, first_values}
 use Rattle.rt_native.specs.Target.{Target}
-use Rattle.rt_native_laws.specs.FromReset.{IsAtReset, table}
-use Rattle.rt_native_laws.specs.Standing.{HoldsWords}
+use Rattle.rt_native_laws.specs.FromReset.{IsAtReset, IsJustReset, table}
 use Rattle.rt_priorities.specs.Loading.{BytesLie}
-use Rattle.rt_priorities.specs.Setting.{IsReset}
 use Rattle.rt_thumb.specs.Encoding.{encode, size}
-use Rattle.rt_thumb.specs.Exceptions.{even, priority_of, systick}
 use Rattle.rt_thumb.specs.Instruction.{IsEncodable}
-use Rattle.rt_thumb.specs.Machine.{Machine, byte_at, word_at}
+use Rattle.rt_thumb.specs.Machine.{Machine, byte_at}
 use Rattle.rt_thumb.specs.Step.{Program}
 use Rattle.rt_thumb.specs.declared.instruction.Instruction.{Instruction}
 
@@ -57,18 +54,11 @@ module _ (target : Target) where
     pub code : (a : ℕ) (i : Instruction)
         → (p.code a ≡ Some i) ↔ (IsInFlash a i × IsEncodable i × BytesLie m a (bytes_of_halfwords (encode i)))
 
-  -- The processor as reset leaves it, whatever lies in flash (ARMv7-M Architecture Reference Manual, section B1.5.5):
-  -- VTOR has the address of flash; the rest is as IsAtReset says.
+  -- The processor as reset leaves it, with the address of flash in VTOR (ARMv7-M Architecture Reference Manual, section
+  -- B3.2.5).
   pub record IsFreshFromReset (m : Machine) : Type 0 where
     pub vectors : table m ≡ target.flash.address
-    pub stack : m.register 13 ≡ word_at m (table m) - word_at m (table m) % 4
-    pub address : m.address ≡ even (word_at m (table m + 4))
-    pub exception : m.exception ≡ 0
-    pub interrupts : IsReset m
-    pub is_masked : m.is_masked ≡ false
-    pub is_unsettled : m.is_unsettled ≡ false
-    pub tick : priority_of m systick ≡ 0
-    pub words : HoldsWords m
+    pub reset : IsJustReset m
 
 -- Whatever lies in flash, there is a program that is that.
 abbrev pub FlashHasAProgram : Type 0

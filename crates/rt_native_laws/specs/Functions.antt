@@ -12,12 +12,12 @@ use Rattle.rt_code.specs.Image.{Image}
 use Rattle.rt_code.specs.declared.image.Handler.{Handler}
 use Rattle.rt_core.specs.Core.{Core}
 use Rattle.rt_core.specs.Transfer.{core_after_entry}
-use Rattle.rt_native.specs.Pieces.{leap}
-use Rattle.rt_native.specs.Service.{call_offset, keep_return, stub, take_return}
+use Rattle.rt_native.specs.Service.{stub, take_return}
 use Rattle.rt_native.specs.declared.outside.Outside.{Outside}
 use Rattle.rt_native.specs.declared.target.Input.{Input}
 use Rattle.rt_native.specs.declared.target.Region.{Region}
 use Rattle.rt_native_laws.specs.Going.{HasCode}
+use Rattle.rt_native_laws.specs.InCall.{PreservesRegisters, displacement_to, linked_call, to_function}
 use Rattle.rt_native_laws.specs.Inputs.{IsAtInputs}
 use Rattle.rt_native_laws.specs.Moments.{AllCanHappen, Happening, HasBegun, Moment, Puts, moment_after_all, shown}
 use Rattle.rt_native_laws.specs.Moments.{with_core}
@@ -29,25 +29,6 @@ use Rattle.rt_native_laws.specs.Standing.{IsLaidOut, HoldsWords}
 use Rattle.rt_thumb.specs.Exceptions.{even, external, entered}
 use Rattle.rt_thumb.specs.Machine.{Machine, word_at}
 use Rattle.rt_thumb.specs.Step.{Program}
-use Rattle.rt_thumb.specs.declared.instruction.Instruction.{Instruction}
-use Rattle.rt_thumb.specs.declared.instruction.Instruction.TheVariants as instruction
-
--- what stands before a BL and the BL, with a displacement
-abbrev pub to_function : ℕ → List Instruction
-to_function displacement = keep_return ++ instruction.Call displacement ∷ []
-
--- The displacement of a BL to a function, of a call that begins at an address. A linker writes it (R_ARM_THM_CALL, ELF
--- for the Arm architecture, section 5.6.1).
-abbrev pub displacement_to : ℕ → ℕ → ℕ
-displacement_to begins function = leap (begins + call_offset + 4) function
-
--- a call that begins at an address, as a linker has written it
-abbrev pub linked_call : ℕ → ℕ → List Instruction
-linked_call begins function = to_function (displacement_to begins function) ++ take_return
-
--- Registers that a function gives back are as they were: r4 to r11, and SP apart (AAPCS, section 6.1.1).
-abbrev pub PreservesRegisters : (ℕ → ℕ) → Machine → Type 0
-PreservesRegisters were m = (k : ℕ) → 4 ≤ k → k ≢ 12 → k ≢ 13 → k ≢ 14 → m.register k ≡ were k
 
 -- A function that was called at one state has come back: it is where LR said, with r4 to r11 and SP as they were.
 pub record HasComeBack (called back : Machine) : Type 0 where
@@ -153,7 +134,8 @@ EntryCallsFirst =
     → function < 2 ^ 32 → FlashIsApart at bottom flash
     → Spans p (entered (external irq) m).address
     (linked_call (entered (external irq) m).address function ++ stub at inputs places to irq (Some h)) to
-    → bottom + 4 * h.frame + 32 ≤ m.register 13 → bottom + room + 40 ≤ m.register 13
+    → bottom + 4 * h.frame + 32 + m.register 13 % 8 ≤ m.register 13
+    → bottom + room + 40 + m.register 13 % 8 ≤ m.register 13
     → CallsFirst at bottom img places p inputs flash written room function (core_after_entry c irq h)
     (entered (external irq) m)
 

@@ -13,9 +13,9 @@ use Rattle.rt_native_laws.specs.Going.{HasCode, IsNothing, IsOneStep, IsOneStepO
 use Rattle.rt_native_laws.specs.InTail.{Debt}
 use Rattle.rt_native_laws.specs.Moments.{Last, Taking}
 use Rattle.rt_native_laws.specs.Own.{Executes}
-use Rattle.rt_native_laws.specs.Phases.{Phase, IsToCome, IsDone, tail_of}
+use Rattle.rt_native_laws.specs.Phases.{IsDone, IsToCome, Phase, tail_of, viewed}
 use Rattle.rt_native_laws.specs.Standing.{IsLaidOut, HoldsWords, caller_words}
-use Rattle.rt_native_laws.specs.Waiting.{Waiting, IsFresh, others_tail}
+use Rattle.rt_native_laws.specs.Waiting.{FunctionCalls, IsFresh, Waiting, others_tail}
 use Rattle.rt_thumb.specs.Exceptions.{returned}
 use Rattle.rt_thumb.specs.Machine.{Machine}
 use Rattle.rt_thumb.specs.Step.{Program}
@@ -58,19 +58,22 @@ CallBegins =
 
 -- An exception return, where the masks are as they were when its handler was entered: what waited last runs on, in the
 -- phase in which it was, and the others wait as before; the core after its own return is at the same.
-pub record Resumes (at : Outside) (bottom highest ceiling : ℕ) (inputs : List Input) (img : Image) (places : List ℕ)
+pub record Resumes (at : Outside) (bottom highest ceiling : ℕ) (inputs : List Input) (calls : FunctionCalls)
+    (img : Image) (places : List ℕ)
     (p : Program) (tail : Option Debt) (last : Last) (takings : List Taking) (below : List Context) (d : Core)
     (n : Machine) : Type 0 where
   pub top : ℕ
   pub phase : Phase at bottom img places p d top n
-  pub fresh : IsFresh at bottom highest ceiling inputs img places p tail last d top n phase
-  pub others : Waiting at bottom highest ceiling inputs img places p
-      (others_tail (tail_of at bottom img places p d top n phase) tail) takings below d top n
+  pub fresh : IsFresh at bottom highest ceiling inputs calls img places p tail last d top n phase
+  pub others : Waiting at bottom highest ceiling inputs calls img places p
+      (others_tail (tail_of at bottom img places p d top n phase) tail) takings below d top
+      (viewed at bottom img places p d top n phase)
 
 -- An exception return does so.
 abbrev pub ReturnResumes : Type 0
 ReturnResumes =
-    (at : Outside) (bottom highest ceiling : ℕ) (inputs : List Input) (img : Image) (places : List ℕ) (p : Program)
+    (at : Outside) (bottom highest ceiling : ℕ) (inputs : List Input) (calls : FunctionCalls) (img : Image)
+    (places : List ℕ) (p : Program)
     (tail : Option Debt) (taking : Taking) (takings : List Taking) (x : Context) (below : List Context) (c d : Core)
     (said : Option What) (top : ℕ)
     (m n : Machine)
@@ -78,5 +81,5 @@ ReturnResumes =
     → c.processor.basepri ≡ taking.base_priority → c.processor.primask ≡ false
     → m.base_priority ≡ taking.base_priority → m.is_masked ≡ false → m.register 13 ≡ top
     → returned (m.register 14) m ≡ Some n
-    → Waiting at bottom highest ceiling inputs img places p tail (taking ∷ takings) (x ∷ below) c top m
-    → Resumes at bottom highest ceiling inputs img places p tail taking.last takings below d n
+    → Waiting at bottom highest ceiling inputs calls img places p tail (taking ∷ takings) (x ∷ below) c top m
+    → Resumes at bottom highest ceiling inputs calls img places p tail taking.last takings below d n

@@ -6,8 +6,10 @@ pub mod Opening
 pub mod Saving
 pub mod Ticking
 pub mod Laws
+pub mod Devices
 pub mod Reading
 pub mod InTail
+pub mod InCall
 pub mod Phases
 pub mod Going
 pub mod Waiting
@@ -29,7 +31,9 @@ pub mod Owing
 pub mod InReset
 pub mod FromReset
 pub mod Functions
-pub mod InCall
+pub mod GoingInCall
 pub mod Linked
+pub mod WithFunctions
 pub mod Throughout
 pub mod Filed
+pub mod Existing

@@ -1,7 +1,9 @@
 -- The program of an object whose calls a linker has written: each BL leads to the function of its interrupt, and all
 -- else is as in the object (ELF for the Arm architecture, section 5.6.1: R_ARM_THM_CALL; rt_native's Object.antt says
 -- where the calls are). So the image's code is at its places, and each entry leads to the call of its function.
-use Rattle.std.specs.Prelude.{◌≡◌, ℕ, ◌+◌, true, if◌then◌else◌, List, [], ◌++◌, Some, slice_get, slice_index, ⊤}
+use Rattle.std.specs.Prelude.{◌≡◌, ℕ, ◌+◌, ◌^◌, ◌<◌, ◌≤◌, true, if◌then◌else◌, List, [], ◌++◌, None, Some, IfSome}
+use Rattle.std.specs.Prelude.{slice_get, slice_index, ⊤}
+use Rattle.std.specs.List.{AllByRecursion}
 use Rattle.rt_code.specs.Image.{Image}
 use Rattle.rt_code.specs.Runnable.{HaveNumbersApart}
 use Rattle.rt_code.specs.declared.image.Handler.{Handler}
@@ -10,10 +12,10 @@ use Rattle.rt_native.specs.Layout.{load_at, outside, places, reset_at, stub_plac
 use Rattle.rt_native.specs.Service.{call_offset, calls_first, is_called, reset, stub, timer_irq}
 use Rattle.rt_native.specs.Target.{Target}
 use Rattle.rt_native.specs.declared.outside.Outside.{Outside}
-use Rattle.rt_native_laws.specs.Functions.{displacement_to, linked_call}
 use Rattle.rt_native_laws.specs.Going.{HasCode}
 use Rattle.rt_native_laws.specs.Loading.{IsExecuted}
 use Rattle.rt_native_laws.specs.Own.{Spans}
+use Rattle.rt_native_laws.specs.InCall.{displacement_to, linked_call}
 use Rattle.rt_priorities.specs.Lying.{LieFrom}
 use Rattle.rt_priorities.specs.Ticking.{ServesTicks}
 use Rattle.rt_priorities.specs.Vectors.{IsLoaded}
@@ -69,3 +71,16 @@ LinkedServiceLies =
     → IsLoaded img target object m → IsLinked img target functions object p
     → ServesTicks p (outside img target) (timer_irq img.code) m
     × LieFrom p (reset_at img target) (reset (outside img target) target.tick img (load_at img target))
+
+-- A program lies in flash that is an object's, linked with functions, which are in the address space and not among what
+-- the program has at an address. The handler of each interrupt that calls one has a frame of two words at least.
+pub record LiesLinked (img : Image) (target : Target) (p : Program) (m : Machine) : Type 0 where
+  pub object : Program
+  pub functions : ℕ → ℕ
+  pub loaded : IsLoaded img target object m
+  pub executed : IsExecuted target object
+  pub linked : IsLinked img target functions object p
+  pub reached : (irq : ℕ) → is_called target.calls irq ≡ true → functions irq < 2 ^ 32
+  pub elsewhere : (irq : ℕ) → is_called target.calls irq ≡ true → p.code (functions irq) ≡ None
+  pub frames : AllByRecursion (λ row. is_called target.calls row.number ≡ true
+      → IfSome row.handler (λ h. 2 ≤ h.frame)) img.irqs

@@ -1,8 +1,8 @@
 -- Runs of an image as a processor has them. They are those of the core's model but for words that no code has written.
 -- In a frame that comes into being the model has 0, and a processor has anything; and where a body has come back the
 -- slot of the return address has the model's address, or one of machine code. So such words may become others, up to
--- the next instruction of the job whose frame it is. And a device's word comes into the cell of an input behind the
--- take of its interrupt, before the handler's first instruction. All this is the project's own.
+-- the next instruction of the job whose frame it is. And a device's word is read and comes into the cell of an input
+-- behind the take of its interrupt, before the handler's first instruction. All this is the project's own.
 use Rattle.std.specs.Prelude.{◌≡◌, ℕ, ◌-◌, ◌^◌, ◌<◌, List, [], ◌∷◌, ◌++◌, length, Option, Some, None, ⊤}
 use Rattle.std.specs.Prelude.{option_map, unwrap_or, slice_get, slice_index, min}
 use Rattle.rt_ids.specs.Choice.{IsIn}
@@ -23,6 +23,8 @@ use Rattle.rt_trace.specs.Label.{Label}
 pub data Last : Type 0 where
   -- nothing yet: it is a handler that was taken, or the thread behind reset
   Began : Last
+  -- nothing yet: it is a handler that was taken, and this word was read last, from the register of an input
+  HasRead : (input : Input) (word : ℕ) → Last
   -- nothing yet: it is a body that was called with so many arguments
   WasCalled : (arguments : ℕ) → Last
   -- a body came back to it
@@ -33,6 +35,7 @@ pub data Last : Type 0 where
 -- how many words of a frame of so many are what the model has there, from the first one on
 abbrev pub settled_words : Last → ℕ → ℕ
 settled_words Began words = 0
+settled_words (HasRead input word) words = 0
 settled_words (WasCalled arguments) words = min arguments words
 settled_words CameBack words = words - 1
 settled_words Went words = words
@@ -95,6 +98,8 @@ pub data Happening : Type 0 where
   Comes : (event : Event) → Happening
   -- the frame of what runs has these words
   Fills : (words : List ℕ) → Happening
+  -- the register of an input is read, and has this word
+  Loads : (input : Input) (word : ℕ) → Happening
   -- a device's word comes into a cell
   Puts : (cell word : ℕ) → Happening
 
@@ -108,12 +113,14 @@ moment_after img s (Comes Step) = after_step img s (step img s.core).0 (pick img
 moment_after img s (Comes (Arrive irq)) = with_core s (happen img s.core (Arrive irq)).0
 moment_after img s (Comes Tick) = with_core s (happen img s.core Tick).0
 moment_after img s (Fills words) = with_core s (with_frame words s.core)
+moment_after img s (Loads input word) = record s { last = HasRead input word }
 moment_after img s (Puts cell word) = with_core s (core_after_word s.core cell word)
 
 -- what is shown of it
 abbrev pub shown_of : Image → Moment → Happening → List Label
 shown_of img s (Comes event) = (happen img s.core event).1
 shown_of img s (Fills words) = []
+shown_of img s (Loads input word) = []
 shown_of img s (Puts cell word) = []
 
 -- these are words for a frame, any ones: as many as it has, and those that are settled as they are
@@ -122,10 +129,28 @@ pub record AreFillings (s : Moment) (words : List ℕ) : Type 0 where
   pub settled : (k : ℕ) → k < settled_words s.last (length s.core.processor.slots)
       → slice_index words k ≡ slice_index s.core.processor.slots k
 
+-- a handler has just been taken
+abbrev pub IsTaken : Last → Type 0
+IsTaken Began = ⊤
+IsTaken (HasRead input word) = ⊤
+IsTaken last = ⊥
+
+-- so it has, and it has read this word of an input last, where one is named
+abbrev pub HasJustRead : Option (Input × ℕ) → Last → Type 0
+HasJustRead None last = IsTaken last
+HasJustRead (Some read) last = last ≡ HasRead read.0 read.1
+
 -- a handler of this interrupt has just been taken
 abbrev pub HasBegun : ℕ → List Context → Last → Type 0
 HasBegun irq (x ∷ below) Began = x.irq ≡ irq
+HasBegun irq (x ∷ below) (HasRead input word) = x.irq ≡ irq
 HasBegun irq below last = ⊥
+
+-- a register is read where it is that of one of these inputs, for the interrupt that was just taken
+pub record CanRead (inputs : List Input) (s : Moment) (input : Input) (word : ℕ) : Type 0 where
+  pub among : IsIn inputs input
+  pub begun : HasBegun input.irq s.core.below s.last
+  pub small : word < 2 ^ 32
 
 -- a device's word is put where one of these inputs is for the interrupt that was just taken, and for this cell
 pub record IsPut (inputs : List Input) (s : Moment) (cell word : ℕ) : Type 0 where
@@ -139,6 +164,7 @@ pub record IsPut (inputs : List Input) (s : Moment) (cell word : ℕ) : Type 0 w
 abbrev pub CanHappen : List Input → Moment → Happening → Type 0
 CanHappen inputs s (Comes event) = ⊤
 CanHappen inputs s (Fills words) = AreFillings s words
+CanHappen inputs s (Loads input word) = CanRead inputs s input word
 CanHappen inputs s (Puts cell word) = IsPut inputs s cell word
 
 module _ (img : Image) where

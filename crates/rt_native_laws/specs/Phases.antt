@@ -5,10 +5,11 @@
 -- sections B1.5.6 and B1.5.8), which Saving.antt says are what they were. Below its stack pointer a job has nothing:
 -- there others push. So while a frame comes or goes it is said from the code's first place.
 use Rattle.std.specs.Prelude.{◌≡◌, ℕ, ◌+◌, ◌*◌, ◌%◌, ◌<◌, ◌≤◌, ◌⊎◌, false, List, ◌∷◌, ◌++◌, length}
-use Rattle.std.specs.Prelude.{slice_get, slice_index, slice_index_or, true, [], Option, Some, None, ⊤}
+use Rattle.std.specs.Prelude.{slice_get, slice_index, slice_index_or, true, [], Option, Some, None, ◌^◌, ⊤}
 use Rattle.rt_code.specs.Image.{Image}
 use Rattle.rt_code.specs.declared.image.BodyRow.{BodyRow}
 use Rattle.rt_code.specs.declared.image.Handler.{Handler}
+use Rattle.rt_code.specs.declared.image.IrqRow.{IrqRow}
 use Rattle.rt_code.specs.declared.instr.Instr.{Instr}
 use Rattle.rt_code.specs.declared.instr.Instr.TheVariants as instr
 use Rattle.rt_code.specs.declared.instr.Note.{Note}
@@ -18,11 +19,12 @@ use Rattle.rt_native.specs.Service.{stub}
 use Rattle.rt_native.specs.declared.outside.Outside.{Outside}
 use Rattle.rt_native.specs.declared.target.Input.{Input}
 use Rattle.rt_native_laws.specs.Doing.{IsAt, CanCall, machine_code}
+use Rattle.rt_native_laws.specs.InCall.{CallStage, IsInCall}
 use Rattle.rt_native_laws.specs.InTail.{Debt, IsInTail}
 use Rattle.rt_native_laws.specs.Opening.{IsAtOpening}
 use Rattle.rt_native_laws.specs.Own.{IsDisturbed, RunsPrivately, AreSteady}
 use Rattle.rt_priorities.specs.Ticking.{alarm_word}
-use Rattle.rt_native_laws.specs.Reading.{IsReading}
+use Rattle.rt_native_laws.specs.Reading.{IsReading, reads_of}
 use Rattle.rt_native_laws.specs.Standing.{IsLaidOut, StandsFor, LieFrom, HoldsWords, frames_end}
 use Rattle.rt_thumb.specs.Exceptions.{external}
 use Rattle.rt_thumb.specs.Machine.{Machine, word_at}
@@ -74,6 +76,13 @@ pub record IsButForWords (kept : ℕ) (c d : Core) : Type 0 where
 abbrev pub IsNoCall : Instr → Type 0
 IsNoCall (instr.Call row s) = ⊥
 IsNoCall i = ⊤
+
+-- The call of a function: of the function of which interrupt, where the job is in it, and the state at which the
+-- function was called, where it was.
+pub record FunctionCall : Type 0 where
+  pub irq : ℕ
+  pub stage : CallStage
+  pub called : Machine
 
 -- what lies outside, the lowest address of the stack, an image, the places of its code, and a program; a core at a job,
 -- where the job's frames end, and the processor as the job sees it
@@ -147,6 +156,21 @@ module _ (at : Outside) (bottom : ℕ) (img : Image) (places : List ℕ) (p : Pr
     pub begun : HasBegun p top (machine_code at bottom img places p (instr.Call row slot) before) first m
     pub deep : first.register 13 ≤ m.register 13 + 4 * body.frame
 
+  -- A call of a function is in its handler's frame: what of the stack it takes lies where that frame comes into being,
+  -- so that the stack is no deeper for it. The handler is that of its interrupt's row. SP is a multiple of 4, as the
+  -- architecture keeps it (ARMv7-M Architecture Reference Manual, section B1.4.1), and registers were words at the
+  -- entry. The function does not begin within the program.
+  pub record IsInFrame (x : IsInCall at bottom img places p c top m) : Type 0 where
+    pub room : x.room + 8 ≡ 4 * x.handler.frame
+    pub place : ℕ
+    pub row : IrqRow
+    pub found : slice_get img.irqs place ≡ Some row
+    pub number : row.number ≡ x.irq
+    pub handled : row.handler ≡ Some x.handler
+    pub aligned : m.register 13 % 4 ≡ 0
+    pub given : (k : ℕ) → x.registers k < 2 ^ 32
+    pub elsewhere : p.code x.function ≡ None
+
   -- The phases. In the tail of an `alarm` the core is the one for which the processor stands, before what is owed is
   -- paid.
   pub data Phase : Type 0 where
@@ -155,6 +179,7 @@ module _ (at : Outside) (bottom : ℕ) (img : Image) (places : List ℕ) (p : Pr
     Entering : IsEntering → Phase
     Calling : IsCalling → Phase
     Reads : IsReading at bottom img places p c top m → Phase
+    Calls : (x : IsInCall at bottom img places p c top m) → IsInFrame x → Phase
     Tails : (core : Core) → (x : IsInTail at bottom img places p core top m) → x.unpaid ≡ c → Phase
 
   -- how many words of the frame are the core's, whatever the processor has there
@@ -162,11 +187,13 @@ module _ (at : Outside) (bottom : ℕ) (img : Image) (places : List ℕ) (p : Pr
   kept_words (Entering x) = 0
   kept_words (Calling x) = x.body.args
   kept_words (Reads x) = 0
+  kept_words (Calls x f) = 0
   kept_words phase = length c.processor.slots
 
-  -- the declared inputs, where it reads some
-  abbrev pub reads_from : Phase → Option (List Input)
-  reads_from (Reads x) = Some x.declared
+  -- the declared inputs, where it reads some, and what it has read; or where it will behind a function
+  abbrev pub reads_from : Phase → Option (List Input × Option (Input × ℕ))
+  reads_from (Reads x) = Some (reads_of at bottom img places p c top m x)
+  reads_from (Calls x f) = Some (x.declared, None)
   reads_from phase = None
 
   -- the alarm in whose tail it is, where it is in one
@@ -174,15 +201,27 @@ module _ (at : Outside) (bottom : ℕ) (img : Image) (places : List ℕ) (p : Pr
   tail_of (Tails core x same) = Some (record { irq = x.irq; instant = x.instant; owes = x.owes })
   tail_of phase = None
 
-  -- it reads no input, and is in no tail
+  -- the call in which it is, where it is in one
+  abbrev pub call_of : Phase → Option FunctionCall
+  call_of (Calls x f) = Some (record { irq = x.irq; stage = x.stage; called = x.called })
+  call_of phase = None
+
+  -- The processor as those who wait will find it: a function gives back r4 to r11 and LR as they were at the entry.
+  abbrev pub viewed : Phase → Machine
+  viewed (Calls x f) = record m { register = x.registers }
+  viewed phase = m
+
+  -- it reads no input, calls no function, and is in no tail
   abbrev pub IsOrdinary : Phase → Type 0
   IsOrdinary (Reads x) = ⊥
+  IsOrdinary (Calls x f) = ⊥
   IsOrdinary (Tails core x same) = ⊥
   IsOrdinary phase = ⊤
 
   -- so many words are the core's, and it is ordinary
   abbrev pub IsNew : ℕ → Phase → Type 0
   IsNew kept (Reads x) = ⊥
+  IsNew kept (Calls x f) = ⊥
   IsNew kept (Tails core x same) = ⊥
   IsNew kept phase = kept ≤ kept_words phase
 

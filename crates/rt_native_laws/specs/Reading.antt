@@ -1,7 +1,7 @@
 -- Where a handler is that reads its inputs: behind its entry, before its frame comes into being. For each input a word
 -- is read from a device's register, and goes into its cell. Code and layout are this project's own.
 use Rattle.std.specs.Prelude.{◌≡◌, ℕ, ◌+◌, ◌*◌, ◌%◌, ◌^◌, ◌<◌, ◌≤◌, false, List, [], ◌∷◌, ◌++◌, drop, flat_map}
-use Rattle.std.specs.Prelude.{length, slice_index, Some, None, ⊤}
+use Rattle.std.specs.Prelude.{length, slice_index, Option, Some, None, ⊤}
 use Rattle.std.specs.List.{AllByRecursion}
 use Rattle.rt_ids.specs.Choice.{IsIn}
 use Rattle.rt_code.specs.Image.{Image}
@@ -42,6 +42,13 @@ passed AtLoad = 2
 passed AtCellLow = 3
 passed AtCellTop = 4
 passed AtStore = 5
+
+-- what has been read of an input, behind the load: its word
+abbrev pub read_at : Reading → Input → ℕ → Option (Input × ℕ)
+read_at AtCellLow input value = Some (input, value)
+read_at AtCellTop input value = Some (input, value)
+read_at AtStore input value = Some (input, value)
+read_at stage input value = None
 
 -- what r0 and r1 hold, of an input and the word that was read
 module _ (at : Outside) (input : Input) (value : ℕ) (m : Machine) where
@@ -88,3 +95,7 @@ module _ (at : Outside) (bottom : ℕ) (img : Image) (places : List ℕ) (p : Pr
     pub ends : m.register 13 ≡ top
     pub settled : m.is_unsettled ≡ false
     pub words : HoldsWords m
+
+  -- all inputs that are declared, and what the job has read of its own
+  abbrev pub reads_of : IsReading → List Input × Option (Input × ℕ)
+  reads_of x = (x.declared, read_at x.stage x.input x.value)

@@ -1,15 +1,15 @@
 -- What exception entry saves and exception return gives back (ARMv7-M Architecture Reference Manual, sections B1.5.6
 -- and B1.5.8): a job that is interrupted finds its registers and flags as they were, whatever ran in between, where the
 -- frame that entry pushed is still there. The manual says so of registers one by one; here it is one fact.
-use Rattle.std.specs.Prelude.{◌≡◌, ℕ, ◌+◌, ◌-◌, ◌*◌, ◌%◌, ◌^◌, ◌<◌, ◌≤◌, ◌⊎◌}
+use Rattle.std.specs.Prelude.{◌≡◌, ℕ, ◌+◌, ◌*◌, ◌%◌, ◌^◌, ◌<◌, ◌≤◌, ◌⊎◌}
 use Rattle.rt_thumb.specs.Exceptions.{entered, popped}
 use Rattle.rt_thumb.specs.Machine.{Machine, word_at}
 
--- A job can be interrupted: there is room for eight words below its stack pointer, which lies at a multiple of 8, so
--- that entry pads nothing.
+-- A job can be interrupted: its stack pointer lies at a multiple of 4, and there is room for eight words below it, and
+-- for one that entry pads where it is no multiple of 8.
 pub record CanBeInterrupted (m : Machine) : Type 0 where
-  pub stack : m.register 13 % 8 ≡ 0
-  pub room : 32 ≤ m.register 13
+  pub stack : m.register 13 % 4 ≡ 0
+  pub room : 32 + m.register 13 % 8 ≤ m.register 13
   pub address : m.address % 2 ≡ 0
   pub exception : m.exception < 2 ^ 9
 
@@ -28,11 +28,12 @@ pub record HasAgain (before after : Machine) : Type 0 where
   pub flags : after.flags ≡ before.flags
   pub exception : after.exception ≡ before.exception
 
--- An entry changes no word but the eight below the stack pointer.
+-- An entry changes no word but the eight below the stack pointer, or below the multiple of 8 that is next below it.
 abbrev pub EntryPushesBelow : Type 0
 EntryPushesBelow =
     (e : ℕ) (m : Machine) → CanBeInterrupted m → (k : ℕ)
-    → (4 * k + 4 ≤ m.register 13 - 32) ⊎ (m.register 13 ≤ 4 * k) → (entered e m).memory k ≡ m.memory k
+    → (4 * k + 4 + 32 + m.register 13 % 8 ≤ m.register 13) ⊎ (m.register 13 ≤ 4 * k)
+    → (entered e m).memory k ≡ m.memory k
 
 -- A return from where an entry's frame is gives the job back what it had at the entry.
 abbrev pub EntryIsUndone : Type 0

@@ -17,17 +17,18 @@ use Rattle.rt_native.specs.Layout.{TICK_BYTES, flash_end, outside, places, stack
 use Rattle.rt_native.specs.Service.{timer_irq}
 use Rattle.rt_native.specs.Target.{Target}
 use Rattle.rt_thumb.specs.Exceptions.{external, priority_of, systick}
-use Rattle.rt_thumb.specs.Machine.{Machine, Seen, Emitted, Posted, Entered, Returned}
+use Rattle.rt_thumb.specs.Machine.{Machine, Seen, Emitted, Posted, Entered, Returned, word_at}
 use Rattle.rt_thumb.specs.Step as processor
 use Rattle.rt_thumb.specs.Step.{Program}
 use Rattle.rt_trace.specs.Label.{Label, Stepped, Ticked}
 use Rattle.rt_trace.specs.declared.item.What.TheVariants as what
 use Rattle.rt_native_laws.specs.Behaving.{BehavesWell}
+use Rattle.rt_native_laws.specs.Devices.{CanChange, LoadsNext}
 use Rattle.rt_native_laws.specs.Doing.{seen_of}
 use Rattle.rt_native_laws.specs.Reading.{IsInput}
 use Rattle.rt_native_laws.specs.Loading.{IsExecuted}
-use Rattle.rt_native_laws.specs.Moments.{Happening, Comes, Moment, at_reset, moment_after_all, shown}
-use Rattle.rt_native_laws.specs.Moments.{AllCanHappen, with_frame}
+use Rattle.rt_native_laws.specs.Moments.{Happening, Comes, Loads, Puts, Last, HasRead, Moment, at_reset, moment_after}
+use Rattle.rt_native_laws.specs.Moments.{AllCanHappen, moment_after_all, shown, with_frame}
 use Rattle.rt_native_laws.specs.Phases.{IsDone}
 use Rattle.rt_native_laws.specs.Standing.{IsLaidOut, HoldsWords}
 use Rattle.rt_priorities.specs.Agreeing.{AgreesWith}
@@ -65,12 +66,31 @@ abbrev pub arrivals_at : processor.Event → List ℕ
 arrivals_at (processor.Arrives irq) = irq ∷ []
 arrivals_at event = []
 
--- Whether an event can come: a device has the number of an interrupt; and an exception is recognized late only before a
--- context synchronization event.
-abbrev pub CanCome : Machine → processor.Event → Type 0
-CanCome m (processor.Arrives irq) = irq < IRQ_NUMBERS
-CanCome m processor.GoesLate = m.is_unsettled ≡ true
-CanCome m event = ⊤
+-- Whether an event can come: a device has the number of an interrupt, and changes words of its own; and an exception is
+-- recognized late only before a context synchronization event.
+abbrev pub CanCome : Target → Machine → processor.Event → Type 0
+CanCome target m (processor.Arrives irq) = irq < IRQ_NUMBERS
+CanCome target m (processor.Changes address value) = CanChange target address value
+CanCome target m processor.GoesLate = m.is_unsettled ≡ true
+CanCome target m event = ⊤
+
+-- the word that comes into a cell is the one that was read last, from the register of an input for the cell
+abbrev pub IsWhatWasRead : Last → ℕ → ℕ → Type 0
+IsWhatWasRead (HasRead input value) cell word = (input.cell ≡ cell) × (value ≡ word)
+IsWhatWasRead last cell word = ⊥
+
+-- What is read is read by the load that the processor executes next, and is the word that the register holds then; and
+-- what is put was read before.
+abbrev pub IsFromRegister : Program → Machine → Moment → Happening → Type 0
+IsFromRegister p m s (Loads input word) = LoadsNext p m input.address × (word_at m input.address ≡ word)
+IsFromRegister p m s (Puts cell word) = IsWhatWasRead s.last cell word
+IsFromRegister p m s happening = ⊤
+
+-- each word is, of some things that happen one after the other
+abbrev pub AreFromRegisters : Image → Program → Machine → Moment → List Happening → Type 0
+AreFromRegisters img p m s [] = ⊤
+AreFromRegisters img p m s (happening ∷ more) =
+    IsFromRegister p m s happening × AreFromRegisters img p m (moment_after img s happening) more
 
 -- how often SysTick counts down
 abbrev pub ticks : List processor.Event → ℕ
@@ -83,13 +103,16 @@ module _ (img : Image) (target : Target) (p : Program) where
   abbrev pub stack_bottom : ℕ
   stack_bottom = stack_top img target - img.stack_bytes
 
-  -- One event of the processor, beside what happens to the image: it is no fault; devices request the same; others see
-  -- the same; and the stack is no deeper than the image's, a tick's frame aside.
+  -- One event of the processor, beside what happens to the image, which is no more than its code has instructions, and
+  -- two things: it is no fault; devices request the same; words of inputs are what their registers held as they were
+  -- read; others see the same; and the stack is no deeper than the image's, a tick's frame aside.
   pub record IsBeside (s : Moment) (happened : List Happening) (m : Machine) (event : processor.Event)
       (next : Machine) : Type 0 where
     pub no_fault : processor.step p m event ≡ Some next
     pub can : AllCanHappen img target.inputs s happened
     pub arrivals : flat_map arrivals_of happened ≡ arrivals_at event
+    pub few : length happened ≤ length img.code + 2
+    pub words : AreFromRegisters img p m s happened
     pub seen : compared (timer_irq img.code) next.seen
         ≡ compared (timer_irq img.code) (reverse (flat_map seen_of_label (shown img s happened)) ++ m.seen)
     pub deep : stack_top img target ≤ next.register 13 + depth img (moment_after_all img s happened).core + TICK_BYTES
@@ -99,15 +122,14 @@ module _ (img : Image) (target : Target) (p : Program) where
   abbrev pub StaysBeside : (List Happening → Bool) → Moment → Machine → List processor.Event → Type 0
   StaysBeside fits s m [] = ⊤
   StaysBeside fits s m (event ∷ events) =
-      fits [] ≡ true → CanCome m event → (happened : List Happening) × (next : Machine)
+      fits [] ≡ true → CanCome target m event → (happened : List Happening) × (next : Machine)
       × IsBeside s happened m event next
       × StaysBeside (λ more. fits (happened ++ more)) (moment_after_all img s happened) next events
 
-  -- The processor behind the code of reset: the program lies in flash, apart from RAM; the thread is between two
-  -- instructions, as the core after reset is, with these words in its frame; interrupts are set as the image's rows;
-  -- and SysTick is of the highest priority, as reset leaves it.
-  pub record IsBehindReset (words : List ℕ) (m : Machine) : Type 0 where
-    pub loaded : IsLoaded img target p m
+  -- The processor behind the code of reset: the program lies apart from RAM; the thread is between two instructions, as
+  -- the core after reset is, with these words in its frame; interrupts are set as the image's rows; and SysTick is of
+  -- the highest priority, as reset leaves it.
+  pub record StandsBehindReset (words : List ℕ) (m : Machine) : Type 0 where
     pub executed : IsExecuted target p
     pub apart : (flash_end img target ≤ target.ram.address)
         ⊎ ((outside img target).time + 8 ≤ target.flash.address)
@@ -121,6 +143,11 @@ module _ (img : Image) (target : Target) (p : Program) where
     pub tick : priority_of m systick ≡ 0
     pub holds_words : HoldsWords m
 
+  -- and the program lies in flash
+  pub record IsBehindReset (words : List ℕ) (m : Machine) : Type 0 where
+    pub loaded : IsLoaded img target p m
+    pub stands : StandsBehindReset words m
+
   -- From here on native code does what the image does: some things happen to the image first, which nobody sees, and
   -- then it is so event after event.
   pub record Simulates (fits : List Happening → Bool) (m : Machine) (events : List processor.Event) : Type 0 where
@@ -130,8 +157,8 @@ module _ (img : Image) (target : Target) (p : Program) where
     pub unseen : flat_map seen_of_label (shown img (at_reset img) first) ≡ []
     pub follows : StaysBeside (λ more. fits (first ++ more)) (moment_after_all img (at_reset img) first) m events
 
-  -- an image of which a program can be made for a target that has no C functions
-  pub record IsImageFor : Type 0 where
+  -- an image of which a program can be made for a target
+  pub record IsFitFor : Type 0 where
     pub runnable : IsRunnable img
     pub set : CanBeSet img.irqs
     pub fits : Fits img target
@@ -140,6 +167,10 @@ module _ (img : Image) (target : Target) (p : Program) where
     -- RAM does not begin at the address 0, where code or nothing lies
     pub above_zero : 8 ≤ target.ram.address
     pub inputs : AllByRecursion (IsInput (length img.cells)) target.inputs
+
+  -- and for one that has no C functions
+  pub record IsImageFor : Type 0 where
+    pub fit : IsFitFor
     pub no_functions : target.calls ≡ []
 
 -- Behind reset native code does what its image does, whatever comes, where the image behaves well: at each event what

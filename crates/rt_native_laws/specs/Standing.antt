@@ -71,3 +71,12 @@ pub record HoldsWords (m : Machine) : Type 0 where
   pub registers : (k : ℕ) → m.register k < 2 ^ 32
   pub memory : (k : ℕ) → m.memory k < 2 ^ 32
   pub base_priority : m.base_priority < 2 ^ 8
+
+-- All that the processor has beside jobs is as the core has it: masks, cells, the time and the alarm, and requests.
+pub record Shows (at : Outside) (c : Core) (m : Machine) : Type 0 where
+  pub base_priority : m.base_priority ≡ c.processor.basepri
+  pub is_masked : m.is_masked ≡ c.processor.primask
+  pub cells : LieFrom m at.cells c.processor.cells
+  pub time : word_at m at.time ≡ c.time
+  pub alarm : word_at m (at.time + 4) ≡ alarm_word c.alarm
+  pub pending : (irq : ℕ) → irq < length c.pending → m.is_pending (external irq) ≡ slice_index_or c.pending irq false

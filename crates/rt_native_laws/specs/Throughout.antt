@@ -3,6 +3,7 @@
 use Rattle.std.specs.Prelude.{◌≡◌, ◌+◌, ◌^◌, ◌<◌, Bool, List, ◌++◌}
 use Rattle.rt_code.specs.Image.{Image}
 use Rattle.rt_native.specs.Target.{Target}
+use Rattle.rt_native_laws.specs.Devices.{ChangeDevices}
 use Rattle.rt_native_laws.specs.FromReset.{AreNumbered, HasNoTickAtFirst, IsFollowed, SimulatesFromReset}
 use Rattle.rt_native_laws.specs.InReset.{IsInReset}
 use Rattle.rt_native_laws.specs.Moments.{Happening}
@@ -23,4 +24,4 @@ abbrev pub EveryListIsSimulated : Type 0
 EveryListIsSimulated =
     (img : Image) (target : Target) (p : Program) (fits : List Happening → Bool) (m : Machine)
     → SimulatesFromReset img target p fits m → (events : List Event) → HasNoTickAtFirst events → AreNumbered events
-    → ticks events + 3 < 2 ^ 32 → IsSimulated img target p fits m events
+    → ChangeDevices target events → ticks events + 3 < 2 ^ 32 → IsSimulated img target p fits m events

@@ -3,15 +3,14 @@
 ghost use Rattle.rt_native_laws.specs.Above.{PrivateKeepsAbove, StepsKeepAbove, TicksKeepAbove};
 ghost use Rattle.rt_native_laws.specs.Above.{WordsStay, WordsStayInPrivate, WordsStayInSteps};
 ghost use Rattle.rt_native_laws.specs.Alike.{StepsAreAlike};
-ghost use Rattle.rt_native_laws.specs.Arriving.{ArrivalsKeepPhases, PendingTicksKeepPhases};
+ghost use Rattle.rt_native_laws.specs.Arriving.{ArrivalsKeepPhases, ChangesKeepPhases, PendingTicksKeepPhases};
 ghost use Rattle.rt_native_laws.specs.Deep.{PhasesAreWithinFrames, StackIsNoDeeper};
 ghost use Rattle.rt_native_laws.specs.Filed.{FilesArePrograms, FlashHasAProgram};
 ghost use Rattle.rt_native_laws.specs.FromReset.{NativeSimulatesFromReset, ResetLeadsBehind};
 ghost use Rattle.rt_native_laws.specs.Functions.{EntryCallsFirst, FunctionsPutWords};
-ghost use Rattle.rt_native_laws.specs.InCall.{CallGoesOn, CallIsKept, CallIsNoFault, EntryBeginsCall};
-ghost use Rattle.rt_native_laws.specs.InCall.{FunctionGoesOn, ReturnsToCall};
 ghost use Rattle.rt_native_laws.specs.Inputs.{EntryReadsInputs, ReadingGoesOn, ReadingIsKept};
 ghost use Rattle.rt_native_laws.specs.EachKind.{EachKindGoesOn};
+ghost use Rattle.rt_native_laws.specs.Existing.{FilesCanBeHeld};
 ghost use Rattle.rt_native_laws.specs.Laws.{SetIsDone, CopyIsDone, CalculationIsDone, JumpIsDone, JumpIfZeroIsDone};
 ghost use Rattle.rt_native_laws.specs.Laws.{MarkIsDone, WaitIsDone, LoadIsDone, StoreIsDone, LoadAtIsDone};
 ghost use Rattle.rt_native_laws.specs.Laws.{StoreAtIsDone, EmitIsDone, ClockIsDone, RaiseIsDone, RestoreIsDone};
@@ -27,14 +26,17 @@ ghost use Rattle.rt_native_laws.specs.Owing.{CeilingsHoldOff, HappeningsAreAlike
 ghost use Rattle.rt_native_laws.specs.Owing.{TailsOweSo, TicksInTails, TicksLeaveOwed, TicksPay};
 ghost use Rattle.rt_native_laws.specs.Phases.{ToComeIsKept, DoneIsKept, EnteringIsKept, CallingIsKept};
 ghost use Rattle.rt_native_laws.specs.Relating.{EntriesLeadOn, InstructionsLeadOn, LateInstructionsLeadOn};
-ghost use Rattle.rt_native_laws.specs.Relating.{PendingTicksLeadOn, RequestsLeadOn};
+ghost use Rattle.rt_native_laws.specs.Relating.{ChangesLeadOn, PendingTicksLeadOn, RequestsLeadOn};
 ghost use Rattle.rt_native_laws.specs.Resetting.{ResetHasTwoParts, ResetLeads};
 ghost use Rattle.rt_native_laws.specs.Saving.{EntryPushesBelow, EntryIsUndone};
 ghost use Rattle.rt_native_laws.specs.Simulating.{NativeSimulates};
 ghost use Rattle.rt_native_laws.specs.Tail.{AlarmIsStored, TailGoesOn, TailIsKept, TailsAreNoFault};
 ghost use Rattle.rt_native_laws.specs.Throughout.{EveryListIsSimulated};
 ghost use Rattle.rt_native_laws.specs.Ticking.{TickIsServed};
+ghost use Rattle.rt_native_laws.specs.WithFunctions.{LinkedSimulates, LinkedSimulatesFromReset};
 ghost use Rattle.rt_native_laws.specs.Waiting.{PhasesShow, WaitingIsKept, EntryAddsAJob, EntryBegins};
+ghost use Rattle.rt_native_laws.specs.GoingInCall.{CallGoesOn, CallIsKept, CallIsNoFault, EntryBeginsCall};
+ghost use Rattle.rt_native_laws.specs.GoingInCall.{FunctionGoesOn, ReturnsToCall};
 
 /// The code of `set`, of `copy` and of the operations does what they do, and nobody else sees anything of it.
 pub fn moves_are_done()
@@ -231,10 +233,12 @@ pub fn each_kind_goes_on()
     ensures { EachKindGoesOn }
 {}
 
-/// A request that comes, of a device or of SysTick, leaves the job that runs in its phase, at the core that has it too.
+/// A request that comes, of a device or of SysTick, leaves the job that runs in its phase, at the core that has it too;
+/// and so does a device that changes its register.
 pub fn requests_come()
     ensures arrivals { ArrivalsKeepPhases }
     ensures ticks { PendingTicksKeepPhases }
+    ensures changes { ChangesKeepPhases }
 {}
 
 /// A machine instruction, where no exception is taken before it, is no fault; and behind it the processor is where the
@@ -244,10 +248,12 @@ pub fn instructions_lead_on()
     ensures late { LateInstructionsLeadOn }
 {}
 
-/// A request comes to the processor and to the image, and both are where they were.
+/// A request comes to the processor and to the image, and both are where they were. So they are as a device changes its
+/// register.
 pub fn requests_lead_on()
     ensures requests { RequestsLeadOn }
     ensures ticks { PendingTicksLeadOn }
+    ensures changes { ChangesLeadOn }
 {}
 
 /// An interrupt is taken, and the processor is where the image is then.
@@ -258,6 +264,14 @@ pub fn entries_lead_on()
 /// Behind reset native code does what its image does, event after event.
 pub fn native_simulates()
     ensures { NativeSimulates }
+{}
+
+/// So does the program of an object that is linked with functions of C, beside functions that are harmless and keep to
+/// the procedure call standard: at each event, and at each machine instruction of a function, which may be interrupted;
+/// behind reset, and from reset on.
+pub fn linked_simulates()
+    ensures behind { LinkedSimulates }
+    ensures reset { LinkedSimulatesFromReset }
 {}
 
 /// An alarm that has come changes no step of others, who set none and do not take its interrupt.
@@ -295,4 +309,9 @@ pub fn every_list_is_simulated()
 pub fn files_are_programs()
     ensures has { FlashHasAProgram }
     ensures files { FilesArePrograms }
+{}
+
+/// There is a processor whose memory holds an image's file, as reset leaves it.
+pub fn files_can_be_held()
+    ensures { FilesCanBeHeld }
 {}

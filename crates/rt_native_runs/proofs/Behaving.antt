@@ -22,7 +22,7 @@ use Rattle.rt_trace.specs.Label.{Label}
 use Rattle.rt_laws.specs.Services.{is_declared}
 use Rattle.rt_native.specs.declared.target.Input.{Input}
 use Rattle.rt_native_laws.specs.Behaving.{BehavesWell, IsGood}
-use Rattle.rt_native_laws.specs.Moments.{AllCanHappen, Comes, Fills, Happening, Moment}
+use Rattle.rt_native_laws.specs.Moments.{AllCanHappen, Comes, Fills, Happening, Loads, Moment}
 use Rattle.rt_native_laws.specs.Moments.{Puts, at_reset}
 use Rattle.rt_native_laws.specs.Moments.{moment_after, moment_after_all, shown}
 use Rattle.rt_native_laws.specs.Moments.{shown_of}
@@ -41,7 +41,8 @@ use Rattle.rt_native_runs.proofs.Lies.{images_lie_well}
 use Rattle.rt_ids.specs.Choice.{IsIn}
 use Rattle.rt_app.specs.Layout.{local_at}
 use Rattle.rt_native_runs.specs.Running.{PutOnly}
-use Rattle.rt_native_runs.proofs.Devices.{WellBeside, as_is, beside_arrives, beside_fills, beside_puts, beside_reset}
+use Rattle.rt_native_runs.proofs.Devices.{WellBeside, as_is, beside_arrives, beside_fills, beside_loads, beside_puts}
+use Rattle.rt_native_runs.proofs.Devices.{beside_reset}
 use Rattle.rt_native_runs.proofs.Devices.{beside_steps, beside_ticks}
 
 module _ (app : App) (img : Image) (inputs : List Input) (accepted : IsAccepted app) (is_image : IsImageOf app img)
@@ -86,6 +87,11 @@ module _ (app : App) (img : Image) (inputs : List Input) (accepted : IsAccepted 
   ends_well (Fills words ∷ more) within s ls n well declared fit can =
       let rest = ends_well more (behind more within) (moment_after img s (Fills words)) ls n
       (beside_fills app img inputs accepted is_image given lies all ls n s words can.0 well) declared
+      (λ mono is. let most = fit mono is in omega (arith, most)) can.1 in
+      record { count = rest.count; fit = rest.fit; well = rest.well }
+  ends_well (Loads input word ∷ more) within s ls n well declared fit can =
+      let rest = ends_well more (behind more within) (moment_after img s (Loads input word)) ls n
+      (beside_loads app img inputs accepted is_image given lies all ls n s input word can.0 well) declared
       (λ mono is. let most = fit mono is in omega (arith, most)) can.1 in
       record { count = rest.count; fit = rest.fit; well = rest.well }
   ends_well (Puts cell word ∷ more) within s ls n well declared fit can =

@@ -26,7 +26,7 @@ use Rattle.rt_native.specs.Target.{Target}
 use Rattle.rt_native.specs.declared.target.Input.{Input}
 use Rattle.rt_native_laws.specs.FromReset.{IsMapped}
 use Rattle.rt_native_laws.specs.Reading.{IsInput}
-use Rattle.rt_native_laws.specs.Simulating.{IsImageFor}
+use Rattle.rt_native_laws.specs.Simulating.{IsFitFor, IsImageFor}
 use Rattle.rt_priorities.specs.Setting.{CanBeSet}
 use Rattle.rt_sim.proofs.Choosing.{IsServed, all_served}
 use Rattle.rt_thumb.specs.Step.{Program}
@@ -106,9 +106,9 @@ module _ (app : App) (img : Image) (accepted : IsAccepted app) (is_image : IsIma
   }
 
   -- of an image that fits a chip a program can be made, where no function of C is called
-  pub image_for : (target : Target) (p : Program) → IsRunnable img → IsChip target → Fits img target
-      → AllByRecursion (IsWired app) target.inputs → target.calls ≡ [] → IsImageFor img target p
-  image_for target p runnable chip fits wired no_functions = record {
+  pub fit_for : (target : Target) (p : Program) → IsRunnable img → IsChip target → Fits img target
+      → AllByRecursion (IsWired app) target.inputs → IsFitFor img target p
+  fit_for target p runnable chip fits wired = record {
     runnable = runnable;
     set = can_be_set runnable;
     fits = fits;
@@ -116,5 +116,9 @@ module _ (app : App) (img : Image) (accepted : IsAccepted app) (is_image : IsIma
     ram = chip.ram;
     above_zero = chip.above_zero;
     inputs = all_weaker (IsWired app) (IsInput (length img.cells)) input_there target.inputs wired;
-    no_functions = no_functions;
   }
+
+  pub image_for : (target : Target) (p : Program) → IsRunnable img → IsChip target → Fits img target
+      → AllByRecursion (IsWired app) target.inputs → target.calls ≡ [] → IsImageFor img target p
+  image_for target p runnable chip fits wired no_functions =
+      record { fit = fit_for target p runnable chip fits wired; no_functions = no_functions }

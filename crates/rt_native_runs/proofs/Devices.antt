@@ -29,7 +29,9 @@ use Rattle.rt_trace.specs.Label.{Label, Arrived, Stepped, Ticked}
 use Rattle.rt_trace.specs.declared.item.What.{What}
 use Rattle.rt_laws.specs.Services.{is_declared}
 use Rattle.rt_native.specs.declared.target.Input.{Input}
-use Rattle.rt_native_laws.specs.Moments.{Began, Comes, Fills, Happening, HasBegun, IsPut, Last, Moment}
+use Rattle.rt_native_laws.specs.Moments.{Began, CanRead, Comes, Fills, Happening, HasBegun, HasRead, IsPut, IsTaken}
+use Rattle.rt_native_laws.specs.Moments.{Last}
+use Rattle.rt_native_laws.specs.Moments.{Loads, Moment}
 use Rattle.rt_native_laws.specs.Moments.{Puts, Taking, Went, after_instruction, after_return, after_step, at_reset}
 use Rattle.rt_native_laws.specs.Moments.{instruction_at, last_after, moment_after, shown, with_core}
 use Rattle.rt_native_laws.specs.Moments.{AreFillings}
@@ -40,8 +42,8 @@ use Rattle.rt_native_runs.specs.Lying.{LiesWell}
 use Rattle.rt_native_runs.proofs.Cells.{AreAlikeBut, MemoryBefore, alike_through, memory_before, freer, none_free}
 use Rattle.rt_native_runs.proofs.Cells.{themselves}
 use Rattle.rt_native_runs.proofs.Coupled.{Coupled}
-use Rattle.rt_native_runs.proofs.Filled.{Well, actual, well_arrives, well_fills, well_reset, well_steps, well_ticks}
-use Rattle.rt_native_runs.proofs.Filled.{tick_runs}
+use Rattle.rt_native_runs.proofs.Filled.{Well, actual, well_arrives, well_fills, well_loads, well_reset, well_steps}
+use Rattle.rt_native_runs.proofs.Filled.{tick_runs, well_ticks}
 use Rattle.rt_native_runs.proofs.Refilled.{TickIs, bases_of_takings, tick_beside, tick_is}
 use Rattle.rt_native_runs.proofs.Frames.{Took, coupled_back, coupled_call, coupled_entry}
 use Rattle.rt_native_runs.proofs.NotBegun.{IsCellOf, IsFreeCell, IsFreeBelow, IsStillToBegin, gone_on, unloaded}
@@ -68,6 +70,14 @@ use Rattle.std.proofs.Common.{get_or-set_same}
 use Rattle.rt_ids.specs.Choice.{IsIn}
 use Rattle.rt_gen_body.proofs.Owning.{local_cell}
 use Rattle.rt_native_runs.proofs.Writing.{IsWord}
+
+-- which handler was just taken does not hang on what it has read
+same_begun : (irq other : ℕ) (below : List Context) (last : Last) (input : Input) (word : ℕ) → HasBegun irq below last
+    → HasBegun other below (HasRead input word) → HasBegun other below last
+same_begun irq other [] last input word h begun = begun
+same_begun irq other (x ∷ below) Began input word h begun = begun
+same_begun irq other (x ∷ below) (HasRead i w) input word h begun = begun
+same_begun irq other (x ∷ below) last input word h begun = absurd h
 
 return_beside : (d : Core) (cells : List ℕ) (takings : List Taking)
     → after_return (with_cells d cells) takings ≡ beside (after_return d takings) cells
@@ -119,6 +129,31 @@ module _ (app : App) (img : Image) (inputs : List Input) (accepted : IsAccepted 
         well = well_fills app img accepted is_image lies its.state n (beside s cells) words
             (record { long = filling.long; settled = filling.settled }) its.well;
       }
+
+  -- a device's register is read
+  pub beside_loads : (ls : List Label) (n : ℕ) (s : Moment) (input : Input) (word : ℕ) → CanRead inputs s input word
+      → WellBeside ls n s → WellBeside ls n (moment_after img s (Loads input word))
+  beside_loads ls n s input word can well cells alike =
+      let its = well cells
+      (freer (IsWord Q) (IsFreeCell inputs (record s { last = HasRead input word })) (IsFreeCell inputs s)
+      (λ k free. (
+        free.0,
+        free.1,
+        free.2,
+        elim free.3 [
+          | inl begun ↦ inl (as_begun free.0.irq begun)
+          | inr waits ↦ inr waits
+        ],
+      )) s.core.processor.cells cells alike) in
+      record {
+        state = its.state;
+        run = its.run;
+        well = well_loads app img accepted is_image lies its.state n (beside s cells) input.irq input word can.begun
+            its.well;
+      }
+    where
+      as_begun : (irq : ℕ) → HasBegun irq s.core.below (HasRead input word) → HasBegun irq s.core.below s.last
+      as_begun irq begun = same_begun input.irq irq s.core.below s.last input word can.begun begun
 
   -- a device puts a word
   pub beside_puts : (ls : List Label) (n : ℕ) (s : Moment) (cell word : ℕ) → IsPut inputs s cell word
@@ -323,7 +358,7 @@ module _ (app : App) (img : Image) (inputs : List Input) (accepted : IsAccepted 
       Narrows o = (k : ℕ) → IsFreeCell inputs (after_instruction img s (step img s.core).0 o) k
           → IsFreeBelow inputs s.takings s.core.below k
 
-      went_on : (last : Last) → last ≢ Began → (d : Core) → d.below ≡ s.core.below → (k : ℕ)
+      went_on : (last : Last) → (IsTaken last → ⊥) → (d : Core) → d.below ≡ s.core.below → (k : ℕ)
           → IsFreeCell inputs (record s { core = d; last = last }) k → IsFreeBelow inputs s.takings s.core.below k
       went_on last other d same k (input, among, cell, inl begun) =
           absurd (gone_on input.irq d.below last other begun)
@@ -336,13 +371,13 @@ module _ (app : App) (img : Image) (inputs : List Input) (accepted : IsAccepted 
           let called = coupled_call app img accepted is_image b n (bases_of_takings s.takings) s.core x fit row from
           told picked (line ∙ ap (λ k. Some (k, told)) is) in
           subst (λ k. Narrows (Some k)) (sym is)
-          (went_on (last_after img (Some (instr.Call row from))) (λ e. cc (e)) (step img s.core).0
+          (went_on (last_after img (Some (instr.Call row from))) (λ e. e) (step img s.core).0
           (ap (λ (r : Core × Option What). r.0.below) called.is))
       narrows j (ItComesBack is) line =
           let back = coupled_back app img accepted is_image b n (bases_of_takings s.takings) s.core x fit told picked
           (line ∙ ap (λ k. Some (k, told)) is) in
           subst (λ k. Narrows (Some k)) (sym is)
-          (went_on (last_after img (Some instr.Back)) (λ e. cc (e)) (step img s.core).0
+          (went_on (last_after img (Some instr.Back)) (λ e. e) (step img s.core).0
           (ap (λ (d : Core). d.below) back.is))
       narrows j (ItReturns is) line =
           let back = coupled_return app img accepted is_image b n (bases_of_takings s.takings) s.core x fit told picked
@@ -370,7 +405,7 @@ module _ (app : App) (img : Image) (inputs : List Input) (accepted : IsAccepted 
           let goes : GoesTo s.core (step img s.core).0 j =
           goes_to img s.core j told running picked line other
           (goes_on app img accepted is_image b n (bases_of_takings s.takings) s.core x fit) in
-          λ k free. went_on Went (λ e. cc (e)) (step img s.core).0 goes.below k
+          λ k free. went_on Went (λ e. e) (step img s.core).0 goes.below k
           (subst (λ t. IsFreeCell inputs t k) (goes_plainly img s (step img s.core).0 j other) free)
 
       kept : length (step img s.core).0.processor.cells ≡ length s.core.processor.cells

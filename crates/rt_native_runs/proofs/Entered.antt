@@ -2,7 +2,7 @@
 -- part, with the frame that is that part's.
 use Rattle.std.proofs.Common.{◌≡◌, ℕ, zero, suc, ◌+◌, ◌==◌, ◌%◌, Bool, true, false, not, List, []}
 use Rattle.std.proofs.Common.{◌∷◌, ◌++◌, map, filter, flat_map, slice_get, Contains, Option, Some, None, IfSome}
-use Rattle.std.proofs.Common.{IsSome, option_map, refl, sym, ap, subst, ◌∙◌, arith, inl, inr, if◌then◌else◌, eq-eqb}
+use Rattle.std.proofs.Common.{IsSome, option_map, refl, sym, ap, subst, ◌∙◌, arith, if◌then◌else◌, eq-eqb}
 use Rattle.std.specs.Prelude.{is_none}
 use Rattle.std.specs.List.{AllByRecursion}
 use Rattle.std.proofs.lemmas.Bool.{eqb-true}
@@ -10,7 +10,7 @@ use Rattle.std.proofs.lemmas.Option.{none-some, same_Some}
 use Rattle.rt_lemmas.proofs.Indices.{there_is}
 use Rattle.rt_lemmas.proofs.Lists.{AreFrom, all_append, all_front, all_behind, all_from, first_from, mapped_at}
 use Rattle.rt_lemmas.proofs.Lists.{rest_from}
-use Rattle.rt_lemmas.proofs.Membership.{all_at, contains_at, contains_cases, contains_here, contains_none}
+use Rattle.rt_lemmas.proofs.Membership.{all_at, contains_at, contains_here}
 use Rattle.rt_ids.specs.declared.ids.BodyId.TheVariants as body
 use Rattle.rt_app.specs.declared.app.IrqDecl.{IrqDecl}
 use Rattle.rt_app.specs.declared.app.Mono.{Mono}
@@ -31,6 +31,7 @@ use Rattle.rt_gen_queue.specs.Called.{row_for, rows_for}
 use Rattle.rt_build.specs.Entries.{Entries, entry_of, task_words, handler_words, handler_row, irq_rows}
 use Rattle.rt_build.specs.Order.{CodePart, OfBody, OfLevel, OfTimer, begin_of, task_parts, timer_parts, free_parts}
 use Rattle.rt_build.proofs.ImageRows.{each_row, its_row}
+use Rattle.rt_laws.proofs.Dispatchers.{flat_contains}
 use Rattle.rt_native_runs.proofs.Apart.{entered}
 
 -- the part that a handler is
@@ -212,14 +213,6 @@ pub record IsServed (app : App) (at : Entries) (part : CodePart) : Type 0 where
   pub is : row.handler ≡ Some handler
   pub entry : handler.entry ≡ begin_of at part
   pub frame : handler.frame ≡ frame_of app part
-
-flat_contains : {X Y : Type 0} (f : X → List Y) (xs : List X) (x : X) (y : Y) → Contains xs x → Contains (f x) y
-    → Contains (flat_map f xs) y
-flat_contains f [] x y is there = absurd (contains_none x is)
-flat_contains f (z ∷ xs) x y is there = elim (contains_cases z xs x is) [
-  | inl same ↦ contains_front (f z) (flat_map f xs) y (subst (λ z. Contains (f z) y) (sym same) there)
-  | inr behind ↦ contains_back (f z) (flat_map f xs) y (flat_contains f xs x y behind there)
-]
 
 -- the dispatcher of a level serves an interrupt
 pub level_served_by : (app : App) → IsAccepted app → (at : Entries) (p : ℕ) → Contains (levels app) p

@@ -37,7 +37,8 @@ use Rattle.rt_laws.specs.Run.{RunsOn}
 use Rattle.rt_laws.specs.Services.{is_declared}
 use Rattle.rt_laws.specs.State.{State, first}
 use Rattle.rt_native.specs.Frames.{body_words}
-use Rattle.rt_native_laws.specs.Moments.{AreFillings, CameBack, Comes, Moment}
+use Rattle.rt_native.specs.declared.target.Input.{Input}
+use Rattle.rt_native_laws.specs.Moments.{AreFillings, Began, CameBack, Comes, HasBegun, HasRead, Last, Moment}
 use Rattle.rt_native_laws.specs.Moments.{Taking, WasCalled, Went, after_instruction, after_return, after_step}
 use Rattle.rt_native_laws.specs.Moments.{arguments_of, at_reset, instruction_at, moment_after}
 use Rattle.rt_native_laws.specs.Moments.{settled_words, shown, with_core, with_frame}
@@ -55,6 +56,14 @@ use Rattle.rt_native_runs.proofs.Steps.{Returned, coupled_plain, coupled_return,
 use Rattle.rt_native_runs.proofs.Words.{alike_all, alike_further, alike_itself, take_alike}
 use Rattle.rt_native_runs.proofs.Refilled.{refill, refilled, AreFills, bases_of_takings, own_fills, refill_own}
 use Rattle.rt_native_runs.proofs.Refilled.{alike_refilled, TickIs, tick_is}
+
+-- of the frame of a handler that was just taken no word is settled
+none_settled : (irq : ℕ) (below : List Context) (last : Last) (words : ℕ) → HasBegun irq below last
+    → settled_words last words ≡ 0
+none_settled irq [] last words begun = absurd begun
+none_settled irq (x ∷ below) Began words begun = refl
+none_settled irq (x ∷ below) (HasRead input word) words begun = refl
+none_settled irq (x ∷ below) last words begun = absurd begun
 
 module _ (app : App) (img : Image) (accepted : IsAccepted app) (is_image : IsImageOf app img) (lies : LiesWell img)
   where
@@ -111,6 +120,18 @@ module _ (app : App) (img : Image) (accepted : IsAccepted app) (is_image : IsIma
           paired = well.paired;
           parts = parts_fill img s.core words filling.long well.parts;
         }
+
+    -- a device's register is read
+    pub well_loads : (b : State) (n : ℕ) (s : Moment) (irq : ℕ) (input : Input) (word : ℕ)
+        → HasBegun irq s.core.below s.last → Well b n s → Well b n (record s { last = HasRead input word })
+    well_loads b n s irq input word begun well = record {
+      each = λ words others alike fills.
+          well.each words others
+          (subst (λ k. IsAlikeUpTo k s.core.processor.slots words)
+          (sym (none_settled irq s.core.below s.last (length s.core.processor.slots) begun)) alike) fills;
+      paired = well.paired;
+      parts = well.parts;
+    }
 
     -- a request comes
     pub well_arrives : (b : State) (n : ℕ) (s : Moment) (irq : ℕ) → is_declared app irq ≡ true → Well b n s

@@ -29,7 +29,7 @@ use Rattle.rt_laws.specs.Services.{priority_of}
 use Rattle.rt_laws.specs.State.{Serving, State}
 use Rattle.rt_laws.proofs.Well.{IsAbove, StackWell}
 use Rattle.rt_native.specs.declared.target.Input.{Input}
-use Rattle.rt_native_laws.specs.Moments.{Last, Began, HasBegun, Moment, Taking}
+use Rattle.rt_native_laws.specs.Moments.{Last, Began, HasBegun, HasRead, IsTaken, Moment, Taking}
 use Rattle.rt_sim.specs.Inside.Coupling.{Part, Coupling, configuration_of, handled_irq, jobs_of, runner_of}
 use Rattle.rt_sim.specs.Inside.CouplingInvariant.{IsStacked}
 use Rattle.rt_sim.specs.Inside.PartInvariant.{who, AreApart, PartReads}
@@ -59,9 +59,10 @@ abbrev pub IsFreeBelow : List Input → List Taking → List Context → ℕ →
 IsFreeBelow inputs takings below cell = IsCellOf inputs (λ irq. IsStillToBegin irq takings below) cell
 
 -- what has done something has begun
-pub gone_on : (irq : ℕ) (below : List Context) (last : Last) → last ≢ Began → HasBegun irq below last → ⊥
+pub gone_on : (irq : ℕ) (below : List Context) (last : Last) → (IsTaken last → ⊥) → HasBegun irq below last → ⊥
 gone_on irq [] last other begun = begun
-gone_on irq (x ∷ below) Began other begun = other refl
+gone_on irq (x ∷ below) Began other begun = other tt
+gone_on irq (x ∷ below) (HasRead input word) other begun = other tt
 gone_on irq (x ∷ below) last other begun = begun
 
 is_wait : (i : Instr) → (i ≡ instr.Wait) ⊎ (i ≢ instr.Wait)
@@ -76,6 +77,16 @@ module _ (app : App) (img : Image) (accepted : IsAccepted app) (is_image : IsIma
     role : part.role ≡ Serving irq
     priority : priority_of app irq ≡ part.priority
 
+  taken_job : (P : Part → Type 0) (irq : ℕ) (p q : Part) (ps : List Part) (v : Seen) (vs : List Seen)
+      → StackWell app (jobs_of p (q ∷ ps)) (v ∷ vs) → IsStacked app img is_image.at.idle p (q ∷ ps) → P p
+      → HasBegun irq (contexts_of app.bits p (q ∷ ps)) Began → ServesThis P irq
+  taken_job P irq p q ps v vs well stack holds begun =
+      let role : p.role ≡ Serving irq =
+      stack.0.serves ∙ ap Serving (sym (ap handled_irq stack.0.serves) ∙ begun) in
+      let above : IsAbove app (Serving irq) p.priority (jobs_of q ps) =
+      subst (λ r. IsAbove app r p.priority (jobs_of q ps)) role well.1 in
+      record { part = p; holds = holds; role = role; priority = above.0 }
+
   -- an interrupted handler that has done nothing yet is a job, of which this holds
   its_job : (P : Part → Type 0) (irq : ℕ) (p : Part) (ps : List Part) (vs : List Seen) (last : Last)
       → StackWell app (jobs_of p ps) vs → IsStacked app img is_image.at.idle p ps → P p
@@ -83,11 +94,9 @@ module _ (app : App) (img : Image) (accepted : IsAccepted app) (is_image : IsIma
   its_job P irq p [] vs last well stack holds begun = absurd begun
   its_job P irq p (q ∷ ps) [] last well stack holds begun = absurd well
   its_job P irq p (q ∷ ps) (v ∷ vs) Began well stack holds begun =
-      let role : p.role ≡ Serving irq =
-      stack.0.serves ∙ ap Serving (sym (ap handled_irq stack.0.serves) ∙ begun) in
-      let above : IsAbove app (Serving irq) p.priority (jobs_of q ps) =
-      subst (λ r. IsAbove app r p.priority (jobs_of q ps)) role well.1 in
-      record { part = p; holds = holds; role = role; priority = above.0 }
+      taken_job P irq p q ps v vs well stack holds begun
+  its_job P irq p (q ∷ ps) (v ∷ vs) (HasRead input word) well stack holds begun =
+      taken_job P irq p q ps v vs well stack holds begun
   its_job P irq p (q ∷ ps) (v ∷ vs) last well stack holds begun = absurd begun
 
   job_below : (P : Part → Type 0) (irq : ℕ) (p : Part) (ps : List Part) (vs : List Seen) (takings : List Taking)

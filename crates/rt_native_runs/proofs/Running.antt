@@ -14,36 +14,30 @@ use Rattle.rt_laws.proofs.AllMoments.{runs_beside_keep_messages}
 use Rattle.rt_laws.proofs.Keeping.{runs_beside_keep_laws}
 use Rattle.rt_native.specs.Fitting.{Fits}
 use Rattle.rt_native.specs.Target.{Target}
-use Rattle.rt_native_laws.specs.FromReset.{IsAtReset, SimulatesFromReset}
+use Rattle.rt_native_laws.specs.FromReset.{IsAtReset, SimulatesFromReset, StandsAtReset}
+use Rattle.rt_native_laws.specs.Linked.{LiesLinked}
 use Rattle.rt_native_laws.specs.Moments.{AllCanHappen, Happening, at_reset}
-use Rattle.rt_native_laws.proofs.Early.{native_simulates_from_reset}
+use Rattle.rt_native_laws.specs.WithFunctions.{Functions, KeepToTheirs}
+use Rattle.rt_native_laws.proofs.Early.{linked_simulates_from_reset, native_simulates_from_reset}
 use Rattle.rt_native_laws.proofs.Throughout.{every_list_is_simulated}
 use Rattle.rt_thumb.specs.Machine.{Machine}
 use Rattle.rt_thumb.specs.Step.{Program}
 use Rattle.rt_native_runs.specs.Laws.{WritesLocal, fits}
 use Rattle.rt_native_runs.specs.Lying.{LiesWell}
-use Rattle.rt_native_runs.specs.Running.{IsChip, IsBakersRun, IsWired, ProgramsRunAsImages, RunsFromReset}
+use Rattle.rt_native_runs.specs.Running.{IsBakersRun, IsChip, IsWired, LinkedProgramsRunAsImages}
+use Rattle.rt_native_runs.specs.Running.{ProgramsRunAsImages, RunsBesideFunctions, RunsFromReset}
 use Rattle.rt_native_runs.proofs.Behaving.{behaves, reaches}
-use Rattle.rt_native_runs.proofs.Chips.{image_for, mapped}
+use Rattle.rt_native_runs.proofs.Chips.{fit_for, image_for, mapped}
 use Rattle.rt_native_runs.proofs.Lies.{images_lie_well}
 
 module _ (app : App) (img : Image) (target : Target) (p : Program) (accepted : IsAccepted app)
     (is_image : IsImageOf app img) (built : IsBuilt app img) (runnable : IsRunnable img) (chip : IsChip target)
-    (room : Fits img target) (wired : AllByRecursion (IsWired app) target.inputs) (no_functions : target.calls ≡ [])
-    (m : Machine) (start : IsAtReset img target p m) where
+    (room : Fits img target) (wired : AllByRecursion (IsWired app) target.inputs) where
   lies : LiesWell img
   lies = images_lie_well app img accepted built
 
   given : AllByRecursion (WritesLocal app) target.inputs
   given = all_weaker (IsWired app) (WritesLocal app) (λ input is. is.writes) target.inputs wired
-
-  simulates : SimulatesFromReset img target p (fits app img) m
-  simulates =
-      native_simulates_from_reset img target p (fits app img) m
-      (image_for app img accepted is_image target p runnable chip room wired no_functions)
-      (mapped img target p chip room)
-      (behaves app img target.inputs accepted is_image given lies)
-      start
 
   -- what happens to the image is a run of Baker's machine
   run_of : (happened : List Happening) → AllCanHappen img target.inputs (at_reset img) happened
@@ -60,13 +54,40 @@ module _ (app : App) (img : Image) (target : Target) (p : Program) (accepted : I
         stack_within = ends.within;
       }
 
-  runs_from_reset : RunsFromReset app img target p m
-  runs_from_reset = record {
-    simulated = λ events may.
-        every_list_is_simulated img target p (fits app img) m simulates events may.early may.numbered may.few;
+  -- where no function is called
+  module _ (no_functions : target.calls ≡ []) (m : Machine) (start : IsAtReset img target p m) where
+    simulates : SimulatesFromReset img target p (fits app img) m
+    simulates =
+        native_simulates_from_reset img target p (fits app img) m
+        (image_for app img accepted is_image target p runnable chip room wired no_functions)
+        (mapped img target p chip room)
+        (behaves app img target.inputs accepted is_image given lies)
+        start
+
+    runs_from_reset : RunsFromReset app img target p m
+    runs_from_reset = record {
+      simulated = λ events may.
+          every_list_is_simulated img target p (fits app img) m simulates events may.early may.numbered may.changes
+          may.few;
+      runs = run_of;
+    }
+
+  -- beside functions
+  runs_beside : (functions : Functions) → KeepToTheirs img target functions p → (m : Machine)
+      → LiesLinked img target p m → StandsAtReset img target p m → RunsBesideFunctions app img target functions p m
+  runs_beside functions keep m linked start = record {
+    simulated = linked_simulates_from_reset img target functions p (fits app img) m
+        (fit_for app img accepted is_image target p runnable chip room wired)
+        (mapped img target p chip room)
+        (behaves app img target.inputs accepted is_image given lies) linked start keep;
     runs = run_of;
   }
 
 pub programs_run_as_images : ProgramsRunAsImages
 programs_run_as_images app img target p accepted is_image built runnable chip room wired no_functions m start =
     runs_from_reset app img target p accepted is_image built runnable chip room wired no_functions m start
+
+pub linked_programs_run_as_images : LinkedProgramsRunAsImages
+linked_programs_run_as_images app img target accepted is_image built runnable chip room wired functions p keep m linked
+    start =
+    runs_beside app img target p accepted is_image built runnable chip room wired functions keep m linked start

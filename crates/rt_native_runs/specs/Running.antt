@@ -22,11 +22,14 @@ use Rattle.rt_native.specs.Fitting.{Fits, IsRegion}
 use Rattle.rt_native.specs.Target.{Target}
 use Rattle.rt_native.specs.declared.target.Input.{Input}
 use Rattle.rt_native.specs.declared.target.Region.{Region}
-use Rattle.rt_native_laws.specs.FromReset.{AreNumbered, HasNoTickAtFirst, IsAtReset}
+use Rattle.rt_native_laws.specs.Devices.{ChangeDevices}
+use Rattle.rt_native_laws.specs.FromReset.{AreNumbered, HasNoTickAtFirst, IsAtReset, StandsAtReset}
+use Rattle.rt_native_laws.specs.Linked.{LiesLinked}
 use Rattle.rt_native_laws.specs.Moments.{AllCanHappen, Happening, Puts as PutsInto, at_reset}
 use Rattle.rt_native_laws.specs.Moments.{moment_after_all, shown}
 use Rattle.rt_native_laws.specs.Simulating.{ticks}
 use Rattle.rt_native_laws.specs.Throughout.{IsSimulated}
+use Rattle.rt_native_laws.specs.WithFunctions.{Functions, KeepToTheirs, SimulatesFromResetBeside}
 use Rattle.rt_native_runs.specs.Laws.{WritesLocal, fits}
 use Rattle.rt_thumb.specs.Machine.{Machine}
 use Rattle.rt_thumb.specs.Step.{Program, Event}
@@ -63,10 +66,12 @@ PutOnly IsSuch (Puts local word ∷ moves) = IsSuch local word × PutOnly IsSuch
 
 module _ (app : App) (img : Image) (target : Target) (p : Program) where
   -- What may come from reset on: numbers of interrupts; no tick before the first instruction, as SysTick does not count
-  -- yet; and so few ticks that the time does not come to the word that stands for no alarm.
+  -- yet; words of devices that change; and so few ticks that the time does not come to the word that stands for no
+  -- alarm.
   pub record MayCome (events : List Event) : Type 0 where
     pub numbered : AreNumbered events
     pub early : HasNoTickAtFirst events
+    pub changes : ChangeDevices target events
     pub few : ticks events + 3 < 2 ^ 32
 
   -- What the image shows as these things happen to it is a run of Baker's machine on the application, beside devices that
@@ -82,16 +87,17 @@ module _ (app : App) (img : Image) (target : Target) (p : Program) where
     pub stack_within : depth img (moment_after_all img (at_reset img) happened).core ≤ stack_bytes app
 
   -- At every list of events from reset on the processor does what the image does, event after event: no fault comes, the
-  -- same interrupts arrive, others see what the image shows, and the stack is no deeper than the image's, but for a
-  -- tick's frame. It is so as long as what happens to the image fits: declared interrupts alone arrive, and the counts of
-  -- a monotonic are below 2 ^ 31. And where it fits, what the image shows is a run of Baker's machine.
+  -- same interrupts arrive, words of inputs are what their registers held as they were loaded, others see what the image
+  -- shows, and the stack is no deeper than the image's, but for a tick's frame. It is so as long as what happens to the
+  -- image fits: declared interrupts alone arrive, and the counts of a monotonic are below 2 ^ 31. And where it fits, what
+  -- the image shows is a run of Baker's machine.
   pub record RunsFromReset (m : Machine) : Type 0 where
     pub simulated : (events : List Event) → MayCome events → IsSimulated img target p (fits app img) m events
     pub runs : (happened : List Happening) → AllCanHappen img target.inputs (at_reset img) happened
         → fits app img happened ≡ true → IsBakersRun happened
 
   -- The image's program does so, whatever else is in RAM as reset begins. It is not said of programs that call functions
-  -- of C, which are made elsewhere.
+  -- of C, which are made elsewhere: of those it is below.
   abbrev pub ProgramRuns : Type 0
   ProgramRuns = target.calls ≡ [] → (m : Machine) → IsAtReset img target p m → RunsFromReset m
 
@@ -102,3 +108,26 @@ ProgramsRunAsImages =
     (app : App) (img : Image) (target : Target) (p : Program) → IsAccepted app → IsImageOf app img → IsBuilt app img
     → IsRunnable img → IsChip target → Fits img target → AllByRecursion (IsWired app) target.inputs
     → ProgramRuns app img target p
+
+-- The program of an object that is linked with functions of C does so beside these functions, at each event and each
+-- machine instruction of a function, from reset on, as long as what happens to the image fits; and where it fits, what
+-- the image shows is a run of Baker's machine. What the functions do is a premise: each one's machine instructions are
+-- harmless, it comes back as is agreed, and it keeps to what is its own (rt_native_laws, Functions.antt).
+pub record RunsBesideFunctions (app : App) (img : Image) (target : Target) (functions : Functions) (p : Program)
+    (m : Machine) : Type 0 where
+  pub simulated : SimulatesFromResetBeside img target functions p (fits app img) m
+  pub runs : (happened : List Happening) → AllCanHappen img target.inputs (at_reset img) happened
+      → fits app img happened ≡ true → IsBakersRun app img target p happened
+
+-- It is so of each program that lies in memory as an object of the image does that is linked with such functions, on each
+-- processor as reset leaves it.
+abbrev pub LinkedRuns : App → Image → Target → Type 0
+LinkedRuns app img target =
+    (functions : Functions) (p : Program) → KeepToTheirs img target functions p → (m : Machine)
+    → LiesLinked img target p m → StandsAtReset img target p m → RunsBesideFunctions app img target functions p m
+
+abbrev pub LinkedProgramsRunAsImages : Type 0
+LinkedProgramsRunAsImages =
+    (app : App) (img : Image) (target : Target) → IsAccepted app → IsImageOf app img → IsBuilt app img
+    → IsRunnable img → IsChip target → Fits img target → AllByRecursion (IsWired app) target.inputs
+    → LinkedRuns app img target

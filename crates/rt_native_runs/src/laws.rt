@@ -2,7 +2,7 @@
 
 ghost use Rattle.rt_native_runs.specs.FromFile.{FilesRunAsImages};
 ghost use Rattle.rt_native_runs.specs.Laws.{ImagesBehave, ImagesLieWell};
-ghost use Rattle.rt_native_runs.specs.Running.{ProgramsRunAsImages};
+ghost use Rattle.rt_native_runs.specs.Running.{LinkedProgramsRunAsImages, ProgramsRunAsImages};
 
 /// The parts of the image that `build` makes of an accepted application lie well: control stays within a part, each
 /// begins with the frame of its row, bodies are called from frames of sixteen words, and alarms pend one interrupt.
@@ -18,13 +18,21 @@ pub fn images_behave()
 {}
 
 /// The program of the image that `build` makes of an accepted application does, from reset on, what the image does, at
-/// each event of every list, whatever interrupts arrive between any two machine instructions: there is no fault; the same
-/// arrives, and others see what the image shows; and the stack is no deeper, but for a tick's frame. It is so as long as
+/// each event of every list, whatever interrupts arrive and whatever devices change in their registers between any two
+/// machine instructions: there is no fault; the same arrives, words of inputs are what their registers held as they were
+/// loaded, and others see what the image shows; and the stack is no deeper, but for a tick's frame. It is so as long as
 /// what happens to the image fits: then what it shows is a run of Baker's machine beside devices, with its three
 /// properties, messages are kept, and the stack is within the printed bound. It is not said of programs that call
-/// functions of C.
+/// functions of C: of those it is below.
 pub fn programs_run_as_images()
     ensures { ProgramsRunAsImages }
+{}
+
+/// The program of an object that is linked with functions of C does so beside these functions, which may be interrupted
+/// between any two of their machine instructions: each is called as the procedure call standard has it, with its part
+/// of the stack within the printed bound. That each keeps to what is its own, and comes back, is a premise.
+pub fn linked_programs_run_as_images()
+    ensures { LinkedProgramsRunAsImages }
 {}
 
 /// Each processor whose memory holds the file of that image, as reset ends, does so: what flash has then is the image's

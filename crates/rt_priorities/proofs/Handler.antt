@@ -21,6 +21,7 @@ use Rattle.rt_thumb.specs.declared.instruction.Instruction.{Instruction}
 use Rattle.rt_thumb.specs.declared.instruction.Instruction.TheVariants as instruction
 use Rattle.rt_thumb_laws.specs.Undisturbed.{RunAtTop}
 use Rattle.rt_priorities.specs.Lying.{LieFrom}
+use Rattle.rt_priorities.specs.Setting.{IsOutsideSystem}
 use Rattle.rt_priorities.specs.Ticking.{LeavesStack}
 use Rattle.rt_priorities.proofs.Pieces.{halves}
 use Rattle.rt_priorities.proofs.Running.{Place, IsHere, IsKept, Lead, put_word, with_value, further, made}
@@ -67,26 +68,29 @@ asked irq k = record k {
   address = k.address + size (encode (instruction.Store 1 0 0));
 }
 
-module _ (p : Program) (entry : Machine) (rest : List ℕ) (runs : entry.active ≡ systick ∷ rest) where
+module _ (p : Program) (foreign : ℕ → Bool) (outside : IsOutsideSystem foreign) (entry : Machine) (rest : List ℕ)
+    (runs : entry.active ≡ systick ∷ rest) where
   -- a register gets an address
-  address_leads : (n : ℕ) (is : List Instruction) (h : Place) (P : Machine → Type 0) → IsKept p entry rest runs h
+  address_leads : (n : ℕ) (is : List Instruction) (h : Place) (P : Machine → Type 0)
+      → IsKept p foreign outside entry rest runs h
       → LieFrom p h.address (address 0 n ++ is)
       → (LieFrom p (h.address + 4 + 4) is
-      → Lead p entry rest runs is (record h { address = h.address + 4 + 4; r0 = n }) P)
-      → Lead p entry rest runs (address 0 n ++ is) h P
+      → Lead p foreign outside entry rest runs is (record h { address = h.address + 4 + 4; r0 = n }) P)
+      → Lead p foreign outside entry rest runs (address 0 n ++ is) h P
   unfolding address
   address_leads n is h P kept code more =
-      then_lead p entry rest runs (instruction.MoveWide 0 (n % 2 ^ 16)) (instruction.MoveTop 0 (n / 2 ^ 16) ∷ is) h
-      (further (instruction.MoveWide 0 (n % 2 ^ 16)) (with_value 0 (n % 2 ^ 16) h)) P kept code.0
+      then_lead p foreign outside entry rest runs (instruction.MoveWide 0 (n % 2 ^ 16)) (instruction.MoveTop 0
+      (n / 2 ^ 16) ∷ is) h
+      (further (instruction.MoveWide 0 (n % 2 ^ 16)) (with_value 0 (n % 2 ^ 16) h)) P kept code.0 (λ k here w f. tt)
       (λ k here. (
         made (instruction.MoveWide 0 (n % 2 ^ 16)) 0 (n % 2 ^ 16) k.flags k,
         refl,
         is_made entry h k here (instruction.MoveWide 0 (n % 2 ^ 16)) 0 (n % 2 ^ 16) (n % 2 ^ 16) k.flags (omega arith)
             refl,
       ))
-      (then_lead p entry rest runs (instruction.MoveTop 0 (n / 2 ^ 16)) is
+      (then_lead p foreign outside entry rest runs (instruction.MoveTop 0 (n / 2 ^ 16)) is
       (further (instruction.MoveWide 0 (n % 2 ^ 16)) (with_value 0 (n % 2 ^ 16) h))
-      (record h { address = h.address + 4 + 4; r0 = n }) P kept code.1.0
+      (record h { address = h.address + 4 + 4; r0 = n }) P kept code.1.0 (λ k here w f. tt)
       (λ k here. (
         made (instruction.MoveTop 0 (n / 2 ^ 16)) 0 (n / 2 ^ 16 * 2 ^ 16 + k.register 0 % 2 ^ 16) k.flags k,
         refl,
@@ -97,15 +101,18 @@ module _ (p : Program) (entry : Machine) (rest : List ℕ) (runs : entry.active 
       (more code.1.1))
 
   -- a word is loaded from an address, by r0
-  load_leads : (t n a v : ℕ) (is : List Instruction) (h : Place) (P : Machine → Type 0) → IsKept p entry rest runs h
-      → t < 4 → h.r0 + n ≡ a → a < 2 ^ 32 → a % 4 ≡ 0 → h.memory (a / 4) ≡ v
+  load_leads : (t n a v : ℕ) (is : List Instruction) (h : Place) (P : Machine → Type 0)
+      → IsKept p foreign outside entry rest runs h
+      → t < 4 → h.r0 + n ≡ a → a < 2 ^ 32 → a % 4 ≡ 0 → ((w : ℕ) → foreign w ≡ true → w ≢ a / 4) → h.memory (a / 4) ≡ v
       → LieFrom p h.address (instruction.Load t 0 n ∷ is)
       → (LieFrom p (h.address + 2) is
-      → Lead p entry rest runs is (further (instruction.Load t 0 n) (with_value t v h)) P)
-      → Lead p entry rest runs (instruction.Load t 0 n ∷ is) h P
-  load_leads t n a v is h P kept low at small whole there code more =
-      then_lead p entry rest runs (instruction.Load t 0 n) is h
+      → Lead p foreign outside entry rest runs is (further (instruction.Load t 0 n) (with_value t v h)) P)
+      → Lead p foreign outside entry rest runs (instruction.Load t 0 n ∷ is) h P
+  load_leads t n a v is h P kept low at small whole clear there code more =
+      then_lead p foreign outside entry rest runs (instruction.Load t 0 n) is h
       (further (instruction.Load t 0 n) (with_value t v h)) P kept code.0
+      (λ k here w f e. clear w f (e ∙ ap (λ x. x / 4) (ap (λ x. word (x + n)) here.r0
+      ∙ (ap word at ∙ is_word a small))))
       (λ k here. (
         made (instruction.Load t 0 n) t (word_at k a) k.flags k,
         ap (λ x. loading (instruction.Load t 0 n) t (word x) k) (ap (λ x. x + n) here.r0 ∙ at)
@@ -121,15 +128,19 @@ module _ (p : Program) (entry : Machine) (rest : List ℕ) (runs : entry.active 
 
   -- a word is stored that is no register of the interrupt controller, nor the port, by r0
   store_leads : (t n a v : ℕ) (is : List Instruction) (h : Place) (P : Machine → Type 0)
-      → IsKept p entry rest runs h → ((k : Machine) → IsHere entry h k → k.register t ≡ v) → h.r0 + n ≡ a
-      → a < 0xE0000000 → a % 4 ≡ 0 → (a ≡ p.port → ⊥) → LieFrom p h.address (instruction.Store t 0 n ∷ is)
+      → IsKept p foreign outside entry rest runs h → ((k : Machine) → IsHere entry h k → k.register t ≡ v)
+      → h.r0 + n ≡ a
+      → a < 0xE0000000 → a % 4 ≡ 0 → ((w : ℕ) → foreign w ≡ true → w ≢ a / 4) → (a ≡ p.port → ⊥)
+      → LieFrom p h.address (instruction.Store t 0 n ∷ is)
       → (LieFrom p (h.address + 2) is
-      → Lead p entry rest runs is
+      → Lead p foreign outside entry rest runs is
       (further (instruction.Store t 0 n) (record h { memory = put_word a v h.memory })) P)
-      → Lead p entry rest runs (instruction.Store t 0 n ∷ is) h P
-  store_leads t n a v is h P kept holds at small whole apart code more =
-      then_lead p entry rest runs (instruction.Store t 0 n) is h
+      → Lead p foreign outside entry rest runs (instruction.Store t 0 n ∷ is) h P
+  store_leads t n a v is h P kept holds at small whole clear apart code more =
+      then_lead p foreign outside entry rest runs (instruction.Store t 0 n) is h
       (further (instruction.Store t 0 n) (record h { memory = put_word a v h.memory })) P kept code.0
+      (λ k here w f e. clear w f (e ∙ ap (λ x. x / 4) (ap (λ x. word (x + n)) here.r0
+      ∙ (ap word at ∙ is_word a small))))
       (λ k here. (
         record k {
           memory = put_word a (k.register t) k.memory;
@@ -161,14 +172,15 @@ module _ (p : Program) (entry : Machine) (rest : List ℕ) (runs : entry.active 
           (and_left (nat_le 0xE000E100 a) (nat_lt a 0xE000E140) (lt-leb 0xE000E100 a (omega arith)))
 
   -- 1 is added to r1
-  add_leads : (v : ℕ) (is : List Instruction) (h : Place) (P : Machine → Type 0) → IsKept p entry rest runs h
+  add_leads : (v : ℕ) (is : List Instruction) (h : Place) (P : Machine → Type 0)
+      → IsKept p foreign outside entry rest runs h
       → h.r1 + 1 ≡ v → v < 2 ^ 32 → LieFrom p h.address (instruction.AddNumber 1 1 ∷ is)
       → (LieFrom p (h.address + 2) is
-      → Lead p entry rest runs is (further (instruction.AddNumber 1 1) (with_value 1 v h)) P)
-      → Lead p entry rest runs (instruction.AddNumber 1 1 ∷ is) h P
+      → Lead p foreign outside entry rest runs is (further (instruction.AddNumber 1 1) (with_value 1 v h)) P)
+      → Lead p foreign outside entry rest runs (instruction.AddNumber 1 1 ∷ is) h P
   add_leads v is h P kept sum small code more =
-      then_lead p entry rest runs (instruction.AddNumber 1 1) is h
-      (further (instruction.AddNumber 1 1) (with_value 1 v h)) P kept code.0
+      then_lead p foreign outside entry rest runs (instruction.AddNumber 1 1) is h
+      (further (instruction.AddNumber 1 1) (with_value 1 v h)) P kept code.0 (λ k here w f. tt)
       (λ k here. (
         made (instruction.AddNumber 1 1) 1 ((k.register 1 + 1 + 0) % 2 ^ 32)
             (flags_of_sum (add_with_carry (k.register 1) 1 false)) k,
@@ -182,14 +194,14 @@ module _ (p : Program) (entry : Machine) (rest : List ℕ) (runs : entry.active 
       is_word x sum = omega arith
 
   -- 2 ^ 32 - 1 in r2
-  ones_lead : (is : List Instruction) (h : Place) (P : Machine → Type 0) → IsKept p entry rest runs h
+  ones_lead : (is : List Instruction) (h : Place) (P : Machine → Type 0) → IsKept p foreign outside entry rest runs h
       → LieFrom p h.address (instruction.MoveNot 2 0 ∷ is)
       → (LieFrom p (h.address + 4) is
-      → Lead p entry rest runs is (further (instruction.MoveNot 2 0) (with_value 2 (2 ^ 32 - 1) h)) P)
-      → Lead p entry rest runs (instruction.MoveNot 2 0 ∷ is) h P
+      → Lead p foreign outside entry rest runs is (further (instruction.MoveNot 2 0) (with_value 2 (2 ^ 32 - 1) h)) P)
+      → Lead p foreign outside entry rest runs (instruction.MoveNot 2 0 ∷ is) h P
   ones_lead is h P kept code more =
-      then_lead p entry rest runs (instruction.MoveNot 2 0) is h
-      (further (instruction.MoveNot 2 0) (with_value 2 (2 ^ 32 - 1) h)) P kept code.0
+      then_lead p foreign outside entry rest runs (instruction.MoveNot 2 0) is h
+      (further (instruction.MoveNot 2 0) (with_value 2 (2 ^ 32 - 1) h)) P kept code.0 (λ k here w f. tt)
       (λ k here. (
         made (instruction.MoveNot 2 0) 2 (2 ^ 32 - 1) k.flags k,
         refl,
@@ -197,14 +209,15 @@ module _ (p : Program) (entry : Machine) (rest : List ℕ) (runs : entry.active 
       )) (more code.1)
 
   -- a number of 16 bits in r1
-  number_leads : (n : ℕ) (is : List Instruction) (h : Place) (P : Machine → Type 0) → IsKept p entry rest runs h
+  number_leads : (n : ℕ) (is : List Instruction) (h : Place) (P : Machine → Type 0)
+      → IsKept p foreign outside entry rest runs h
       → LieFrom p h.address (instruction.MoveWide 1 n ∷ is)
       → (LieFrom p (h.address + 4) is
-      → Lead p entry rest runs is (further (instruction.MoveWide 1 n) (with_value 1 n h)) P)
-      → Lead p entry rest runs (instruction.MoveWide 1 n ∷ is) h P
+      → Lead p foreign outside entry rest runs is (further (instruction.MoveWide 1 n) (with_value 1 n h)) P)
+      → Lead p foreign outside entry rest runs (instruction.MoveWide 1 n ∷ is) h P
   number_leads n is h P kept code more =
-      then_lead p entry rest runs (instruction.MoveWide 1 n) is h
-      (further (instruction.MoveWide 1 n) (with_value 1 n h)) P kept code.0
+      then_lead p foreign outside entry rest runs (instruction.MoveWide 1 n) is h
+      (further (instruction.MoveWide 1 n) (with_value 1 n h)) P kept code.0 (λ k here w f. tt)
       (λ k here. (
         made (instruction.MoveWide 1 n) 1 n k.flags k,
         refl,
@@ -212,18 +225,20 @@ module _ (p : Program) (entry : Machine) (rest : List ℕ) (runs : entry.active 
       )) (more code.1)
 
   -- an interrupt is pended
-  request_leads : (irq : ℕ) (is : List Instruction) (h : Place) (P : Machine → Type 0) → IsKept p entry rest runs h
+  request_leads : (irq : ℕ) (is : List Instruction) (h : Place) (P : Machine → Type 0)
+      → IsKept p foreign outside entry rest runs h
       → h.r0 ≡ STIR → h.r1 ≡ irq → irq < 2 ^ 9 → (STIR ≡ p.port → ⊥)
       → LieFrom p h.address (instruction.Store 1 0 0 ∷ is)
       → (LieFrom p (h.address + 2) is
-      → Lead p entry rest runs is
+      → Lead p foreign outside entry rest runs is
       (further (instruction.Store 1 0 0)
       (record h { pending = λ e. (e == external irq) || h.pending e; seen = Posted irq ∷ h.seen })) P)
-      → Lead p entry rest runs (instruction.Store 1 0 0 ∷ is) h P
+      → Lead p foreign outside entry rest runs (instruction.Store 1 0 0 ∷ is) h P
   request_leads irq is h P kept at holds small apart code more =
-      then_lead p entry rest runs (instruction.Store 1 0 0) is h
+      then_lead p foreign outside entry rest runs (instruction.Store 1 0 0) is h
       (further (instruction.Store 1 0 0)
       (record h { pending = λ e. (e == external irq) || h.pending e; seen = Posted irq ∷ h.seen })) P kept code.0
+      (λ k here w f e. no_request w f (e ∙ ap (λ x. x / 4) (ap (λ x. word (x + 0)) (here.r0 ∙ at))))
       (λ k here. (
         asked irq k,
         ap (λ x. storing p.port (instruction.Store 1 0 0) 1 (word (x + 0)) k) (here.r0 ∙ at)
@@ -232,6 +247,11 @@ module _ (p : Program) (entry : Machine) (rest : List ℕ) (runs : entry.active 
         is_requested entry h k here (instruction.Store 1 0 0) irq,
       )) (more code.1)
     where
+      no_request : (w : ℕ) → foreign w ≡ true → w ≡ 0xE000EF00 / 4 → ⊥
+      no_request w f e =
+          ⊎_elim (λ (y : 4 * w + 4 ≤ 0xE000E000). absurd (omega (arith, y, e)))
+          (λ (y : 0xE000F000 ≤ 4 * w). absurd (omega (arith, y, e))) (outside w f)
+
       is_irq : (x : ℕ) → x < 2 ^ 9 → x % 2 ^ 9 ≡ x
       is_irq x small = omega arith
 
@@ -247,14 +267,15 @@ module _ (p : Program) (entry : Machine) (rest : List ℕ) (runs : entry.active 
       posts k false is = refl
 
   -- r2 is compared with r1, and where it is greater a branch skips what follows
-  compare_leads : (x : ℕ) (is : List Instruction) (h g : Place) (P : Machine → Type 0) → IsKept p entry rest runs h
+  compare_leads : (x : ℕ) (is : List Instruction) (h g : Place) (P : Machine → Type 0)
+      → IsKept p foreign outside entry rest runs h
       → LieFrom p h.address (instruction.Operate operation.Compare 2 1 ∷ instruction.BranchIf condition.Higher x ∷ [])
       → ((k : Machine) → IsHere entry (record h { address = h.address + 2 }) k
       → k.flags ≡ compared h.r2 h.r1
       → (next : Machine) × (effect p.port (instruction.BranchIf condition.Higher x) k ≡ Some next)
       × IsHere entry g next)
-      → Lead p entry rest runs is g P
-      → Lead p entry rest runs
+      → Lead p foreign outside entry rest runs is g P
+      → Lead p foreign outside entry rest runs
       (instruction.Operate operation.Compare 2 1 ∷ instruction.BranchIf condition.Higher x ∷ is) h P
   compare_leads x is h g P kept code branches more k here =
       let i = instruction.Operate operation.Compare 2 1 in
@@ -268,13 +289,17 @@ module _ (p : Program) (entry : Machine) (rest : List ℕ) (runs : entry.active 
       let all = more one.0 one.2 in (
         all.0,
         (
-          here_is_top p entry rest runs h k kept here,
+          record { at_top = here_is_top p foreign outside entry rest runs h k kept here; apart = λ w f. tt },
           ap p.code here.address ∙ code.0,
           (
             next,
             refl,
             (
-              here_is_top p entry rest runs (record h { address = h.address + 2 }) next kept there,
+              record {
+                at_top = here_is_top p foreign outside entry rest runs (record h { address = h.address + 2 }) next kept
+                    there;
+                apart = λ w f. tt;
+              },
               ap p.code there.address ∙ code.1.0,
               (one.0, one.1, all.1),
             ),
@@ -285,12 +310,12 @@ module _ (p : Program) (entry : Machine) (rest : List ℕ) (runs : entry.active 
 
 -- how a handler comes to its last instruction, BX LR: by these instructions, to a place with this memory, with this
 -- pending, and others having seen this
-pub record ComesToItsEnd (p : Program) (entry : Machine) (memory : ℕ → ℕ) (pending : ℕ → Bool) (seen : List Seen)
-    : Type 0 where
+pub record ComesToItsEnd (p : Program) (foreign : ℕ → Bool) (entry : Machine) (memory : ℕ → ℕ) (pending : ℕ → Bool)
+    (seen : List Seen) : Type 0 where
   pub is : List Instruction
   pub late : Machine
   pub place : Place
-  pub run : RunAtTop p is entry late
+  pub run : RunAtTop p foreign is entry late
   pub here : IsHere entry place late
   pub code : p.code place.address ≡ Some (instruction.BranchExchange 14)
   pub has_memory : place.memory ≡ memory
@@ -348,14 +373,29 @@ calm_due : (at : Outside) (x irq : ℕ) → AllByRecursion LeavesStack (front at
 unfolding address
 calm_due at x irq = (tt, (tt, (tt, (tt, (tt, (tt, (tt, (tt, (tt, (tt, (tt, (tt, (tt, (tt, tt))))))))))))))
 
-module _ (p : Program) (entry : Machine) (rest : List ℕ) (runs : entry.active ≡ systick ∷ rest)
+module _ (p : Program) (foreign : ℕ → Bool) (outside : IsOutsideSystem foreign) (entry : Machine) (rest : List ℕ)
+    (runs : entry.active ≡ systick ∷ rest)
     (highest : byte_at entry 0xE000ED23 ≡ 0) (at : Outside) (time alarm : ℕ)
-    (words : AreWords at.time p.port entry time alarm) where
+    (words : AreWords at.time p.port entry time alarm)
+    (aside : (w : ℕ) → foreign w ≡ true → (4 * w + 4 ≤ at.time) ⊎ (at.time + 8 ≤ 4 * w)) where
   abbrev timed : ℕ → ℕ
   timed = with_time at.time time entry.memory
 
   abbrev rung : ℕ → ℕ
   rung = with_no_alarm at.time time entry.memory
+
+  -- neither word is foreign
+  time_clear : (w : ℕ) → foreign w ≡ true → w ≢ at.time / 4
+  time_clear w f e =
+      let whole = words.aligned in
+      ⊎_elim (λ (y : 4 * w + 4 ≤ at.time). absurd (omega (arith, y, e, whole)))
+      (λ (y : at.time + 8 ≤ 4 * w). absurd (omega (arith, y, e, whole))) (aside w f)
+
+  alarm_clear : (w : ℕ) → foreign w ≡ true → w ≢ (at.time + 4) / 4
+  alarm_clear w f e =
+      let whole = words.aligned in
+      ⊎_elim (λ (y : 4 * w + 4 ≤ at.time). absurd (omega (arith, y, e, whole)))
+      (λ (y : at.time + 8 ≤ 4 * w). absurd (omega (arith, y, e, whole))) (aside w f)
 
   timed_keeps : timed (0xE000ED23 / 4) ≡ entry.memory (0xE000ED23 / 4)
   timed_keeps =
@@ -409,34 +449,34 @@ module _ (p : Program) (entry : Machine) (rest : List ℕ) (runs : entry.active 
       → LieFrom p place (address 0 at.time
       ++ instruction.Load 1 0 0 ∷ instruction.AddNumber 1 1 ∷ instruction.Store 1 0 0 ∷ instruction.Load 2 0 4 ∷ is)
       → (LieFrom p (place + 4 + 4 + 2 + 2 + 2 + 2) is
-      → Lead p entry rest runs is (before_compare (place + 4 + 4 + 2 + 2 + 2 + 2)) P)
-      → Lead p entry rest runs (address 0 at.time
+      → Lead p foreign outside entry rest runs is (before_compare (place + 4 + 4 + 2 + 2 + 2 + 2)) P)
+      → Lead p foreign outside entry rest runs (address 0 at.time
       ++ instruction.Load 1 0 0 ∷ instruction.AddNumber 1 1 ∷ instruction.Store 1 0 0 ∷ instruction.Load 2 0 4 ∷ is)
       (begins place) P
   front_leads place is P code more =
       let low = words.in_memory in
       let whole = words.aligned in
-      address_leads p entry rest runs at.time
+      address_leads p foreign outside entry rest runs at.time
       (instruction.Load 1 0 0 ∷ instruction.AddNumber 1 1 ∷ instruction.Store 1 0 0 ∷ instruction.Load 2 0 4 ∷ is)
       (begins place) P (refl, highest) code (λ code1.
-      load_leads p entry rest runs 1 0 at.time time
+      load_leads p foreign outside entry rest runs 1 0 at.time time
       (instruction.AddNumber 1 1 ∷ instruction.Store 1 0 0 ∷ instruction.Load 2 0 4 ∷ is)
       (record (begins place) { address = place + 4 + 4; r0 = at.time }) P (refl, highest) (omega arith)
-      (add-zero at.time) (omega arith) whole words.time code1 (λ code2.
-      add_leads p entry rest runs (time + 1) (instruction.Store 1 0 0 ∷ instruction.Load 2 0 4 ∷ is)
+      (add-zero at.time) (omega arith) whole time_clear words.time code1 (λ code2.
+      add_leads p foreign outside entry rest runs (time + 1) (instruction.Store 1 0 0 ∷ instruction.Load 2 0 4 ∷ is)
       (record (begins place) { address = place + 4 + 4 + 2; r0 = at.time; r1 = time }) P (refl, highest) refl
       words.time_is_word code2 (λ code3.
-      store_leads p entry rest runs 1 0 at.time (time + 1) (instruction.Load 2 0 4 ∷ is)
+      store_leads p foreign outside entry rest runs 1 0 at.time (time + 1) (instruction.Load 2 0 4 ∷ is)
       (record (begins place) { address = place + 4 + 4 + 2 + 2; r0 = at.time; r1 = time + 1 }) P (refl, highest)
-      (λ k here. here.r1) (add-zero at.time) (omega arith) whole
+      (λ k here. here.r1) (add-zero at.time) (omega arith) whole time_clear
       (apart_from at.time p.port at.time words.port_is_elsewhere (omega arith) (omega arith)) code3 (λ code4.
-      load_leads p entry rest runs 2 4 (at.time + 4) alarm is
+      load_leads p foreign outside entry rest runs 2 4 (at.time + 4) alarm is
       (record (begins place) {
         address = place + 4 + 4 + 2 + 2 + 2;
         r0 = at.time;
         r1 = time + 1;
         memory = timed;
-      }) P (timed_keeps, highest) (omega arith) refl (omega arith) (omega arith) alarm_stays code4 more))))
+      }) P (timed_keeps, highest) (omega arith) refl (omega arith) (omega arith) alarm_clear alarm_stays code4 more))))
 
   at_start : (place : ℕ) → entry.address ≡ place → IsHere entry (begins place) entry
   at_start place there = record {
@@ -454,13 +494,14 @@ module _ (p : Program) (entry : Machine) (rest : List ℕ) (runs : entry.active 
   pub quiet_end : (place x end : ℕ) → entry.address ≡ place → LieFrom p place (front at x [])
       → word (place + 4 + 4 + 2 + 2 + 2 + 2 + 2 + 4 + x) ≡ end
       → p.code end ≡ Some (instruction.BranchExchange 14) → time + 1 < alarm
-      → ComesToItsEnd p entry (with_time at.time time entry.memory) entry.is_pending entry.seen
+      → ComesToItsEnd p foreign entry (with_time at.time time entry.memory) entry.is_pending entry.seen
   quiet_end place x end there code leads last future =
       let small = words.alarm_is_word in
       let led = front_leads place
       (instruction.Operate operation.Compare 2 1 ∷ instruction.BranchIf condition.Higher x ∷ [])
       (IsHere entry (before_compare end)) code (λ code1.
-      compare_leads p entry rest runs x [] (before_compare (place + 4 + 4 + 2 + 2 + 2 + 2)) (before_compare end)
+      compare_leads p foreign outside entry rest runs x [] (before_compare (place + 4 + 4 + 2 + 2 + 2 + 2))
+      (before_compare end)
       (IsHere entry (before_compare end)) (timed_keeps, highest) code1 (λ k here flags. (
         record k { address = word (k.address + 4 + x) },
         ap (λ f. if holds condition.Higher f then branched x k else behind (instruction.BranchIf condition.Higher x) k)
@@ -469,7 +510,7 @@ module _ (p : Program) (entry : Machine) (rest : List ℕ) (runs : entry.active 
             (is_higher alarm (time + 1) small future),
         is_at entry (before_compare (place + 4 + 4 + 2 + 2 + 2 + 2 + 2)) k here (word (k.address + 4 + x)) end
             (ap (λ a. word (a + 4 + x)) here.address ∙ leads),
-      )) (none_lead p entry rest runs (before_compare end))) entry (at_start place there) in
+      )) (none_lead p foreign outside entry rest runs (before_compare end))) entry (at_start place there) in
       record {
         is = front at x [];
         late = led.0;
@@ -496,28 +537,28 @@ module _ (p : Program) (entry : Machine) (rest : List ℕ) (runs : entry.active 
   }
 
   due_leads : (irq from : ℕ) → irq < 2 ^ 9 → LieFrom p from (due irq)
-      → Lead p entry rest runs (due irq) (before_compare from)
+      → Lead p foreign outside entry rest runs (due irq) (before_compare from)
       (IsHere entry (after_due (from + 4 + 2 + 4 + 4 + 4 + 2) irq))
   due_leads irq from small code =
       let low = words.in_memory in
       let whole = words.aligned in
-      ones_lead p entry rest runs
+      ones_lead p foreign outside entry rest runs
       (instruction.Store 2 0 4 ∷ instruction.MoveWide 1 irq ∷ address 0 STIR ++ instruction.Store 1 0 0 ∷ [])
       (before_compare from) (IsHere entry (after_due (from + 4 + 2 + 4 + 4 + 4 + 2) irq)) (timed_keeps, highest) code
       (λ code1.
-      store_leads p entry rest runs 2 4 (at.time + 4) (2 ^ 32 - 1)
+      store_leads p foreign outside entry rest runs 2 4 (at.time + 4) (2 ^ 32 - 1)
       (instruction.MoveWide 1 irq ∷ address 0 STIR ++ instruction.Store 1 0 0 ∷ [])
       (record (before_compare from) { address = from + 4; r2 = 2 ^ 32 - 1 })
       (IsHere entry (after_due (from + 4 + 2 + 4 + 4 + 4 + 2) irq)) (timed_keeps, highest) (λ k here. here.r2) refl
-      (omega arith) (omega arith)
+      (omega arith) (omega arith) alarm_clear
       (apart_from at.time p.port (at.time + 4) words.port_is_elsewhere (omega arith) (omega arith)) code1 (λ code2.
-      number_leads p entry rest runs irq (address 0 STIR ++ instruction.Store 1 0 0 ∷ [])
+      number_leads p foreign outside entry rest runs irq (address 0 STIR ++ instruction.Store 1 0 0 ∷ [])
       (record (before_compare from) { address = from + 4 + 2; r2 = 2 ^ 32 - 1; memory = rung })
       (IsHere entry (after_due (from + 4 + 2 + 4 + 4 + 4 + 2) irq)) (rung_keeps, highest) code2 (λ code3.
-      address_leads p entry rest runs STIR (instruction.Store 1 0 0 ∷ [])
+      address_leads p foreign outside entry rest runs STIR (instruction.Store 1 0 0 ∷ [])
       (record (before_compare from) { address = from + 4 + 2 + 4; r1 = irq; r2 = 2 ^ 32 - 1; memory = rung })
       (IsHere entry (after_due (from + 4 + 2 + 4 + 4 + 4 + 2) irq)) (rung_keeps, highest) code3 (λ code4.
-      request_leads p entry rest runs irq []
+      request_leads p foreign outside entry rest runs irq []
       (record (before_compare from) {
         address = from + 4 + 2 + 4 + 4 + 4;
         r0 = STIR;
@@ -526,12 +567,12 @@ module _ (p : Program) (entry : Machine) (rest : List ℕ) (runs : entry.active 
         memory = rung;
       }) (IsHere entry (after_due (from + 4 + 2 + 4 + 4 + 4 + 2) irq)) (rung_keeps, highest) refl refl small
       (λ same. words.port_is_no_request (sym same)) code4
-      (λ code5. none_lead p entry rest runs (after_due (from + 4 + 2 + 4 + 4 + 4 + 2) irq))))))
+      (λ code5. none_lead p foreign outside entry rest runs (after_due (from + 4 + 2 + 4 + 4 + 4 + 2) irq))))))
 
   pub due_end : (place x irq : ℕ) → entry.address ≡ place → LieFrom p place (front at x (due irq))
       → p.code (place + 4 + 4 + 2 + 2 + 2 + 2 + 2 + 4 + 4 + 2 + 4 + 4 + 4 + 2) ≡ Some (instruction.BranchExchange 14)
       → irq < 2 ^ 9 → alarm ≤ time + 1
-      → ComesToItsEnd p entry (with_no_alarm at.time time entry.memory)
+      → ComesToItsEnd p foreign entry (with_no_alarm at.time time entry.memory)
       (λ e. (e == external irq) || entry.is_pending e) (Posted irq ∷ entry.seen)
   due_end place x irq there code last small now =
       let word = words.time_is_word in
@@ -539,7 +580,7 @@ module _ (p : Program) (entry : Machine) (rest : List ℕ) (runs : entry.active 
       let led = front_leads place
       (instruction.Operate operation.Compare 2 1 ∷ instruction.BranchIf condition.Higher x ∷ due irq)
       (IsHere entry (after_due (from + 4 + 2 + 4 + 4 + 4 + 2) irq)) code (λ code1.
-      compare_leads p entry rest runs x (due irq) (before_compare (place + 4 + 4 + 2 + 2 + 2 + 2))
+      compare_leads p foreign outside entry rest runs x (due irq) (before_compare (place + 4 + 4 + 2 + 2 + 2 + 2))
       (before_compare from) (IsHere entry (after_due (from + 4 + 2 + 4 + 4 + 4 + 2) irq)) (timed_keeps, highest)
       (code1.0, (code1.1.0, tt)) (λ k here flags. (
         record k { address = k.address + 4 },

@@ -81,12 +81,12 @@ module _ (m : Machine) (small : (k : ℕ) → m.memory k < 2 ^ 32) where
       (omega (arith, l))
 
 -- so many bytes make words
-words_long : (ws : List ℕ) → length (flat_map elf.word ws) ≡ 4 * length ws
+pub words_long : (ws : List ℕ) → length (flat_map elf.word ws) ≡ 4 * length ws
 words_long [] = refl
 words_long (w ∷ ws) = let rest = words_long ws in omega (arith, rest)
 
 -- instructions by their halfwords
-halfwords_long : (h : Halfwords) → length (bytes_of_halfwords h) ≡ size h
+pub halfwords_long : (h : Halfwords) → length (bytes_of_halfwords h) ≡ size h
 halfwords_long (halfwords.Short a) = refl
 halfwords_long (halfwords.Wide a b) = refl
 

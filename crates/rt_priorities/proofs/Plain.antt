@@ -22,7 +22,8 @@ use Rattle.rt_thumb.specs.declared.instruction.Instruction.TheVariants as instru
 use Rattle.rt_thumb_laws.specs.Undisturbed.{RunAtTop}
 use Rattle.rt_thumb_laws.proofs.Stores.{stored_as}
 use Rattle.rt_priorities.specs.Lying.{LieFrom}
-use Rattle.rt_priorities.proofs.Pieces.{in_turn, in_turn_none}
+use Rattle.rt_priorities.specs.Setting.{IsOutsideSystem}
+use Rattle.rt_priorities.proofs.Pieces.{AllApart, in_turn, in_turn_none}
 
 -- instructions that only advance, and leave PRIMASK
 abbrev pub IsPlain : Instruction → Type 0
@@ -74,28 +75,35 @@ masked_is_top m is =
     least x y = omega arith
 
 -- what is executed in turn while PRIMASK is 1 runs at the execution priority 0, to where it ends
-pub top_run : (p : Program) (is : List Instruction) (m last : Machine) → AllByRecursion IsPlain is → m.is_masked ≡ true
-    → LieFrom p m.address is → in_turn p.port is (Some m) ≡ Some last
-    → RunAtTop p is m last × (last.address ≡ m.address + bytes_of is)
-top_run p [] m last plain masked code runs =
+pub top_run : (p : Program) (foreign : ℕ → Bool) (outside : IsOutsideSystem foreign) (is : List Instruction)
+    (m last : Machine) → AllByRecursion IsPlain is → m.is_masked ≡ true → LieFrom p m.address is
+    → in_turn p.port is (Some m) ≡ Some last → AllApart p.port foreign outside is (Some m)
+    → RunAtTop p foreign is m last × (last.address ≡ m.address + bytes_of is)
+top_run p foreign outside [] m last plain masked code runs apart =
     let same = same_Some m last runs in (sym same, ap (λ x. x.address) (sym same) ∙ sym (add-zero m.address))
-top_run p (i ∷ is) m last plain masked code runs =
-    by (effect p.port i m) refl (is_behind p.port i m plain.0) (λ next. top_run p is next last plain.1)
+top_run p foreign outside (i ∷ is) m last plain masked code runs apart =
+    by (effect p.port i m) refl (is_behind p.port i m plain.0)
+    (λ next. top_run p foreign outside is next last plain.1)
   where
     joined : (a b d : ℕ) → a + b + d ≡ a + (b + d)
     joined a b d = omega arith
 
     by : (o : Option Machine) → effect p.port i m ≡ o → IsBehind i m o
         → ((next : Machine) → next.is_masked ≡ true → LieFrom p next.address is
-        → in_turn p.port is (Some next) ≡ Some last
-        → RunAtTop p is next last × (last.address ≡ next.address + bytes_of is))
-        → RunAtTop p (i ∷ is) m last × (last.address ≡ m.address + bytes_of (i ∷ is))
+        → in_turn p.port is (Some next) ≡ Some last → AllApart p.port foreign outside is (Some next)
+        → RunAtTop p foreign is next last × (last.address ≡ next.address + bytes_of is))
+        → RunAtTop p foreign (i ∷ is) m last × (last.address ≡ m.address + bytes_of (i ∷ is))
     by None is_none goes more =
-        absurd (none-some last (sym (in_turn_none p.port is) ∙ (sym (ap (in_turn p.port is) is_none) ∙ runs)))
+        absurd (none-some last (sym (in_turn_none p.port foreign outside is) ∙ (sym (ap (in_turn p.port is) is_none) ∙ runs)))
     by (Some next) is_next goes more =
         let rest = more next (goes.1 ∙ masked)
-        (subst (λ a. LieFrom p a is) (sym goes.0) code.1) (sym (ap (in_turn p.port is) is_next) ∙ runs) in (
-          (masked_is_top m masked, code.0, (next, is_next, rest.0)),
+        (subst (λ a. LieFrom p a is) (sym goes.0) code.1) (sym (ap (in_turn p.port is) is_next) ∙ runs)
+        (subst (AllApart p.port foreign outside is) is_next apart.1) in (
+          (
+            record { at_top = λ memory same. masked_is_top (record m { memory = memory }) masked; apart = apart.0 },
+            code.0,
+            (next, is_next, rest.0),
+          ),
           rest.1 ∙ (ap (λ a. a + bytes_of is) goes.0 ∙ (joined m.address (size (encode i)) (bytes_of is)
               ∙ ap (λ n. m.address + n) (sym (sum_by-cons (λ j. size (encode j)) i is)))),
         )

@@ -1,5 +1,5 @@
 -- Code that runs at the execution priority 0, instruction by instruction.
-use Rattle.std.proofs.Common.{◌≡◌, ℕ, ◌+◌, ◌*◌, ◌/◌, ◌%◌, ◌^◌, ◌<◌, ◌≤◌, ◌==◌, ◌||◌, Bool, true}
+use Rattle.std.proofs.Common.{◌≡◌, ℕ, ◌+◌, ◌*◌, ◌/◌, ◌%◌, ◌^◌, ◌<◌, ◌≤◌, ◌⊎◌, inl, inr, ◌==◌, ◌||◌, Bool, true}
 use Rattle.std.proofs.Common.{min, List, [], ◌∷◌, Some, if◌then◌else◌, refl, ap}
 use Rattle.std.proofs.Common.{◌∙◌, arith}
 use Rattle.std.proofs.lemmas.Bool.{ne_eqb}
@@ -9,7 +9,9 @@ use Rattle.rt_thumb.specs.Exceptions.{systick, external, least_value, execution_
 use Rattle.rt_thumb.specs.Machine.{Flags, Machine, Seen, Posted, byte_at, with_register}
 use Rattle.rt_thumb.specs.Step.{Program}
 use Rattle.rt_thumb.specs.declared.instruction.Instruction.{Instruction}
-use Rattle.rt_thumb_laws.specs.Undisturbed.{RunAtTop}
+use Rattle.rt_thumb_laws.specs.Undisturbed.{IsApartFrom, IsAtTop, RunAtTop}
+use Rattle.rt_lemmas.proofs.Bools.{not_so}
+use Rattle.rt_priorities.specs.Setting.{IsOutsideSystem}
 
 -- memory with another word at an address
 abbrev pub put_word : ℕ → ℕ → (ℕ → ℕ) → ℕ → ℕ
@@ -70,30 +72,42 @@ at_top k rest runs highest =
     least : (p l x : ℕ) → p ≡ 0 → min (min p l) x ≡ 0
     least p l x none = omega arith
 
-module _ (p : Program) (entry : Machine) (rest : List ℕ) (runs : entry.active ≡ systick ∷ rest) where
+module _ (p : Program) (foreign : ℕ → Bool) (outside : IsOutsideSystem foreign) (entry : Machine) (rest : List ℕ)
+    (runs : entry.active ≡ systick ∷ rest) where
   -- the word of SHPR3, which has SysTick's priority value, is as it was at entry
   abbrev pub IsKept : Place → Type 0
   IsKept h = (h.memory (0xE000ED23 / 4) ≡ entry.memory (0xE000ED23 / 4)) × (byte_at entry 0xE000ED23 ≡ 0)
 
-  pub here_is_top : (h : Place) (k : Machine) → IsKept h → IsHere entry h k → execution_priority k ≡ 0
-  here_is_top h k kept here =
-      at_top k rest (here.untouched.2 ∙ runs)
-      (ap (λ w. w / 2 ^ (8 * (0xE000ED23 % 4)) % 2 ^ 8) (ap (λ f. f (0xE000ED23 / 4)) here.memory ∙ kept.0) ∙ kept.1)
+  pub here_is_top : (h : Place) (k : Machine) → IsKept h → IsHere entry h k → IsAtTop foreign k
+  here_is_top h k kept here = λ memory same.
+      at_top (record k { memory = memory }) rest (here.untouched.2 ∙ runs)
+      (ap (λ w. w / 2 ^ (8 * (0xE000ED23 % 4)) % 2 ^ 8)
+      (same (0xE000ED23 / 4) (not_so (foreign (0xE000ED23 / 4)) (λ f. is_own (outside (0xE000ED23 / 4) f)))
+      ∙ (ap (λ f. f (0xE000ED23 / 4)) here.memory ∙ kept.0)) ∙ kept.1)
+    where
+      is_own : (4 * (0xE000ED23 / 4) + 4 ≤ 0xE000E000) ⊎ (0xE000F000 ≤ 4 * (0xE000ED23 / 4)) → ⊥
+      is_own (inl low) = absurd (omega (arith, low))
+      is_own (inr high) = absurd (omega (arith, high))
 
   -- instructions lead from a place to a state of which this holds
   abbrev pub Lead : List Instruction → Place → (Machine → Type 0) → Type 0
-  Lead is h P = (k : Machine) → IsHere entry h k → (last : Machine) × RunAtTop p is k last × P last
+  Lead is h P = (k : Machine) → IsHere entry h k → (last : Machine) × RunAtTop p foreign is k last × P last
 
   -- one instruction, and others behind it
   pub then_lead : (i : Instruction) (is : List Instruction) (h g : Place) (P : Machine → Type 0) → IsKept h
       → p.code h.address ≡ Some i
+      → ((k : Machine) → IsHere entry h k → (w : ℕ) → foreign w ≡ true → IsApartFrom w i k)
       → ((k : Machine) → IsHere entry h k → (next : Machine) × (effect p.port i k ≡ Some next) × IsHere entry g next)
       → Lead is g P → Lead (i ∷ is) h P
-  then_lead i is h g P kept code does more k here =
+  then_lead i is h g P kept code apart does more k here =
       let one = does k here in
       let all = more one.0 one.2 in (
         all.0,
-        (here_is_top h k kept here, ap p.code here.address ∙ code, (one.0, one.1, all.1)),
+        (
+          record { at_top = here_is_top h k kept here; apart = apart k here },
+          ap p.code here.address ∙ code,
+          (one.0, one.1, all.1),
+        ),
         all.2,
       )
 

@@ -3,12 +3,14 @@ use Rattle.std.proofs.Common.{◌≡◌, ◌≢◌, ℕ, zero, suc, ◌+◌, ◌
 use Rattle.std.proofs.Common.{false, List, [], ◌∷◌, ◌++◌, Option, Some, None, is_some, IfSome, if◌then◌else◌, refl, sym}
 use Rattle.std.proofs.Common.{ap, ◌∙◌, arith, slice_get, ⊎_elim, append_assoc}
 use Rattle.std.specs.List.{AllByRecursion}
-use Rattle.std.proofs.lemmas.Bool.{false≢true, eqb-false, eq-eqb, ne_eqb, cases_lt}
+use Rattle.std.proofs.lemmas.Bool.{false≢true, eqb-false, eq-eqb, ltb-true, ne_eqb, cases_lt}
+use Rattle.std.specs.Prelude.{nat_lt}
 use Rattle.std.proofs.lemmas.List.{get_or-replicate}
 use Rattle.std.proofs.lemmas.List.Sums.{sum_by-cons}
 use Rattle.std.proofs.lemmas.Nat.Bits.{bit_at-lt}
 use Rattle.rt_ids.specs.Operation.{wrapped_number as word}
 use Rattle.rt_ids.specs.declared.limits.TheConstants.{IRQ_NUMBERS}
+use Rattle.rt_lemmas.proofs.Bools.{not_so}
 use Rattle.rt_code.specs.Image.{Image}
 use Rattle.rt_code.specs.Runnable.{HaveNumbersApart}
 use Rattle.rt_code.specs.declared.image.Handler.{Handler}
@@ -18,8 +20,8 @@ use Rattle.rt_native.specs.Pieces.{bytes_of, open_frame}
 use Rattle.rt_native.specs.Service.{reset, copy_words, start_tick}
 use Rattle.rt_thumb.specs.Effect.{with_special}
 use Rattle.rt_thumb.specs.Encoding.{encode, size}
-use Rattle.rt_thumb.specs.Exceptions.{systick, external, priority_of, is_enabled, taken}
-use Rattle.rt_thumb.specs.Machine.{Machine, byte_at, word_at}
+use Rattle.rt_thumb.specs.Exceptions.{systick, external, execution_priority, priority_of, is_enabled, taken}
+use Rattle.rt_thumb.specs.Machine.{Machine, byte_at, word_at, with_word}
 use Rattle.rt_thumb.specs.Step.{Program, after, going, executing}
 use Rattle.rt_thumb.specs.declared.instruction.Instruction.{Instruction}
 use Rattle.rt_thumb.specs.declared.instruction.Instruction.TheVariants as instruction
@@ -27,15 +29,17 @@ use Rattle.rt_thumb.specs.declared.instruction.Special.TheVariants as special
 use Rattle.rt_thumb_laws.specs.Registers.{IsElsewhere}
 use Rattle.rt_thumb_laws.specs.Taking.{MayBeTaken}
 use Rattle.rt_thumb_laws.specs.Undisturbed.{RunAtTop}
+use Rattle.rt_thumb_laws.proofs.Beside.{word_beside}
 use Rattle.rt_thumb_laws.proofs.Taking.{the_first_is_taken}
 use Rattle.rt_thumb_laws.proofs.Undisturbed.{nothing_disturbs}
 use Rattle.rt_priorities.specs.Agreeing.{IsSetAs, IsUndeclared, AgreesWith}
 use Rattle.rt_priorities.specs.Lying.{LieFrom}
+use Rattle.rt_priorities.specs.Setting.{IsOutsideSystem}
 use Rattle.rt_priorities.specs.Setting.{CanBeSet, IsReset, IsSetUp, ResetSetsUp, ResetBeginsSo, settings, first_part}
 use Rattle.rt_priorities.proofs.Memory.{priority_byte, enable_bit, rows_set, HasRoom, AreApart, IsSetIn, all_set}
 use Rattle.rt_priorities.proofs.Memory.{enabled_of_none, outside_of_rows}
 use Rattle.rt_priorities.proofs.Pieces.{HasMemory, rows_lead}
-use Rattle.rt_priorities.proofs.Plain.{top_run, rows_plain}
+use Rattle.rt_priorities.proofs.Plain.{masked_is_top, top_run, rows_plain}
 
 -- what the processor reads of an interrupt
 enabled_is : (m : Machine) (irq : ℕ) → is_enabled m (external irq) ≡ (enable_bit m.memory irq == 1)
@@ -159,6 +163,32 @@ abbrev pub masked : Machine → Machine
 masked m =
     let now = with_special special.PriorityMask 1 m in record now { address = m.address + 2 }
 
+unsettled_is : (m : Machine) → (masked m).is_unsettled ≡ (m.is_unsettled || false)
+unsettled_is m =
+    let top : Machine = record m { is_masked = true } in
+    ap (λ b. m.is_unsettled || b)
+    (not_so (nat_lt (execution_priority m) (execution_priority top)) (λ e.
+    let less = ltb-true (execution_priority m) (execution_priority top) e in
+    absurd (omega (arith, less, masked_is_top top refl))))
+
+-- it is so with another word of memory
+pub masked_changed : (address value : ℕ) (m : Machine)
+    → masked (with_word address value m) ≡ with_word address value (masked m)
+masked_changed address value m =
+    ap (λ b. record (with_word address value m) { is_masked = true; is_unsettled = b; address = m.address + 2 })
+    (unsettled_is (with_word address value m) ∙ sym (unsettled_is m))
+
+-- no interrupt is enabled with another foreign word
+pub still_disabled : (foreign : ℕ → Bool) → IsOutsideSystem foreign → (address value : ℕ) (m : Machine)
+    → foreign (address / 4) ≡ true → ((irq : ℕ) → irq < IRQ_NUMBERS → is_enabled m (external irq) ≡ false)
+    → (irq : ℕ) → irq < IRQ_NUMBERS → is_enabled (with_word address value m) (external irq) ≡ false
+still_disabled foreign outside address value m f enabled irq low =
+    ap (λ w. (external irq == systick) || (w / 2 ^ ((external irq - 16) % 32) % 2 == 1))
+    (word_beside address value m (0xE000E100 + 4 * ((external irq - 16) / 32)) (λ e. ⊎_elim
+    (λ (y : 4 * (address / 4) + 4 ≤ 0xE000E000). absurd (omega (arith, y, e)))
+    (λ (y : 0xE000F000 ≤ 4 * (address / 4)). absurd (omega (arith, y, e, low))) (outside (address / 4) f)))
+    ∙ enabled irq low
+
 module _ (img : Image) (m last : Machine) (can : CanBeSet img.irqs) (is : IsReset m)
     (has : HasMemory (rows_set img.irqs m.memory) (masked m) last) where
   room : AllByRecursion HasRoom img.irqs
@@ -199,22 +229,23 @@ module _ (img : Image) (m last : Machine) (can : CanBeSet img.irqs) (is : IsRese
       sum a d = omega arith
 
 -- the rest of the first part runs with interrupts masked
-pub sets_up_masked : (p : Program) (img : Image) (m : Machine) → CanBeSet img.irqs → IsElsewhere (Some p.port)
-    → IsReset m → LieFrom p m.address (first_part img)
-    → (last : Machine) × RunAtTop p (settings img) (masked m) last × IsSetUp img m last
-sets_up_masked p img m can there is code =
-    let led = rows_lead p.port img.irqs (masked m) (have_room img.irqs can.numbers can.values) there in
-    let runs = top_run p (settings img) (masked m) led.0 (rows_plain img.irqs) refl code.1 led.1 in
+pub sets_up_masked : (p : Program) (foreign : ℕ → Bool) (img : Image) (m : Machine) → CanBeSet img.irqs
+    → IsElsewhere (Some p.port) → IsOutsideSystem foreign → IsReset m → LieFrom p m.address (first_part img)
+    → (last : Machine) × RunAtTop p foreign (settings img) (masked m) last × IsSetUp img m last
+sets_up_masked p foreign img m can there outside is code =
+    let led = rows_lead p.port foreign outside img.irqs (masked m) (have_room img.irqs can.numbers can.values) there in
+    let runs = top_run p foreign outside (settings img) (masked m) led.0 (rows_plain img.irqs) refl code.1 led.1.0
+    led.1.1 in
     (led.0, runs.0, set_up img m led.0 can is led.2 runs.1)
 
 pub reset_sets_up : ResetSetsUp
-reset_sets_up p img m can there is code =
-    let run = sets_up_masked p img m can there is code in
+reset_sets_up p foreign img m can there outside is code =
+    let run = sets_up_masked p foreign img m can there outside is code in
     record {
       last = run.0;
-      leads = λ events many. ap (after p events)
+      leads = λ events only many. ap (after p events)
           (ap (going p m) (none_enabled m is.enabled is.tick) ∙ ap (executing p.port m) code.0)
-          ∙ nothing_disturbs p (settings img) events (masked m) run.0 run.1 many;
+          ∙ nothing_disturbs p foreign (settings img) events (masked m) run.0 only run.1 many;
       is_set_up = run.2;
     }
 

@@ -13,26 +13,28 @@ use Rattle.rt_core.specs.Trace.{tick as model_tick, ring}
 use Rattle.rt_core.specs.Transfer.{core_after_pend}
 use Rattle.rt_core.specs.declared.alarm.Alarm.{Alarm}
 use Rattle.rt_trace.specs.Label.{Label, Rang}
+use Rattle.rt_lemmas.proofs.Bools.{not_so}
 use Rattle.rt_native.specs.Pieces.{address, bytes_of}
 use Rattle.rt_native.specs.Service.{tick, due_at_tick, due_size_at_tick, pend_timer}
 use Rattle.rt_native.specs.declared.outside.Outside.{Outside}
 use Rattle.rt_native.proofs.Sizes.{tick_bytes, tick_bytes_alone}
 use Rattle.rt_thumb.specs.Effect.{effect}
-use Rattle.rt_thumb.specs.Exceptions.{systick, external, execution_priority, entered}
+use Rattle.rt_thumb.specs.Exceptions.{systick, external, entered}
 use Rattle.rt_thumb.specs.Machine.{Machine, Seen, Posted, Entered, Returned, word_at, byte_at}
 use Rattle.rt_thumb.specs.Step.{Program, Event, Goes, after, going}
 use Rattle.rt_thumb.specs.declared.instruction.Instruction.{Instruction}
 use Rattle.rt_thumb.specs.declared.instruction.Instruction.TheVariants as instruction
 use Rattle.rt_thumb_laws.specs.Interrupting.{CanBeEntered, IsAtItsEnd, GoesOn, is_given_back}
 use Rattle.rt_thumb_laws.specs.Registers.{KeepsRegisters}
-use Rattle.rt_thumb_laws.specs.Undisturbed.{RunAtTop, goings, with_arrivals}
+use Rattle.rt_thumb_laws.specs.Undisturbed.{ChangeOnly, IsAlone, RunAtTop, goings, with_arrivals}
 use Rattle.rt_thumb_laws.proofs.Frames.{entries_write_their_frame, below_stack, frame_from}
 use Rattle.rt_thumb_laws.proofs.Keeping.{entered_leaves, same_priority}
 use Rattle.rt_thumb_laws.proofs.Returning.{returns_give_back}
 use Rattle.rt_thumb_laws.proofs.Undisturbed.{nothing_disturbs}
 use Rattle.rt_priorities.specs.Agreeing.{AgreesWith, IsActiveAs}
 use Rattle.rt_priorities.specs.Lying.{LieFrom}
-use Rattle.rt_priorities.specs.Ticking.{LeavesStack, TellsTheTime, HasInstants, LieApart, ServesTicks, TickIsNext}
+use Rattle.rt_priorities.specs.Ticking.{LeavesStack, LieAside, TellsTheTime, HasInstants, LieApart, ServesTicks}
+use Rattle.rt_priorities.specs.Ticking.{TickIsNext}
 use Rattle.rt_priorities.specs.Ticking.{TicksAtOnce, TicksAreOneEvent, requested, alarm_word}
 use Rattle.rt_priorities.proofs.Handler.{ComesToItsEnd, AreWords, with_time, with_no_alarm, front, due}
 use Rattle.rt_priorities.proofs.Handler.{quiet_end, due_end, same_word}
@@ -41,16 +43,16 @@ use Rattle.rt_priorities.proofs.Keeping.{others_keep_agreeing, pended_by}
 use Rattle.rt_priorities.proofs.Running.{put_word, at_top}
 
 -- one more instruction at the end of some
-run_more : (p : Program) (i : Instruction) (is : List Instruction) (m late last : Machine) → RunAtTop p is m late
-    → execution_priority late ≡ 0 → p.code late.address ≡ Some i → effect p.port i late ≡ Some last
-    → RunAtTop p (is ++ i ∷ []) m last
-run_more p i [] m late last run top code does = (
-  subst (λ x. execution_priority x ≡ 0) run top,
+run_more : (p : Program) (foreign : ℕ → Bool) (i : Instruction) (is : List Instruction) (m late last : Machine)
+    → RunAtTop p foreign is m late → IsAlone foreign i late → p.code late.address ≡ Some i
+    → effect p.port i late ≡ Some last → RunAtTop p foreign (is ++ i ∷ []) m last
+run_more p foreign i [] m late last run top code does = (
+  subst (IsAlone foreign i) run top,
   subst (λ x. p.code x.address ≡ Some i) run code,
   (last, subst (λ x. effect p.port i x ≡ Some last) run does, refl),
 )
-run_more p i (j ∷ is) m late last run top code does =
-    (run.0, run.1, (run.2.0, run.2.1, run_more p i is run.2.0 late last run.2.2 top code does))
+run_more p foreign i (j ∷ is) m late last run top code does =
+    (run.0, run.1, (run.2.0, run.2.1, run_more p foreign i is run.2.0 late last run.2.2 top code does))
 
 -- the code of a tick leads over what is done where an alarm is due
 record Skips (p : Program) (at : Outside) (place x : ℕ) : Type 0 where
@@ -154,10 +156,11 @@ entry_register m k not_sp not_lr =
     ∙ ap (λ b. if b then (entered systick m).register 13 else m.register k) (ne_eqb k 13 not_sp)
 
 -- what the return of a tick's handler leaves
-record HasReturned (p : Program) (m : Machine) (memory : ℕ → ℕ) (pending : ℕ → Bool) (seen : List Seen) : Type 0 where
+record HasReturned (p : Program) (foreign : ℕ → Bool) (m : Machine) (memory : ℕ → ℕ) (pending : ℕ → Bool)
+    (seen : List Seen) : Type 0 where
   pub steps : ℕ
   pub last : Machine
-  pub leads : (events : List Event) → goings events ≡ steps
+  pub leads : (events : List Event) → ChangeOnly foreign events → goings events ≡ steps
       → after p (Goes ∷ events) (Some m) ≡ Some (with_arrivals events last)
   pub registers : (k : ℕ) → last.register k ≡ m.register k
   pub address : last.address ≡ m.address
@@ -172,11 +175,12 @@ record HasReturned (p : Program) (m : Machine) (memory : ℕ → ℕ) (pending :
   pub settled : last.is_unsettled ≡ false
   pub executed : List Instruction
   pub calm : AllByRecursion LeavesStack executed
-  pub run : RunAtTop p (executed ++ instruction.BranchExchange 14 ∷ []) (entered systick m) last
+  pub run : RunAtTop p foreign (executed ++ instruction.BranchExchange 14 ∷ []) (entered systick m) last
 
-module _ (p : Program) (img : Image) (at : Outside) (irq : Option ℕ) (c : Core) (m : Machine)
+module _ (p : Program) (foreign : ℕ → Bool) (img : Image) (at : Outside) (irq : Option ℕ) (c : Core) (m : Machine)
     (agrees : AgreesWith img c m) (next : TickIsNext c m) (serves : ServesTicks p at irq m)
-    (apart : LieApart at p.port m) (tells : TellsTheTime at c m) (has : HasInstants irq c) where
+    (apart : LieApart at p.port m) (aside : LieAside foreign at m) (tells : TellsTheTime at c m)
+    (has : HasInstants irq c) where
   abbrev entry : Machine
   entry = entered systick m
 
@@ -208,6 +212,17 @@ module _ (p : Program) (img : Image) (at : Outside) (irq : Option ℕ) (c : Core
         alarm_is_word = alarm_is_small irq c.alarm has.alarm;
       }
 
+  -- the time and the alarm are not foreign
+  words_aside : (w : ℕ) → foreign w ≡ true → (4 * w + 4 ≤ at.time) ⊎ (at.time + 8 ≤ 4 * w)
+  words_aside w f =
+      let top = below_stack (m.register 13) next.room in
+      let above = apart.above_stack in by (frame_from (m.register 13)) top above (aside.apart w f)
+    where
+      by : (f : ℕ) → f + 32 ≤ m.register 13 → m.register 13 ≤ at.time → (4 * w + 4 ≤ f) ⊎ (at.time + 8 ≤ 4 * w)
+          → (4 * w + 4 ≤ at.time) ⊎ (at.time + 8 ≤ 4 * w)
+      by f top above (inl low) = inl (omega (arith, low, top, above))
+      by f top above (inr high) = inr high
+
   can : CanBeEntered systick m
   can = record {
     is_exception = λ same. never same;
@@ -221,7 +236,7 @@ module _ (p : Program) (img : Image) (at : Outside) (irq : Option ℕ) (c : Core
       never same = omega arith
 
   module _ (memory : ℕ → ℕ) (pending : ℕ → Bool) (seen : List Seen)
-      (comes : ComesToItsEnd p entry memory pending seen) (but : IsBut at.time memory entry.memory) where
+      (comes : ComesToItsEnd p foreign entry memory pending seen) (but : IsBut at.time memory entry.memory) where
     abbrev late : Machine
     late = comes.late
 
@@ -254,23 +269,46 @@ module _ (p : Program) (img : Image) (at : Outside) (irq : Option ℕ) (c : Core
             by : (f : ℕ) → f + 32 ≤ m.register 13 → m.register 13 ≤ at.time → f + 4 * k < at.time
             by f top above = omega arith
 
-    late_top : execution_priority late ≡ 0
+    is_own : (4 * (0xE000ED23 / 4) + 4 ≤ 0xE000E000) ⊎ (0xE000F000 ≤ 4 * (0xE000ED23 / 4)) → ⊥
+    is_own (inl low) = absurd (omega (arith, low))
+    is_own (inr high) = absurd (omega (arith, high))
+
+    -- the frame that the return pops is not foreign
+    frame_apart : (w j : ℕ) → foreign w ≡ true → j < 8 → w ≡ (late.register 13 + 4 * j) / 4 → ⊥
+    frame_apart w j f within e =
+        let top = below_stack (m.register 13) next.room in
+        let above = apart.above_stack in
+        let stack = comes.here.untouched.0 13 (omega arith) in
+        by (frame_from (m.register 13)) top above (e ∙ ap (λ s. (s + 4 * j) / 4) stack) (aside.apart w f)
+      where
+        by : (f : ℕ) → f + 32 ≤ m.register 13 → m.register 13 ≤ at.time → w ≡ (f + 4 * j) / 4
+            → (4 * w + 4 ≤ f) ⊎ (at.time + 8 ≤ 4 * w) → ⊥
+        by f top above same (inl low) = absurd (omega (arith, same, low))
+        by f top above same (inr high) = absurd (omega (arith, same, high, within, top, above))
+
+    late_top : IsAlone foreign (instruction.BranchExchange 14) late
     late_top =
         let low = apart.in_memory in
-        at_top late m.active comes.here.untouched.2
-        (ap (λ w. w / 2 ^ (8 * (0xE000ED23 % 4)) % 2 ^ 8) (late_word 0xE000ED23 (inr (omega arith))) ∙ highest)
+        record {
+          at_top = λ memory same. at_top (record late { memory = memory }) m.active comes.here.untouched.2
+              (ap (λ w. w / 2 ^ (8 * (0xE000ED23 % 4)) % 2 ^ 8)
+              (same (0xE000ED23 / 4) (not_so (foreign (0xE000ED23 / 4)) (λ f. is_own (aside.system (0xE000ED23 / 4) f)))
+              ∙ late_word 0xE000ED23 (inr (omega arith))) ∙ highest);
+          apart = λ w f high j within e. frame_apart w j f within e;
+        }
 
-    has_returned : HasReturned p m memory pending seen
+    has_returned : HasReturned p foreign m memory pending seen
     has_returned =
         let back = returns_give_back p.port systick 14 m late can is_at_end (comes.here.untouched.0 14 (omega arith)) in
         let goes = back.2 in
-        let run = run_more p (instruction.BranchExchange 14) comes.is entry late back.0 comes.run late_top
+        let run = run_more p foreign (instruction.BranchExchange 14) comes.is entry late back.0 comes.run late_top
         (ap p.code comes.here.address ∙ comes.code) back.1 in
         record {
           steps = length (comes.is ++ instruction.BranchExchange 14 ∷ []);
           last = back.0;
-          leads = λ events many. ap (after p events) (ap (going p m) next.taken)
-              ∙ nothing_disturbs p (comes.is ++ instruction.BranchExchange 14 ∷ []) events entry back.0 run many;
+          leads = λ events only many. ap (after p events) (ap (going p m) next.taken)
+              ∙ nothing_disturbs p foreign (comes.is ++ instruction.BranchExchange 14 ∷ []) events entry back.0 only
+              run many;
           registers = registers back.0 goes;
           address = goes.address;
           flags = goes.flags;
@@ -310,7 +348,7 @@ module _ (p : Program) (img : Image) (at : Outside) (irq : Option ℕ) (c : Core
 
   -- once the handler has returned, the processor agrees with a core that has the same handlers and masks
   module _ (memory : ℕ → ℕ) (pending : ℕ → Bool) (seen : List Seen) (but : IsBut at.time memory entry.memory)
-      (back : HasReturned p m memory pending seen) where
+      (back : HasReturned p foreign m memory pending seen) where
     last_keeps : KeepsRegisters m back.last
     last_keeps address low high =
         let below = apart.in_memory in
@@ -350,12 +388,13 @@ module _ (p : Program) (img : Image) (at : Outside) (irq : Option ℕ) (c : Core
 
   -- where no alarm is due
   quiet : (model_tick c).0 ≡ timed → requested (suc c.time) c.alarm ≡ [] → c.time + 1 < alarm_word c.alarm
-      → TicksAtOnce p img at c m
+      → TicksAtOnce p foreign img at c m
   quiet model asks future =
       let skip = skips p at irq serves.place serves.code serves.ends in
       let memory = with_time at.time c.time entry.memory in
       let but = time_but at.time c.time entry.memory apart.aligned in
-      let comes = quiet_end p entry m.active refl highest at c.time (alarm_word c.alarm) words serves.place
+      let comes = quiet_end p foreign aside.system entry m.active refl highest at c.time (alarm_word c.alarm) words
+      words_aside serves.place
       (due_size_at_tick irq) skip.end serves.vector skip.lies skip.leads skip.last future in
       let back = has_returned memory entry.is_pending entry.seen comes but in
       let agrees_now = agrees_after memory entry.is_pending entry.seen but back timed refl refl (λ other low.
@@ -394,7 +433,7 @@ module _ (p : Program) (img : Image) (at : Outside) (irq : Option ℕ) (c : Core
   rings : (a : Alarm) → irq ≡ Some a.irq → a.irq < IRQ_NUMBERS → length c.pending ≡ IRQ_NUMBERS
       → (model_tick c).0 ≡ record (core_after_pend timed a.irq) { alarm = None }
       → requested (suc c.time) c.alarm ≡ Posted a.irq ∷ [] → alarm_word c.alarm ≤ c.time + 1
-      → TicksAtOnce p img at c m
+      → TicksAtOnce p foreign img at c m
   rings a is small long model asks now =
       let code = subst (λ o. LieFrom p serves.place (tick at o)) is serves.code in
       let goes = goes_through p at a.irq serves.place code in
@@ -402,7 +441,8 @@ module _ (p : Program) (img : Image) (at : Outside) (irq : Option ℕ) (c : Core
       let pending = λ (e : ℕ). (e == external a.irq) || entry.is_pending e in
       let seen = Posted a.irq ∷ entry.seen in
       let but = alarm_but at.time c.time entry.memory apart.aligned in
-      let comes = due_end p entry m.active refl highest at c.time (alarm_word c.alarm) words serves.place
+      let comes = due_end p foreign aside.system entry m.active refl highest at c.time (alarm_word c.alarm) words
+      words_aside serves.place
       (due_size_at_tick (Some a.irq)) a.irq serves.vector goes.lies goes.last (omega arith) now in
       let back = has_returned memory pending seen comes but in
       let after : Core = record (core_after_pend timed a.irq) { alarm = None } in
@@ -454,7 +494,7 @@ module _ (p : Program) (img : Image) (at : Outside) (irq : Option ℕ) (c : Core
   still = (timed, [])
 
   by_due : (a : Alarm) (b : Bool) → c.alarm ≡ Some a → nat_le a.instant (suc c.time) ≡ b → irq ≡ Some a.irq
-      → a.irq < IRQ_NUMBERS → length c.pending ≡ IRQ_NUMBERS → TicksAtOnce p img at c m
+      → a.irq < IRQ_NUMBERS → length c.pending ≡ IRQ_NUMBERS → TicksAtOnce p foreign img at c m
   by_due a true is due same small long =
       rings a same small long
       (ap (λ o. (ring timed o).0) is ∙ ap (λ b. (if b then rung a else still).0) due)
@@ -470,7 +510,7 @@ module _ (p : Program) (img : Image) (at : Outside) (irq : Option ℕ) (c : Core
 
   by_alarm : (o : Option Alarm) → c.alarm ≡ o
       → IfSome o (λ a. (a.instant < 2 ^ 32) × (irq ≡ Some a.irq) × (a.irq < IRQ_NUMBERS))
-      → length c.pending ≡ IRQ_NUMBERS → TicksAtOnce p img at c m
+      → length c.pending ≡ IRQ_NUMBERS → TicksAtOnce p foreign img at c m
   by_alarm None is words long =
       let few = has.time in
       quiet (ap (λ o. (ring timed o).0) is) (ap (requested (suc c.time)) is)
@@ -479,5 +519,5 @@ module _ (p : Program) (img : Image) (at : Outside) (irq : Option ℕ) (c : Core
       by_due a (nat_le a.instant (suc c.time)) is refl words.1 words.2 long
 
 pub ticks_are_one_event : TicksAreOneEvent
-ticks_are_one_event p img at irq c m agrees long next serves apart tells has =
-    by_alarm p img at irq c m agrees next serves apart tells has c.alarm refl has.alarm long
+ticks_are_one_event p foreign img at irq c m agrees long next serves apart aside tells has =
+    by_alarm p foreign img at irq c m agrees next serves apart aside tells has c.alarm refl has.alarm long

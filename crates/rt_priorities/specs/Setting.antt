@@ -1,7 +1,8 @@
 -- What reset makes of the interrupt controller (ARMv7-M Architecture Reference Manual, sections B1.5.5 and B3.4). The
 -- code sets a byte of NVIC_IPR and a bit of NVIC_ISER for each row of the image; the core of the model has the rows
 -- themselves.
-use Rattle.std.specs.Prelude.{◌≡◌, ℕ, ◌+◌, ◌<◌, ◌≤◌, ◌^◌, false, List, [], ◌∷◌, ◌++◌, length, flat_map, Option, Some}
+use Rattle.std.specs.Prelude.{◌≡◌, ℕ, ◌+◌, ◌*◌, ◌<◌, ◌≤◌, ◌⊎◌, ◌^◌, Bool, true, false, List, [], ◌∷◌, ◌++◌, length}
+use Rattle.std.specs.Prelude.{flat_map, Option, Some}
 use Rattle.std.specs.Prelude.{IfSome}
 use Rattle.std.specs.List.{AllByRecursion}
 use Rattle.rt_ids.specs.declared.limits.TheConstants.{IRQ_NUMBERS}
@@ -18,7 +19,7 @@ use Rattle.rt_thumb.specs.Step.{Program, Event, Goes, after}
 use Rattle.rt_thumb.specs.declared.instruction.Instruction.{Instruction}
 use Rattle.rt_thumb.specs.declared.instruction.Instruction.TheVariants as instruction
 use Rattle.rt_thumb_laws.specs.Registers.{IsElsewhere}
-use Rattle.rt_thumb_laws.specs.Undisturbed.{goings, with_arrivals}
+use Rattle.rt_thumb_laws.specs.Undisturbed.{ChangeOnly, goings, with_arrivals}
 use Rattle.rt_priorities.specs.Agreeing.{AgreesWith}
 use Rattle.rt_priorities.specs.Lying.{LieFrom}
 
@@ -62,15 +63,21 @@ pub record IsSetUp (img : Image) (before last : Machine) : Type 0 where
   pub exception : last.exception ≡ before.exception
   pub seen : last.seen ≡ before.seen
 
--- Whatever comes once interrupts are masked, the processor is led to that state, in which this is pending.
-pub record SetsUp (p : Program) (img : Image) (m : Machine) : Type 0 where
+-- words of memory that devices change are none of the System Control Space (section B3.2.1)
+abbrev pub IsOutsideSystem : (ℕ → Bool) → Type 0
+IsOutsideSystem foreign = (k : ℕ) → foreign k ≡ true → (4 * k + 4 ≤ 0xE000E000) ⊎ (0xE000F000 ≤ 4 * k)
+
+-- Whatever comes once interrupts are masked, the processor is led to that state, in which this is pending, or in a
+-- device's register.
+pub record SetsUp (p : Program) (foreign : ℕ → Bool) (img : Image) (m : Machine) : Type 0 where
   pub last : Machine
-  pub leads : (events : List Event) → goings events ≡ length (settings img)
+  pub leads : (events : List Event) → ChangeOnly foreign events → goings events ≡ length (settings img)
       → after p (Goes ∷ events) (Some m) ≡ Some (with_arrivals events last)
   pub is_set_up : IsSetUp img m last
 
 -- Each program that has the first part where the processor begins after reset, with a port that is none of the
 -- controller's registers, sets it up.
 abbrev pub ResetSetsUp : Type 0
-ResetSetsUp = (p : Program) (img : Image) (m : Machine) → CanBeSet img.irqs → IsElsewhere (Some p.port) → IsReset m
-    → LieFrom p m.address (first_part img) → SetsUp p img m
+ResetSetsUp = (p : Program) (foreign : ℕ → Bool) (img : Image) (m : Machine) → CanBeSet img.irqs
+    → IsElsewhere (Some p.port) → IsOutsideSystem foreign → IsReset m → LieFrom p m.address (first_part img)
+    → SetsUp p foreign img m

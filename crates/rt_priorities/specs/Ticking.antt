@@ -2,7 +2,7 @@
 -- the processor executes the code of a tick and nothing else, whatever comes in between. To whom it interrupts all of
 -- it is one event, that of the core's model: the time rises by one, and an alarm that is due comes. The model has no
 -- code for it.
-use Rattle.std.specs.Prelude.{◌≡◌, ◌≢◌, ℕ, suc, ◌+◌, ◌-◌, ◌*◌, ◌/◌, ◌%◌, ◌^◌, ◌<◌, ◌≤◌, ◌⊎◌, false, nat_le}
+use Rattle.std.specs.Prelude.{◌≡◌, ◌≢◌, ℕ, suc, ◌+◌, ◌-◌, ◌*◌, ◌/◌, ◌%◌, ◌^◌, ◌<◌, ◌≤◌, ◌⊎◌, Bool, true, false, nat_le}
 use Rattle.std.specs.Prelude.{if◌then◌else◌}
 use Rattle.std.specs.Prelude.{List, [], ◌∷◌, ◌++◌, length, Option, Some, None, IfSome, ⊤}
 use Rattle.std.specs.List.{AllByRecursion}
@@ -20,9 +20,10 @@ use Rattle.rt_thumb.specs.Machine.{Machine, Seen, Posted, Entered, Returned, wor
 use Rattle.rt_thumb.specs.Step.{Program, Event, Goes, after}
 use Rattle.rt_thumb.specs.declared.instruction.Instruction.{Instruction}
 use Rattle.rt_thumb.specs.declared.instruction.Instruction.TheVariants as instruction
-use Rattle.rt_thumb_laws.specs.Undisturbed.{RunAtTop, goings, with_arrivals}
+use Rattle.rt_thumb_laws.specs.Undisturbed.{ChangeOnly, RunAtTop, goings, with_arrivals}
 use Rattle.rt_priorities.specs.Agreeing.{AgreesWith}
 use Rattle.rt_priorities.specs.Lying.{LieFrom}
+use Rattle.rt_priorities.specs.Setting.{IsOutsideSystem}
 
 -- the word of an alarm: its instant, and 2 ^ 32 - 1 where there is none
 abbrev pub alarm_word : Option Alarm → ℕ
@@ -96,20 +97,28 @@ pub record HasTicked (img : Image) (at : Outside) (c : Core) (m last : Machine) 
   pub is_over : last.is_pending systick ≡ false
   pub seen : last.seen ≡ Returned systick ∷ (requested (suc c.time) c.alarm ++ Entered systick ∷ m.seen)
 
+-- Words of memory that devices change lie apart from the frame that a tick's entry pushes, from what is above it up to
+-- the alarm, and from the System Control Space.
+pub record LieAside (foreign : ℕ → Bool) (at : Outside) (m : Machine) : Type 0 where
+  pub apart : (k : ℕ) → foreign k ≡ true → (4 * k + 4 ≤ (entered systick m).register 13) ⊎ (at.time + 8 ≤ 4 * k)
+  pub system : IsOutsideSystem foreign
+
 -- After its entry the processor goes on so many times, whatever comes in between, and then the tick has been. What it
 -- executes leaves the stack pointer alone, up to the exception return.
-pub record TicksAtOnce (p : Program) (img : Image) (at : Outside) (c : Core) (m : Machine) : Type 0 where
+pub record TicksAtOnce (p : Program) (foreign : ℕ → Bool) (img : Image) (at : Outside) (c : Core) (m : Machine)
+    : Type 0 where
   pub steps : ℕ
   pub last : Machine
-  pub leads : (events : List Event) → goings events ≡ steps
+  pub leads : (events : List Event) → ChangeOnly foreign events → goings events ≡ steps
       → after p (Goes ∷ events) (Some m) ≡ Some (with_arrivals events last)
   pub executed : List Instruction
   pub calm : AllByRecursion LeavesStack executed
-  pub run : RunAtTop p (executed ++ instruction.BranchExchange 14 ∷ []) (entered systick m) last
+  pub run : RunAtTop p foreign (executed ++ instruction.BranchExchange 14 ∷ []) (entered systick m) last
   pub has_ticked : HasTicked img at c m last
 
 abbrev pub TicksAreOneEvent : Type 0
-TicksAreOneEvent = (p : Program) (img : Image) (at : Outside) (irq : Option ℕ) (c : Core) (m : Machine)
+TicksAreOneEvent = (p : Program) (foreign : ℕ → Bool) (img : Image) (at : Outside) (irq : Option ℕ) (c : Core)
+    (m : Machine)
     → AgreesWith img c m → length c.pending ≡ IRQ_NUMBERS → TickIsNext c m → ServesTicks p at irq m
-    → LieApart at p.port m → TellsTheTime at c m → HasInstants irq c
-    → TicksAtOnce p img at c m
+    → LieApart at p.port m → LieAside foreign at m → TellsTheTime at c m → HasInstants irq c
+    → TicksAtOnce p foreign img at c m

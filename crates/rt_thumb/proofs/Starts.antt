@@ -16,7 +16,7 @@ abbrev Starts : Halfwords → Type 0
 Starts (halfwords.Short h) = h < 29 * 2 ^ 11
 Starts (halfwords.Wide first second) = 29 * 2 ^ 11 ≤ first
 
-operate_starts : (bits d b : ℕ) → bits < 16 → d < 8 → b < 8 → 16 * 2 ^ 10 + bits * 2 ^ 6 + b * 2 ^ 3 + d < 29 * 2 ^ 11
+pub operate_starts : (bits d b : ℕ) → bits < 16 → d < 8 → b < 8 → 16 * 2 ^ 10 + bits * 2 ^ 6 + b * 2 ^ 3 + d < 29 * 2 ^ 11
 operate_starts bits d b p q r = omega arith
 
 starts : (i : Instruction) → IsEncodable i → Starts (encode i)

@@ -1,10 +1,10 @@
--- One event of the processor: an interrupt is pended, an exception is taken, or an instruction is executed (ARMv7-M
--- Architecture Reference Manual, sections B1.5.4 and B1.5.6). An exception is taken between instructions, and as soon
--- as it may be; only before a context synchronization event it may come late.
+-- One event of the processor: an interrupt is pended, a device's register changes, an exception is taken, or an
+-- instruction is executed (ARMv7-M Architecture Reference Manual, sections A3.5, B1.5.4 and B1.5.6). An exception is
+-- taken between instructions, and as soon as it may be; only before a context synchronization event it may come late.
 use Rattle.std.specs.Prelude.{ℕ, ◌||◌, ◌==◌, List, [], ◌∷◌, Option, Some, None}
 use Rattle.rt_thumb.specs.Effect.{effect}
 use Rattle.rt_thumb.specs.Exceptions.{systick, external, taken, entered}
-use Rattle.rt_thumb.specs.Machine.{Machine}
+use Rattle.rt_thumb.specs.Machine.{Machine, with_word}
 use Rattle.rt_thumb.specs.declared.instruction.Instruction.{Instruction}
 
 -- code, and where a store tells a word to others
@@ -18,6 +18,9 @@ pub data Event : Type 0 where
   Arrives : ℕ → Event
   -- SysTick has counted down
   Ticks : Event
+  -- A device changes what its register at an address reads: from then on a load gives this word. Which words of memory
+  -- are devices' a chip says.
+  Changes : (address word : ℕ) → Event
   -- an exception is taken where one may be, else an instruction is executed
   Goes : Event
   -- an instruction is executed although an exception may be taken, as the architecture allows where that is unsettled
@@ -43,6 +46,7 @@ going p m None = executed p m
 abbrev pub step : Program → Machine → Event → Option Machine
 step p m (Arrives irq) = Some (pended (external irq) m)
 step p m Ticks = Some (pended systick m)
+step p m (Changes address word) = Some (with_word address word m)
 step p m Goes = going p m (taken m)
 step p m GoesLate = executed p m
 

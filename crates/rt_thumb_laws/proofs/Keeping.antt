@@ -10,7 +10,7 @@ use Rattle.rt_thumb.specs.Effect.{with_special}
 use Rattle.rt_thumb.specs.Exceptions.{systick, priority_of, is_enabled, least_value, taken}
 use Rattle.rt_thumb.specs.Exceptions.{entered, even, popped, returned, return_to_thread, return_to_handler}
 use Rattle.rt_thumb.specs.Machine.{Machine, word_at, byte_at, with_word, with_register}
-use Rattle.rt_thumb.specs.Step.{Program, Event, Arrives, Ticks, Goes, GoesLate, step, going, executing}
+use Rattle.rt_thumb.specs.Step.{Program, Event, Arrives, Changes, Ticks, Goes, GoesLate, step, going, executing}
 use Rattle.rt_thumb.specs.declared.instruction.Operation.{Operation}
 use Rattle.rt_thumb.specs.declared.instruction.Operation.TheVariants as operation
 use Rattle.rt_thumb.specs.declared.instruction.Special.{Special}
@@ -19,7 +19,7 @@ use Rattle.rt_thumb.specs.declared.instruction.Instruction.{Instruction}
 use Rattle.rt_thumb.specs.declared.instruction.Instruction.TheVariants as instruction
 use Rattle.rt_thumb_laws.specs.Registers.{KeepsRegisters, stores_at, IsElsewhere, InstructionsKeepRegisters}
 use Rattle.rt_thumb_laws.specs.Registers.{StoresElsewhere, EventsKeepRegisters, RegistersSetPriorities}
-use Rattle.rt_thumb_laws.specs.Registers.{AreKnown, RegistersSetExecution}
+use Rattle.rt_thumb_laws.specs.Registers.{AreKnown, ChangesElsewhere, RegistersSetExecution}
 use Rattle.rt_thumb_laws.proofs.Frames.{frame_from, below_stack}
 use Rattle.rt_thumb_laws.proofs.Returning.{frame_words}
 use Rattle.rt_thumb_laws.proofs.Stores.{stored_as}
@@ -143,19 +143,20 @@ module _ (m : Machine) where
   going_leaves p None there room below = executing_leaves p.port (p.code m.address) there
   going_leaves p (Some e) there room below = entered_leaves e room below
 
-  step_leaves : (p : Program) (event : Event) → StoresElsewhere (p.code m.address) m → 36 ≤ m.register 13
-      → m.register 13 ≤ 0xE000E100 → Leaves m (step p m event)
-  step_leaves p (Arrives irq) there room below = λ x low high. refl
-  step_leaves p Ticks there room below = λ x low high. refl
-  step_leaves p Goes there room below = going_leaves p (taken m) there room below
-  step_leaves p GoesLate there room below = executing_leaves p.port (p.code m.address) there
+  step_leaves : (p : Program) (event : Event) → ChangesElsewhere event → StoresElsewhere (p.code m.address) m
+      → 36 ≤ m.register 13 → m.register 13 ≤ 0xE000E100 → Leaves m (step p m event)
+  step_leaves p (Arrives irq) changes there room below = λ x low high. refl
+  step_leaves p Ticks changes there room below = λ x low high. refl
+  step_leaves p (Changes address value) changes there room below = word_beside address value changes
+  step_leaves p Goes changes there room below = going_leaves p (taken m) there room below
+  step_leaves p GoesLate changes there room below = executing_leaves p.port (p.code m.address) there
 
 pub instructions_keep_registers : InstructionsKeepRegisters
 instructions_keep_registers port i m after is there = subst (Leaves m) is (leaves m port i there)
 
 pub events_keep_registers : EventsKeepRegisters
-events_keep_registers p m event after is there room below =
-    subst (Leaves m) is (step_leaves m p event there room below)
+events_keep_registers p m event after is changes there room below =
+    subst (Leaves m) is (step_leaves m p event changes there room below)
 
 module _ (before after : Machine) (keeps : KeepsRegisters before after) where
   same_byte : (address : ℕ) → 0xE000E100 ≤ address → address < 0xE000EF00

@@ -5,7 +5,7 @@ use Rattle.rt_ids.specs.Operation.{wrapped_number as word}
 use Rattle.rt_thumb.specs.Effect.{effect, operated, holds, branched, behind, loading, stored, storing, exchanged}
 use Rattle.rt_thumb.specs.Exceptions.{taken, even, returned}
 use Rattle.rt_thumb.specs.Machine.{Machine, word_at, with_register}
-use Rattle.rt_thumb.specs.Step.{Program, Event, Arrives, Ticks, Goes, GoesLate, step, going, executing}
+use Rattle.rt_thumb.specs.Step.{Program, Event, Arrives, Changes, Ticks, Goes, GoesLate, step, going, executing}
 use Rattle.rt_thumb.specs.declared.instruction.Operation.{Operation}
 use Rattle.rt_thumb.specs.declared.instruction.Operation.TheVariants as operation
 use Rattle.rt_thumb.specs.declared.instruction.Special.TheVariants as special
@@ -112,6 +112,7 @@ module _ (m : Machine) where
   step_alike : (p : Program) (event : Event) → AreAlike (step p (settled m) event) (step p m event)
   step_alike p (Arrives irq) = refl
   step_alike p Ticks = refl
+  step_alike p (Changes address value) = refl
   step_alike p Goes = going_alike p (taken m)
   step_alike p GoesLate = executing_alike p.port (p.code m.address)
 

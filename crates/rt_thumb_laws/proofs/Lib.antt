@@ -8,4 +8,5 @@ pub mod Taking
 pub mod Keeping
 pub mod Late
 pub mod Leave
+pub mod Beside
 pub mod Undisturbed

@@ -1,20 +1,22 @@
 -- What runs at the execution priority 0 is not disturbed.
 use Rattle.std.proofs.Common.{◌≡◌, ℕ, ◌+◌, ◌*◌, ◌%◌, ◌^◌, ◌<◌, ◌==◌, ◌&&◌, ◌||◌, not, Bool, true, false, nat_le}
 use Rattle.std.proofs.Common.{nat_lt, nat_eq, List, [], ◌∷◌, Option, Some, None, option_map, if◌then◌else◌}
-use Rattle.std.proofs.Common.{refl, sym, ap, subst, ◌∙◌, arith}
+use Rattle.std.proofs.Common.{refl, sym, ap, subst, ◌∙◌, arith, ◌/◌}
+use Rattle.std.proofs.lemmas.Bool.{false≢true, ne_eqb}
 use mathlib.Core.Path.{fun_ext}
 use Rattle.rt_ids.specs.Operation.{wrapped_number as word}
 use Rattle.rt_thumb.specs.Effect.{effect, operated, holds, branched, behind, loading, stored, storing, exchanged}
 use Rattle.rt_thumb.specs.Exceptions.{systick, external, priority_of, execution_priority, taken, even, popped}
 use Rattle.rt_thumb.specs.Exceptions.{returned, return_to_thread, return_to_handler}
-use Rattle.rt_thumb.specs.Machine.{Machine, word_at, with_register}
-use Rattle.rt_thumb.specs.Step.{Program, Arrives, Ticks, Goes, GoesLate, pended, after, going, executing}
+use Rattle.rt_thumb.specs.Machine.{Machine, word_at, with_register, with_word}
+use Rattle.rt_thumb.specs.Step.{Program, Arrives, Changes, Ticks, Goes, GoesLate, pended, after, going, executing}
 use Rattle.rt_thumb.specs.declared.instruction.Operation.{Operation}
 use Rattle.rt_thumb.specs.declared.instruction.Operation.TheVariants as operation
 use Rattle.rt_thumb.specs.declared.instruction.Special.TheVariants as special
 use Rattle.rt_thumb.specs.declared.instruction.Instruction.{Instruction}
 use Rattle.rt_thumb.specs.declared.instruction.Instruction.TheVariants as instruction
-use Rattle.rt_thumb_laws.specs.Undisturbed.{RunAtTop, NothingDisturbs}
+use Rattle.rt_thumb_laws.specs.Undisturbed.{IsAlone, IsApartFrom, IsAtTop, RunAtTop, NothingDisturbs}
+use Rattle.rt_thumb_laws.proofs.Beside.{apart_then, effects_beside}
 use Rattle.rt_thumb_laws.proofs.Stores.{stored_as}
 use Rattle.rt_thumb_laws.proofs.Taking.{the_first_is_taken}
 
@@ -115,18 +117,60 @@ module _ (e : ℕ) (m : Machine) where
       (branched x m) (behind (instruction.BranchIf c x) m) refl refl
   effects_with port i = refl
 
+-- an instruction leaves a word alone as before with an exception pending
+apart_with : (e k : ℕ) (i : Instruction) (m : Machine) → IsApartFrom k i m → IsApartFrom k i (pended e m)
+apart_with e k (instruction.Load t a n) m h = h
+apart_with e k i m h = h
+
+pub alone_with : (e : ℕ) (foreign : ℕ → Bool) (i : Instruction) (m : Machine) → IsAlone foreign i m
+    → IsAlone foreign i (pended e m)
+alone_with e foreign i m x =
+    record { at_top = x.at_top; apart = λ k f. apart_with e k i m (x.apart k f) }
+
 -- a run with an exception pending ends the same, with that pending
-pub run_with : (p : Program) (e : ℕ) (is : List Instruction) (m last : Machine) → RunAtTop p is m last
-    → RunAtTop p is (pended e m) (pended e last)
-run_with p e [] m last run = ap (pended e) run
-run_with p e (i ∷ is) m last run =
+pub run_with : (p : Program) (foreign : ℕ → Bool) (e : ℕ) (is : List Instruction) (m last : Machine)
+    → RunAtTop p foreign is m last → RunAtTop p foreign is (pended e m) (pended e last)
+run_with p foreign e [] m last run = ap (pended e) run
+run_with p foreign e (i ∷ is) m last run =
     let next = run.2.0 in (
-      run.0,
+      alone_with e foreign i m run.0,
       run.1,
       (
         pended e next,
         effects_with e m p.port i ∙ ap (option_map (pended e)) run.2.1,
-        run_with p e is next last run.2.2,
+        run_with p foreign e is next last run.2.2,
+      ),
+    )
+
+-- the execution priority is 0 with another foreign word
+top_changed : (foreign : ℕ → Bool) (address value : ℕ) (m : Machine) → foreign (address / 4) ≡ true → IsAtTop foreign m
+    → IsAtTop foreign (with_word address value m)
+top_changed foreign address value m is_foreign top memory same =
+    top memory (λ k own. same k own
+    ∙ ap (λ b. if b then value else m.memory k)
+    (ne_eqb k (address / 4) (λ e. false≢true (sym own ∙ (ap foreign e ∙ is_foreign)))))
+
+pub alone_changed : (foreign : ℕ → Bool) (address value : ℕ) (i : Instruction) (m : Machine)
+    → foreign (address / 4) ≡ true → IsAlone foreign i m → IsAlone foreign i (with_word address value m)
+alone_changed foreign address value i m is_foreign x = record {
+  at_top = top_changed foreign address value m is_foreign x.at_top;
+  apart = λ k f. apart_then address value m k i (x.apart k f);
+}
+
+-- a run with another foreign word ends the same, with that word
+pub run_changed : (p : Program) (foreign : ℕ → Bool) (address value : ℕ) (is : List Instruction) (m last : Machine)
+    → foreign (address / 4) ≡ true → RunAtTop p foreign is m last
+    → RunAtTop p foreign is (with_word address value m) (with_word address value last)
+run_changed p foreign address value [] m last is_foreign run = ap (with_word address value) run
+run_changed p foreign address value (i ∷ is) m last is_foreign run =
+    let next = run.2.0 in (
+      alone_changed foreign address value i m is_foreign run.0,
+      run.1,
+      (
+        with_word address value next,
+        effects_beside address value m p.port i (run.0.apart (address / 4) is_foreign)
+            ∙ ap (option_map (with_word address value)) run.2.1,
+        run_changed p foreign address value is next last is_foreign run.2.2,
       ),
     )
 
@@ -138,19 +182,28 @@ none_at_top m top = (the_first_is_taken m).none.1 (λ e may.
     never : (p : ℕ) → p < 0 → ⊥
     never p h = omega arith
 
+-- so it is as memory is
+pub top_now : (foreign : ℕ → Bool) (i : Instruction) (m : Machine) → IsAlone foreign i m → execution_priority m ≡ 0
+top_now foreign i m x = x.at_top m.memory (λ k own. refl)
+
 pub nothing_disturbs : NothingDisturbs
-nothing_disturbs p [] [] m last run many = ap Some (sym run)
-nothing_disturbs p (i ∷ is) [] m last run many = absurd (omega arith)
-nothing_disturbs p is (Arrives irq ∷ events) m last run many =
-    nothing_disturbs p is events (pended (external irq) m) (pended (external irq) last)
-    (run_with p (external irq) is m last run) many
-nothing_disturbs p is (Ticks ∷ events) m last run many =
-    nothing_disturbs p is events (pended systick m) (pended systick last) (run_with p systick is m last run) many
-nothing_disturbs p [] (Goes ∷ events) m last run many = absurd (omega arith)
-nothing_disturbs p (i ∷ is) (Goes ∷ events) m last run many =
-    ap (after p events) (ap (going p m) (none_at_top m run.0) ∙ (ap (executing p.port m) run.1 ∙ run.2.1))
-    ∙ nothing_disturbs p is events run.2.0 last run.2.2 (omega arith)
-nothing_disturbs p [] (GoesLate ∷ events) m last run many = absurd (omega arith)
-nothing_disturbs p (i ∷ is) (GoesLate ∷ events) m last run many =
+nothing_disturbs p foreign [] [] m last only run many = ap Some (sym run)
+nothing_disturbs p foreign (i ∷ is) [] m last only run many = absurd (omega arith)
+nothing_disturbs p foreign is (Arrives irq ∷ events) m last only run many =
+    nothing_disturbs p foreign is events (pended (external irq) m) (pended (external irq) last) only
+    (run_with p foreign (external irq) is m last run) many
+nothing_disturbs p foreign is (Ticks ∷ events) m last only run many =
+    nothing_disturbs p foreign is events (pended systick m) (pended systick last) only
+    (run_with p foreign systick is m last run) many
+nothing_disturbs p foreign is (Changes address value ∷ events) m last only run many =
+    nothing_disturbs p foreign is events (with_word address value m) (with_word address value last) only.1
+    (run_changed p foreign address value is m last only.0 run) many
+nothing_disturbs p foreign [] (Goes ∷ events) m last only run many = absurd (omega arith)
+nothing_disturbs p foreign (i ∷ is) (Goes ∷ events) m last only run many =
+    ap (after p events)
+    (ap (going p m) (none_at_top m (top_now foreign i m run.0)) ∙ (ap (executing p.port m) run.1 ∙ run.2.1))
+    ∙ nothing_disturbs p foreign is events run.2.0 last only run.2.2 (omega arith)
+nothing_disturbs p foreign [] (GoesLate ∷ events) m last only run many = absurd (omega arith)
+nothing_disturbs p foreign (i ∷ is) (GoesLate ∷ events) m last only run many =
     ap (after p events) (ap (executing p.port m) run.1 ∙ run.2.1)
-    ∙ nothing_disturbs p is events run.2.0 last run.2.2 (omega arith)
+    ∙ nothing_disturbs p foreign is events run.2.0 last only run.2.2 (omega arith)

@@ -7,7 +7,7 @@ use Rattle.rt_ids.specs.Operation.{wrapped_number as word}
 use Rattle.rt_thumb.specs.Effect.{effect}
 use Rattle.rt_thumb.specs.Exceptions.{systick, priority_of, is_enabled, execution_priority}
 use Rattle.rt_thumb.specs.Machine.{Machine, word_at}
-use Rattle.rt_thumb.specs.Step.{Program, Event, step}
+use Rattle.rt_thumb.specs.Step.{Program, Event, Changes, step}
 use Rattle.rt_thumb.specs.declared.instruction.Instruction.{Instruction}
 use Rattle.rt_thumb.specs.declared.instruction.Instruction.TheVariants as instruction
 
@@ -40,10 +40,16 @@ abbrev pub StoresElsewhere : Option Instruction → Machine → Type 0
 StoresElsewhere None m = ⊤
 StoresElsewhere (Some i) m = IsElsewhere (stores_at i m)
 
+-- a device does not change one of them
+abbrev pub ChangesElsewhere : Event → Type 0
+ChangesElsewhere (Changes address value) = IsElsewhere (Some address)
+ChangesElsewhere event = ⊤
+
 -- so does every event, where the stack lies below them
 abbrev pub EventsKeepRegisters : Type 0
 EventsKeepRegisters = (p : Program) (m : Machine) (event : Event) (after : Machine) → step p m event ≡ Some after
-    → StoresElsewhere (p.code m.address) m → 36 ≤ m.register 13 → m.register 13 ≤ 0xE000E100 → KeepsRegisters m after
+    → ChangesElsewhere event → StoresElsewhere (p.code m.address) m → 36 ≤ m.register 13
+    → m.register 13 ≤ 0xE000E100 → KeepsRegisters m after
 
 -- what hangs on these registers is the same: the priorities of exceptions, which are enabled, and the vector table
 pub record IsSetAlike (before after : Machine) : Type 0 where

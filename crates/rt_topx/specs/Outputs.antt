@@ -26,6 +26,7 @@ use Rattle.rt_target.specs.Reading.{IsBoardOf, IsTargetOf}
 use Rattle.rt_target.specs.Setup.{Setup}
 use Rattle.rt_native.specs.Target.{Target}
 use Rattle.rt_native_runs.specs.FromFile.{FileRuns}
+use Rattle.rt_native_runs.specs.Running.{LinkedRuns}
 use Rattle.rt_top.specs.Outputs.{IsGoodOf, IsGoodImage}
 use Rattle.rt_topx.specs.Executable.{IsMade}
 use Rattle.rt_topx.specs.Target.{target_of}
@@ -95,12 +96,15 @@ pub record IsLiveBeside (text beside more bytes : List ℕ) : Type 0 where
   pub written : bytes ≡ listing image ++ codes "trace\n" ++ shown
   pub runs : RunsWellBeside app image (moves_of app image board (happened script live.found))
 
--- On each processor of a chip whose memory holds these bytes, loaded as an executable file is, flash has a program that
--- does, from reset on, what the image does (`FileRuns`): no fault comes, what others see of the processor is what the
--- image shows, which is a run of Baker's machine beside devices, and the stack is within its bound and a tick's frame.
--- Of a chip for which functions of C are called nothing is said.
-abbrev pub RunsOnChip : App → Image → Target → List ℕ → Type 0
-RunsOnChip app image target bytes = FileRuns app image target bytes
+-- What is written does on a chip, from reset on, what the image does: no fault comes, what others see of the processor is
+-- what the image shows, which is a run of Baker's machine beside devices, and the stack is within its bound and a tick's
+-- frame.
+pub record RunsOnChip (app : App) (image : Image) (target : Target) (bytes : List ℕ) : Type 0 where
+  -- an executable, on each processor whose memory holds these bytes, loaded as an executable file is
+  pub executable : FileRuns app image target bytes
+  -- the program of an object, once it is linked with functions of C, beside these, which keep to what is theirs; that
+  -- memory has the program is the linker's matter, so nothing is said of bytes
+  pub object : LinkedRuns app image target
 
 -- `native`: the executable of a good image, which is good beside the devices of the board too, for the chip of the
 -- board; or, where the image does not fit, the line of the board's text that is too small for it.

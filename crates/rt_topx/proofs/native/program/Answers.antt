@@ -6,6 +6,7 @@ use Rattle.rt_native.specs.Fitting.{IsRegion, Fits, IsUnfit}
 use Rattle.rt_native.specs.Target.{Target}
 use Rattle.rt_native_runs.specs.FromFile.{FileRuns}
 use Rattle.rt_native_runs.proofs.FromFile.{files_run_as_images}
+use Rattle.rt_native_runs.proofs.Running.{linked_programs_run_as_images}
 use Rattle.rt_target.specs.Chip.{is_flash, is_ram}
 use Rattle.rt_topx.specs.Target.{target_of}
 use Rattle.rt_topx.proofs.Chips.{is_chip}
@@ -32,14 +33,19 @@ returns-in-Ok-clause-bytes c =
     let app = app_of c.args.app.now in
     let setup = c.args.setup.now in
     let fits = subst (Fits image) of c.in-Ok.ensures.fits in
-    let is_file = subst (λ (t : Target). c.in-Ok.bytes.items ≡ file image t) of c.in-Ok.ensures.bytes in (
+    let is_file = subst (λ (t : Target). c.in-Ok.bytes.items ≡ file image t) of c.in-Ok.ensures.bytes in
+    let chip = is_chip app setup c.requires.facts c.requires.whole in
+    let wired = inputs_are_wired app setup.board c.requires.inputs.each setup.facts c.requires.facts in (
       image,
       good_of app image c.requires.accepted is.image is.built is.runnable is.lines,
       (fits, is_file),
-      subst (FileRuns app image (target_of app setup)) (sym is_file)
-          (files_run_as_images app image (target_of app setup) c.requires.accepted is.image is.built is.runnable
-          (is_chip app setup c.requires.facts c.requires.whole) (is_low app setup.facts c.requires.facts is_flash) fits
-          (inputs_are_wired app setup.board c.requires.inputs.each setup.facts c.requires.facts)),
+      record {
+        executable = subst (FileRuns app image (target_of app setup)) (sym is_file)
+            (files_run_as_images app image (target_of app setup) c.requires.accepted is.image is.built is.runnable chip
+            (is_low app setup.facts c.requires.facts is_flash) fits wired);
+        object = linked_programs_run_as_images app image (target_of app setup) c.requires.accepted is.image is.built
+            is.runnable chip fits wired;
+      },
     )
 
 pub returns-clause-unfit : goal.returns-clause-unfit
