@@ -5,7 +5,8 @@
        arm-none-eabi-ld -e reset --section-start=.rtic=0 -Ttext=0x2000 received.o functions.o -o received.elf
        qemu-system-arm -M mps2-an386 -nographic -monitor none -serial stdio -kernel received.elf
 
-   Nobody copies first values of C or clears its memory, and its stack comes on top of `stack`. */
+   Nobody copies first values of C or clears its memory. What a function takes of the stack, and 8 bytes, has to fit into
+   the frame of its task, which `check` prints in words of 4 bytes. */
 #include <stdint.h>
 
 /* UART0 of mps2-an386: data, control, interrupts */
