@@ -21,8 +21,9 @@ use Rattle.rt_native_laws.specs.Relating.{IsInPlace, IsPastMarks, IsWhere}
 use Rattle.rt_native_laws.specs.Simulating.{arrivals_at, arrivals_of, seen_of_label, IsFitFor}
 use Rattle.rt_native_laws.proofs.Changing.{changed_where}
 use Rattle.rt_native_laws.proofs.Following.{at_most_one, filled, follow, start, there_is, where_is, lies_alone}
-use Rattle.rt_native_laws.specs.WithFunctions.{LinkedSimulatesFromReset}
+use Rattle.rt_native_laws.specs.WithFunctions.{LinkedSimulatesFromReset, inputs_beside}
 use Rattle.rt_native_laws.proofs.Events.{At, Stands, stays_behind}
+use Rattle.rt_native_laws.proofs.Fewer.{can_beside_more, well_beside_fewer}
 use Rattle.rt_native_laws.proofs.FollowingMoves.{follow_moves}
 use Rattle.rt_native_laws.proofs.FromReset.{reset_leads_behind}
 use Rattle.rt_native_laws.proofs.Marking.{HasMarked, marks_are_done}
@@ -138,7 +139,7 @@ pub linked_behind : (img : Image) (target : Target) (p : Program) (m : Machine)
     → (x : ComesBehindReset img target p m) → LiesLinked img target p m → LiesLinked img target p x.last
 linked_behind img target p m x linked = record {
   object = linked.object;
-  functions = linked.functions;
+  addresses = linked.addresses;
   loaded = x.still linked.object linked.loaded;
   executed = linked.executed;
   linked = linked.linked;
@@ -221,29 +222,33 @@ pub linked_simulates_from_reset : LinkedSimulatesFromReset
 linked_simulates_from_reset img target functions p fits m image mapped well lies at_start keep =
     let x = reset_leads_behind img target p m image mapped lies at_start in
     let linked = linked_behind img target p m x lies in
+    let fewer = well_beside_fewer img target.inputs functions.inputs fits well in
     record {
       count = x.count;
       meanwhile = x.meanwhile;
       follows = λ before moves many early numbered changes few.
-          let come = come img target p fits m image well x linked before numbered changes in
-          let next = next_behind img target p fits m image well x linked before numbered changes in
+          let come = come img target p fits m image fewer x linked before numbered changes in
+          let next = next_behind img target p fits m image fewer x linked before numbered changes in
           record {
             next = next;
             no_fault = x.leads before many early changes;
             seen = arrivals_unseen before x.last ∙ x.seen;
-            first = first_behind img target p fits m image well x linked before numbered changes;
-            can = can_behind img target p fits m image well x linked before numbered changes;
+            first = first_behind img target p fits m image fewer x linked before numbered changes;
+            can = can_behind img target p fits m image fewer x linked before numbered changes;
             arrivals = come.arrivals;
             unseen = come.seen;
             follows = follow_moves img target functions p
-                (there_behind img target p fits m image well x linked before numbered changes) keep well.ceiling well.frames
-                moves
-                (λ e. None)
-                (λ more. fits (first_behind img target p fits m image well x linked before numbered changes ++ more))
+                (there_behind img target p fits m image fewer x linked before numbered changes) keep well.ceiling
+                well.frames moves (λ e. None)
+                (λ more. fits (first_behind img target p fits m image fewer x linked before numbered changes ++ more))
                 (moment_after_all img (at_reset img)
-                (first_behind img target p fits m image well x linked before numbered changes)) next
-                (stays_then img target p fits m image well x linked before numbered changes)
-                (stands_then img target p fits m image well x linked before numbered changes)
+                (first_behind img target p fits m image fewer x linked before numbered changes)) next
+                (stays_behind img (inputs_beside target functions) well.ceiling fits (at_reset img)
+                (first_behind img target p fits m image fewer x linked before numbered changes)
+                (can_beside_more img target.inputs functions.inputs (at_reset img)
+                (first_behind img target p fits m image fewer x linked before numbered changes)
+                (can_behind img target p fits m image fewer x linked before numbered changes)) well.moments)
+                (stands_then img target p fits m image fewer x linked before numbered changes)
                 (omega (arith, few, come.time, at_most_one (next.is_pending systick)));
           };
     }

@@ -176,7 +176,7 @@ module _ (img : Image) (target : Target) (p : Program) (words : List ℕ) (m : M
     image = image;
     table = table_within;
     flash = flash_is_apart;
-    has = linked_code_is_there img target linked.functions linked.object p m linked.loaded linked.executed linked.linked
+    has = linked_code_is_there img target linked.addresses linked.object p m linked.loaded linked.executed linked.linked
         stands.executed;
     laid = stands.laid;
     reach = reaches;
@@ -236,7 +236,7 @@ pub lies_alone : (img : Image) (target : Target) (p : Program) (m : Machine) →
     → IsExecuted target p → LiesLinked img target p m
 lies_alone img target p m no_functions loaded executes = record {
   object = p;
-  functions = λ irq. 0;
+  addresses = λ irq. 0;
   loaded = loaded;
   executed = executes;
   linked = record {

@@ -26,10 +26,12 @@ use Rattle.rt_native_laws.specs.Simulating.{CanCome, IsBeside, ticks}
 use Rattle.rt_native_laws.specs.WithFunctions.{CallsAsAgreed, ExecutesAt, Functions, IsBesideRun, IsFree}
 use Rattle.rt_native_laws.specs.WithFunctions.{KeepToTheirs}
 use Rattle.rt_native_laws.specs.WithFunctions.{LeadsOutNever, LinkedSimulates, Move, MovesBeside, Own, Runs, RunsOn}
-use Rattle.rt_native_laws.specs.WithFunctions.{called_back, called_by, called_going, called_then, ticks_of}
+use Rattle.rt_native_laws.specs.WithFunctions.{called_back, called_by, called_going, called_then, inputs_beside}
+use Rattle.rt_native_laws.specs.WithFunctions.{ticks_of}
 use Rattle.rt_native_laws.proofs.CallingFunctions.{branch_leads_on, irq_is, is_of, room_fits}
 use Rattle.rt_native_laws.proofs.Events.{At, Led, Stands, Within, deep, leads, one_if, owed_then}
 use Rattle.rt_native_laws.proofs.Events.{some_is_no_none, stays_behind}
+use Rattle.rt_native_laws.proofs.Fewer.{can_beside_more, good_beside_fewer}
 use Rattle.rt_native_laws.proofs.Following.{at_most_one, filled, start, there_is, where_is}
 use Rattle.rt_native_laws.proofs.InTick.{one_is_not_none, tick_goes_on}
 use Rattle.rt_native_laws.proofs.LeadingInCall.{fresh_of_call}
@@ -282,15 +284,18 @@ module _ (img : Image) (target : Target) (functions : Functions) (p : Program) (
         (called_back (p.code next.address) m.exception called)
 
   ran : (left : ℕ) (called : ℕ → Option Machine) (fits : List Happening → Bool) (s : Moment) (m next function : Machine)
-      → StaysGood img target.inputs ceiling fits s → (stands : Where called fits s m) → fits [] ≡ true
-      → called m.exception ≡ Some function → RunsOn img target functions p function m next
+      → StaysGood img (inputs_beside target functions) ceiling fits s → (stands : Where called fits s m)
+      → fits [] ≡ true → called m.exception ≡ Some function → RunsOn img target functions p function m next
       → s.core.time + owed_at called fits s m stands + left + 2 < 2 ^ 32 → Ran left called fits s m next
-  ran left called fits s m next function stays (Within last here x low) fitting under_way runs bound =
+  ran left called fits s m next function stays_beside (Within last here x low) fitting under_way runs bound =
       let y = tick_goes_on img target p there (is_devices target) m last x in
       absurd (some_is_none y.next (sym (ap (executing p.port m) runs.outside_program) ∙ y.no_fault))
-  ran left called fits s m next function stays (At here) fitting under_way runs bound =
+  ran left called fits s m next function stays_beside (At here) fitting under_way runs bound =
       by_next (what_is_next left called fits s m stays here.0 here.0.phase refl)
     where
+      stays : StaysGood img target.inputs ceiling fits s
+      stays = good_beside_fewer img target.inputs functions.inputs ceiling fits s stays_beside
+
       by_next : WhatIsNext left called fits s m stays here.0 → Ran left called fits s m next
       by_next (Program_goes own) =
           let l = leads img target p there ceiling called even_frames left processor.Goes fits s m stays
@@ -302,8 +307,8 @@ module _ (img : Image) (target : Target) (functions : Functions) (p : Program) (
           let b = branch_leads_on img target p there ceiling called fits s m stays here.0 x f is before in
           absurd (one_is_not_none (instruction.Call b.displacement) (sym b.found ∙ runs.outside_program))
       by_next (Function_runs x f is within) =
-          let y = function_leads_on img target functions p there keep ceiling called fits s m stays here.0 x f is within
-          function next under_way runs in
+          let y = function_leads_on img target functions p there keep ceiling called fits s m stays_beside here.0 x f is
+          within function next under_way runs in
           let now = called_back (p.code next.address) m.exception called in
           record {
             happened = y.happened;
@@ -325,12 +330,13 @@ module _ (img : Image) (target : Target) (functions : Functions) (p : Program) (
   -- from where the processor stands it follows, where the time has room for all ticks
   pub follow_moves : (moves : List Move) (called : ℕ → Option Machine) (fits : List Happening
       → Bool) (s : Moment) (m : Machine)
-      → StaysGood img target.inputs ceiling fits s → (stands : Where called fits s m)
+      → StaysGood img (inputs_beside target functions) ceiling fits s → (stands : Where called fits s m)
       → s.core.time + owed_at called fits s m stands + ticks_of moves + 2 < 2 ^ 32
       → MovesBeside img target functions p fits called s m moves
   follow_moves [] called fits s m stays stands bound = tt
   follow_moves (Own event ∷ moves) called fits s m stays stands bound = λ fitting can_come is_free.
-      let y = moved (ticks_of moves) called event fits s m stays stands fitting can_come is_free
+      let y = moved (ticks_of moves) called event fits s m
+      (good_beside_fewer img target.inputs functions.inputs ceiling fits s stays) stands fitting can_come is_free
       (omega (arith, bound, own_ticks event moves)) in (
         y.happened,
         y.next,
@@ -338,7 +344,8 @@ module _ (img : Image) (target : Target) (functions : Functions) (p : Program) (
         y.agreed,
         follow_moves moves (called_then p m event y.next called) (λ more. fits (y.happened ++ more))
             (moment_after_all img s y.happened) y.next
-            (stays_behind img target.inputs ceiling fits s y.happened y.beside.can stays) y.later.0 y.later.1,
+            (stays_behind img (inputs_beside target functions) ceiling fits s y.happened
+            (can_beside_more img target.inputs functions.inputs s y.happened y.beside.can) stays) y.later.0 y.later.1,
       )
   follow_moves (Runs next ∷ moves) called fits s m stays stands bound = λ fitting function under_way runs.
       let y = ran (ticks_of moves) called fits s m next function stays stands fitting under_way runs
@@ -347,7 +354,8 @@ module _ (img : Image) (target : Target) (functions : Functions) (p : Program) (
         y.beside,
         follow_moves moves (called_back (p.code next.address) m.exception called) (λ more. fits (y.happened ++ more))
             (moment_after_all img s y.happened) next
-            (stays_behind img target.inputs ceiling fits s y.happened y.beside.can stays) y.later.0 y.later.1,
+            (stays_behind img (inputs_beside target functions) ceiling fits s y.happened y.beside.can stays) y.later.0
+            y.later.1,
       )
 
 pub linked_simulates : LinkedSimulates
@@ -357,7 +365,8 @@ linked_simulates img target functions p fits words m moves image well linked sta
     let called : ℕ → Option Machine = λ e. None in
     let start_here = start img target p words m image linked stands in
     let fill = filled img target p words m image linked stands in
-    let stays = stays_behind img target.inputs ceiling fits (at_reset img) (Fills words ∷ []) (fill, tt) well.moments in
+    let fewer = good_beside_fewer img target.inputs functions.inputs ceiling fits (at_reset img) well.moments in
+    let stays = stays_behind img target.inputs ceiling fits (at_reset img) (Fills words ∷ []) (fill, tt) fewer in
     let marked = marks_are_done img target p there ceiling called (λ more. fits (Fills words ∷ more)) start_here m stays
     (where_is img target p words m image linked stands ceiling called) in
     let first = Fills words ∷ marked.happened in
@@ -369,7 +378,8 @@ linked_simulates img target functions p fits words m moves image well linked sta
       unseen = marked.seen;
       follows = follow_moves img target functions p there keep ceiling well.frames moves called
           (λ more. fits (first ++ more)) (moment_after_all img (at_reset img) first) m
-          (stays_behind img target.inputs ceiling fits (at_reset img) first can well.moments)
+          (stays_behind img (inputs_beside target functions) ceiling fits (at_reset img) first
+          (can_beside_more img target.inputs functions.inputs (at_reset img) first can) well.moments)
           (At (marked.here, λ f. marked.marks (ap fits (sym (append-nil first)) ∙ f)))
           (omega (arith, few, marked.time, at_most_one (m.is_pending systick)));
     }

@@ -117,13 +117,13 @@ module _ (img : Image) (target : Target) (p : Program) (m : Machine) (image : Is
   top = stack_top img target
 
   has : HasCode at img pl p
-  has = linked_code_is_there img target linked.functions linked.object p m linked.loaded linked.executed linked.linked
+  has = linked_code_is_there img target linked.addresses linked.object p m linked.loaded linked.executed linked.linked
       start.executed
 
   -- the code of reset
   begun_here : CodeLies p (reset_at img target) (reset at target.tick img load)
   begun_here =
-      (linked_service_lies img target linked.functions linked.object p m linked.loaded linked.linked).1
+      (linked_service_lies img target linked.addresses linked.object p m linked.loaded linked.linked).1
 
   -- the first two words of the vector table
   table_is : (k : ℕ) → k < 16 → word_at m (table m + 4 * k) ≡ slice_index (vectors img target) k

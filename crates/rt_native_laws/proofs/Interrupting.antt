@@ -274,12 +274,12 @@ module _ (img : Image) (target : Target) (p : Program) (ceiling : ℕ)
   -- what runs first as the interrupt is taken
   abbrev Lies : Bool → Type 0
   Lies b =
-      Spans p n.address ((if b then linked_call n.address (linked.functions row.number) else [])
+      Spans p n.address ((if b then linked_call n.address (linked.addresses row.number) else [])
       ++ stub at target.inputs pl to row.number (Some h)) to
 
   lies : Lies (is_called target.calls row.number)
   lies =
-      linked_entries_lead img target linked.functions linked.object p m linked.loaded linked.linked
+      linked_entries_lead img target linked.addresses linked.object p m linked.loaded linked.linked
       there.image.runnable.rows.numbers (picked_row img c row picked).0.0 row h at_index handled
 
   all_inputs : AllByRecursion (IsInput (length c.processor.cells)) (filter (λ i. i.irq == row.number) target.inputs)
@@ -325,11 +325,11 @@ module _ (img : Image) (target : Target) (p : Program) (ceiling : ℕ)
         (picked_row img c row picked).0.0 row linked.frames at_index is)
 
     begun : (x : IsInCall at bottom img pl p d (n.register 13) n) × (x.stage ≡ AtFall) × (x.irq ≡ row.number)
-        × (x.handler ≡ h) × (x.declared ≡ target.inputs) × (x.function ≡ linked.functions row.number)
+        × (x.handler ≡ h) × (x.declared ≡ target.inputs) × (x.function ≡ linked.addresses row.number)
         × (x.room ≡ 4 * h.frame - 8) × (x.registers ≡ n.register)
     begun =
         entry_begins_call at bottom img pl p target.inputs (4 * h.frame - 8)
-        (linked.functions row.number) to row.number h
+        (linked.addresses row.number) to row.number h
         c w.top m there.has laid can w.placed.1 inactive unmasked w.words within.high within.below_cells w.phase
         (there.entrances ((picked_row img c row picked).0.0 + 1)) all_inputs (linked.reached row.number is)
         (subst Lies is lies) room (omega (arith, room, deep_frame))

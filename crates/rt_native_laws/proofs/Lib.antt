@@ -82,6 +82,7 @@ pub mod InTick
 pub mod Alike
 pub mod Owing
 pub mod Events
+pub mod Fewer
 pub mod Following
 pub mod ResetPlaces
 pub mod InReset

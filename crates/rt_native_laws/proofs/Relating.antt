@@ -114,7 +114,7 @@ module _ (img : Image) (target : Target) (p : Program) (there : IsInPlace img ta
     pub loaded_still : LiesLinked img target p m → LiesLinked img target p n
     loaded_still l = record {
       object = l.object;
-      functions = l.functions;
+      addresses = l.addresses;
       loaded = record {
         region = l.loaded.region;
         fits = l.loaded.fits;

@@ -29,10 +29,12 @@ use Rattle.rt_native_laws.specs.Phases.{Calls, IsInFrame, tail_of, viewed}
 use Rattle.rt_native_laws.specs.Relating.{IsInPlace, IsPastMarks, IsWhere, calls_of, lowest, program_flash}
 use Rattle.rt_native_laws.specs.Simulating.{arrivals_of, compared, seen_of_label}
 use Rattle.rt_native_laws.specs.Waiting.{Waiting, others_tail}
-use Rattle.rt_native_laws.specs.WithFunctions.{Functions, IsFromFunction, KeepToTheirs, RunsOn, called_back, interrupt_of}
+use Rattle.rt_native_laws.specs.WithFunctions.{Functions, IsFromFunction, KeepToTheirs, RunsOn, called_back}
+use Rattle.rt_native_laws.specs.WithFunctions.{inputs_beside, interrupt_of}
 use Rattle.rt_native_laws.proofs.CallKept.{frame_again}
 use Rattle.rt_native_laws.proofs.CallingFunctions.{irq_is, is_of, others_below, room_fits}
 use Rattle.rt_native_laws.proofs.Events.{after_both, can_both, stays_behind}
+use Rattle.rt_native_laws.proofs.Fewer.{can_beside_more, good_beside_fewer}
 use Rattle.rt_native_laws.proofs.Functions.{cells_long, functions_put_words}
 use Rattle.rt_native_laws.proofs.Leading.{begun_of}
 use Rattle.rt_native_laws.proofs.LeadingInCall.{Jobs, first, fresh_of_call, settled_first, where_called}
@@ -93,13 +95,17 @@ all_in (k ∷ written) = ((0, refl), in_later k written written (all_in written)
 module _ (img : Image) (target : Target) (functions : Functions) (p : Program) (there : IsInPlace img target p)
     (keep : KeepToTheirs img target functions p) (ceiling : ℕ)
     (called : ℕ → Option Machine) (fits : List Happening → Bool) (s : Moment) (m : Machine)
-    (stays : StaysGood img target.inputs ceiling fits s) (w : IsWhere img target p ceiling called s m)
+    (stays_beside : StaysGood img (inputs_beside target functions) ceiling fits s)
+    (w : IsWhere img target p ceiling called s m)
     (x : IsInCall (outside img target) (lowest img target p) img (places img target) p w.unpaid w.top m)
     (f : IsInFrame (outside img target) (lowest img target p) img (places img target) p w.unpaid w.top m x)
     (is : w.phase ≡ Calls x f) (within : x.stage ≡ Within) (function n : Machine)
     (under_way : called m.exception ≡ Some function) (runs : RunsOn img target functions p function m n) where
   abbrev at : Outside
   at = outside img target
+
+  abbrev stays : StaysGood img target.inputs ceiling fits s
+  stays = good_beside_fewer img target.inputs functions.inputs ceiling fits s stays_beside
 
   abbrev pl : List ℕ
   pl = places img target
@@ -241,11 +247,11 @@ module _ (img : Image) (target : Target) (functions : Functions) (p : Program) (
   abbrev words : List Happening
   words = words_put at n written
 
-  put : AllCanHappen img target.inputs s words × (shown img s words ≡ [])
+  put : AllCanHappen img (inputs_beside target functions) s words × (shown img s words ≡ [])
       × (moment_after_all img s words
       ≡ with_core s (core_with_cells (cells_with at n written s.core.processor.cells) s.core))
   put =
-      functions_put_words at img target.inputs (interrupt_of m.exception) written s n
+      functions_put_words at img (inputs_beside target functions) (interrupt_of m.exception) written s n
       (keep.cells (interrupt_of m.exception) (subst (λ (k : ℕ). is_called target.calls k ≡ true)
       (sym irq_here) is_here)) begun
       runs.harmless.words
@@ -265,7 +271,7 @@ module _ (img : Image) (target : Target) (functions : Functions) (p : Program) (
   -- What it leads to: words are put, nobody sees anything, and marks are done.
   pub record FunctionLeads : Type 0 where
     pub happened : List Happening
-    pub can : AllCanHappen img target.inputs s happened
+    pub can : AllCanHappen img (inputs_beside target functions) s happened
     pub arrivals : flat_map arrivals_of happened ≡ []
     pub few : length happened ≤ length written + length img.code
     pub from : AllByRecursion (IsFromFunction at written n) happened
@@ -280,14 +286,18 @@ module _ (img : Image) (target : Target) (functions : Functions) (p : Program) (
   function_leads_on =
       let marked = marks_are_done img target p there ceiling now (λ more. fits (words ++ more))
       (moment_after_all img s words) n
-      (stays_behind img target.inputs ceiling fits s words put.0 stays) here in
+      (good_beside_fewer img target.inputs functions.inputs ceiling (λ more. fits (words ++ more))
+      (moment_after_all img s words)
+      (stays_behind img (inputs_beside target functions) ceiling fits s words put.0 stays_beside)) here in
       let both = after_both img s words marked.happened in
       let again = subst (λ (z : Moment). (h : IsWhere img target p ceiling now z n)
       × (fits (words ++ marked.happened) ≡ true → IsPastMarks img target p h.unpaid h.top n h.phase)) (sym both)
       (marked.here, marked.marks) in
       record {
         happened = words ++ marked.happened;
-        can = can_both img target.inputs s words marked.happened put.0 marked.can;
+        can = can_both img (inputs_beside target functions) s words marked.happened put.0
+            (can_beside_more img target.inputs functions.inputs (moment_after_all img s words) marked.happened
+            marked.can);
         arrivals = puts_silent img at n written marked.happened ∙ marked.arrivals;
         few = omega (
           arith,

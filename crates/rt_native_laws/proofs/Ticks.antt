@@ -246,7 +246,7 @@ module _ (img : Image) (target : Target) (p : Program) (ceiling : ℕ)
         address = w.placed.0;
         aligned = rounded.0;
         room = omega (arith, room);
-      }) (linked_service_lies img target w.loaded.functions w.loaded.object p m w.loaded.loaded w.loaded.linked).0
+      }) (linked_service_lies img target w.loaded.addresses w.loaded.object p m w.loaded.loaded w.loaded.linked).0
       (record {
         aligned = omega (arith, there.laid.aligned, there.laid.time);
         in_memory = there.laid.in_memory;

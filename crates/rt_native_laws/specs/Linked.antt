@@ -31,19 +31,19 @@ IsLeftAlone (instruction.Call displacement) = ⊥
 IsLeftAlone i = ⊤
 
 -- A program is that of an object, linked with functions, which lie at an address for each interrupt.
-pub record IsLinked (img : Image) (target : Target) (functions : ℕ → ℕ) (object p : Program) : Type 0 where
+pub record IsLinked (img : Image) (target : Target) (addresses : ℕ → ℕ) (object p : Program) : Type 0 where
   pub port : p.port ≡ object.port
   pub fixed : (a : ℕ) (i : Instruction) → object.code a ≡ Some i → IsLeftAlone i → p.code a ≡ Some i
   pub calls : (k : ℕ) (row : IrqRow) → slice_get img.irqs k ≡ Some row
       → calls_first target.calls row.number row.handler ≡ true
       → p.code (slice_index (stub_places img target) k + call_offset)
-      ≡ Some (instruction.Call (displacement_to (slice_index (stub_places img target) k) (functions row.number)))
+      ≡ Some (instruction.Call (displacement_to (slice_index (stub_places img target) k) (addresses row.number)))
 
 -- The image's code is at its places.
 abbrev pub LinkedCodeIsThere : Type 0
 LinkedCodeIsThere =
-    (img : Image) (target : Target) (functions : ℕ → ℕ) (object p : Program) (m : Machine)
-    → IsLoaded img target object m → IsExecuted target object → IsLinked img target functions object p
+    (img : Image) (target : Target) (addresses : ℕ → ℕ) (object p : Program) (m : Machine)
+    → IsLoaded img target object m → IsExecuted target object → IsLinked img target addresses object p
     → IsExecuted target p → HasCode (outside img target) img (places img target) p
 
 -- what runs first as an interrupt is taken, from an address on: the call of its function, where it has one, and then
@@ -56,31 +56,32 @@ linked_entrance at target places begins function behind irq h =
 -- An interrupt's entry leads there.
 abbrev pub LinkedEntriesLead : Type 0
 LinkedEntriesLead =
-    (img : Image) (target : Target) (functions : ℕ → ℕ) (object p : Program) (m : Machine)
-    → IsLoaded img target object m → IsLinked img target functions object p → HaveNumbersApart img.irqs
+    (img : Image) (target : Target) (addresses : ℕ → ℕ) (object p : Program) (m : Machine)
+    → IsLoaded img target object m → IsLinked img target addresses object p → HaveNumbersApart img.irqs
     → (k : ℕ) (row : IrqRow) (h : Handler) → slice_get img.irqs k ≡ Some row → row.handler ≡ Some h
     → Spans p (entered (external row.number) m).address
     (linked_entrance (outside img target) target (places img target) (entered (external row.number) m).address
-    (functions row.number) (slice_index (stub_places img target) (k + 1)) row.number h)
+    (addresses row.number) (slice_index (stub_places img target) (k + 1)) row.number h)
     (slice_index (stub_places img target) (k + 1))
 
 -- Ticks are served, and the code of reset lies where it did.
 abbrev pub LinkedServiceLies : Type 0
 LinkedServiceLies =
-    (img : Image) (target : Target) (functions : ℕ → ℕ) (object p : Program) (m : Machine)
-    → IsLoaded img target object m → IsLinked img target functions object p
+    (img : Image) (target : Target) (addresses : ℕ → ℕ) (object p : Program) (m : Machine)
+    → IsLoaded img target object m → IsLinked img target addresses object p
     → ServesTicks p (outside img target) (timer_irq img.code) m
     × LieFrom p (reset_at img target) (reset (outside img target) target.tick img (load_at img target))
 
--- A program lies in flash that is an object's, linked with functions, which are in the address space and not among what
--- the program has at an address. The handler of each interrupt that calls one has a frame of two words at least.
+-- A program is that of an object, linked with functions, which are in the address space and not among what the program
+-- has at an address; the vectors lie in flash. Which instructions it has is the linker's matter: of their bytes in
+-- memory nothing is told. The handler of each interrupt that calls a function has a frame of two words at least.
 pub record LiesLinked (img : Image) (target : Target) (p : Program) (m : Machine) : Type 0 where
   pub object : Program
-  pub functions : ℕ → ℕ
+  pub addresses : ℕ → ℕ
   pub loaded : IsLoaded img target object m
   pub executed : IsExecuted target object
-  pub linked : IsLinked img target functions object p
-  pub reached : (irq : ℕ) → is_called target.calls irq ≡ true → functions irq < 2 ^ 32
-  pub elsewhere : (irq : ℕ) → is_called target.calls irq ≡ true → p.code (functions irq) ≡ None
+  pub linked : IsLinked img target addresses object p
+  pub reached : (irq : ℕ) → is_called target.calls irq ≡ true → addresses irq < 2 ^ 32
+  pub elsewhere : (irq : ℕ) → is_called target.calls irq ≡ true → p.code (addresses irq) ≡ None
   pub frames : AllByRecursion (λ row. is_called target.calls row.number ≡ true
       → IfSome row.handler (λ h. 2 ≤ h.frame)) img.irqs

@@ -14,6 +14,7 @@ use Rattle.rt_native.specs.Layout.{TICK_BYTES, outside, stack_top}
 use Rattle.rt_native.specs.Service.{is_called, timer_irq}
 use Rattle.rt_native.specs.Target.{Target}
 use Rattle.rt_native.specs.declared.outside.Outside.{Outside}
+use Rattle.rt_native.specs.declared.target.Input.{Input}
 use Rattle.rt_native_laws.specs.Behaving.{BehavesWell}
 use Rattle.rt_native_laws.specs.Devices.{ChangeDevices}
 use Rattle.rt_native_laws.specs.FromReset.{AreNumbered, HasNoTickAtFirst, IsMapped, StandsAtReset}
@@ -44,10 +45,16 @@ ticks_of (Own processor.Ticks ∷ moves) = suc (ticks_of moves)
 ticks_of (move ∷ moves) = ticks_of moves
 
 -- Functions of C, by the numbers of interrupts: so many bytes of the stack one takes at most, and it may write the
--- cells of these numbers.
+-- cells of these numbers. They bring words, each for an interrupt and a cell, as inputs do; but no register's address
+-- is told of them, as the program does not read them.
 pub record Functions : Type 0 where
   pub room : ℕ → ℕ
   pub written : ℕ → List ℕ
+  pub inputs : List Input
+
+-- what brings words into cells: registers, which the program reads, and functions
+abbrev pub inputs_beside : Target → Functions → List Input
+inputs_beside target functions = target.inputs ++ functions.inputs
 
 -- the number of the interrupt of an exception (ARMv7-M Architecture Reference Manual, section B1.5.2)
 abbrev pub interrupt_of : ℕ → ℕ
@@ -104,7 +111,8 @@ IsFromFunction at written next (Loads input word) = ⊥
 IsFromFunction at written next happening = ⊤
 
 module _ (img : Image) (target : Target) (functions : Functions) (p : Program) where
-  -- A function is called as is agreed (AAPCS): with so many bytes of the stack, and of an interrupt that calls one.
+  -- A function is called as is agreed (AAPCS), at whatever address the BL leads to: with so many bytes of the stack,
+  -- and of an interrupt that calls one.
   abbrev pub CallsAsAgreed : Machine → processor.Event → Machine → Type 0
   CallsAsAgreed m event next =
       ExecutesAt p m event → (displacement : ℕ) → p.code m.address ≡ Some (instruction.Call displacement)
@@ -128,7 +136,7 @@ module _ (img : Image) (target : Target) (functions : Functions) (p : Program) w
   -- Beside it words that the function wrote may be put into cells: others see nothing, and the stack is no deeper than
   -- the image's.
   pub record IsBesideRun (s : Moment) (happened : List Happening) (m next : Machine) : Type 0 where
-    pub can : AllCanHappen img target.inputs s happened
+    pub can : AllCanHappen img (inputs_beside target functions) s happened
     pub arrivals : flat_map arrivals_of happened ≡ []
     pub few : length happened ≤ length (functions.written (interrupt_of m.exception)) + length img.code
     pub words : AllByRecursion (IsFromFunction (outside img target) (functions.written (interrupt_of m.exception)) next)
@@ -153,12 +161,13 @@ module _ (img : Image) (target : Target) (functions : Functions) (p : Program) w
       (moment_after_all img s happened) next moves
 
   -- The functions keep to what is theirs: each one's part of the stack, and 8 bytes in which LR is kept, fit into the
-  -- frame of its handler, which comes into being behind it; and it writes cells of its interrupt's inputs alone.
+  -- frame of its handler, which comes into being behind it; and it writes cells of its interrupt's inputs alone, of
+  -- those that it brings too.
   pub record KeepToTheirs : Type 0 where
     pub rooms : AllByRecursion (λ row. is_called target.calls row.number ≡ true
         → IfSome row.handler (λ h. functions.room row.number + 8 ≤ 4 * h.frame)) img.irqs
     pub cells : (irq : ℕ) → is_called target.calls irq ≡ true
-        → AllByRecursion (IsInputOf target.inputs irq) (functions.written irq)
+        → AllByRecursion (IsInputOf (inputs_beside target functions) irq) (functions.written irq)
 
   -- From here on native code does what the image does: some things happen to the image first, which nobody sees, and
   -- then it is so move after move.
@@ -175,9 +184,10 @@ module _ (img : Image) (target : Target) (functions : Functions) (p : Program) w
 abbrev pub LinkedSimulates : Type 0
 LinkedSimulates =
     (img : Image) (target : Target) (functions : Functions) (p : Program) (fits : List Happening → Bool)
-    (words : List ℕ) (m : Machine) (moves : List Move) → IsFitFor img target p → BehavesWell img target.inputs fits
-    → LiesLinked img target p m → StandsBehindReset img target p words m → KeepToTheirs img target functions p
-    → ticks_of moves + 3 < 2 ^ 32 → SimulatesBeside img target functions p fits m moves
+    (words : List ℕ) (m : Machine) (moves : List Move) → IsFitFor img target p
+    → BehavesWell img (inputs_beside target functions) fits → LiesLinked img target p m
+    → StandsBehindReset img target p words m → KeepToTheirs img target functions p → ticks_of moves + 3 < 2 ^ 32
+    → SimulatesBeside img target functions p fits m moves
 
 module _ (img : Image) (target : Target) (functions : Functions) (p : Program) where
   -- Some events lead from reset to a state, without a fault, and others see nothing of them; to the image the same
@@ -209,6 +219,6 @@ module _ (img : Image) (target : Target) (functions : Functions) (p : Program) w
 abbrev pub LinkedSimulatesFromReset : Type 0
 LinkedSimulatesFromReset =
     (img : Image) (target : Target) (functions : Functions) (p : Program) (fits : List Happening → Bool) (m : Machine)
-    → IsFitFor img target p → IsMapped img target p → BehavesWell img target.inputs fits → LiesLinked img target p m
-    → StandsAtReset img target p m → KeepToTheirs img target functions p
+    → IsFitFor img target p → IsMapped img target p → BehavesWell img (inputs_beside target functions) fits
+    → LiesLinked img target p m → StandsAtReset img target p m → KeepToTheirs img target functions p
     → SimulatesFromResetBeside img target functions p fits m

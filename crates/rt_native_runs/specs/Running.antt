@@ -29,7 +29,7 @@ use Rattle.rt_native_laws.specs.Moments.{AllCanHappen, Happening, Puts as PutsIn
 use Rattle.rt_native_laws.specs.Moments.{moment_after_all, shown}
 use Rattle.rt_native_laws.specs.Simulating.{ticks}
 use Rattle.rt_native_laws.specs.Throughout.{IsSimulated}
-use Rattle.rt_native_laws.specs.WithFunctions.{Functions, KeepToTheirs, SimulatesFromResetBeside}
+use Rattle.rt_native_laws.specs.WithFunctions.{Functions, KeepToTheirs, SimulatesFromResetBeside, inputs_beside}
 use Rattle.rt_native_runs.specs.Laws.{WritesLocal, fits}
 use Rattle.rt_thumb.specs.Machine.{Machine}
 use Rattle.rt_thumb.specs.Step.{Program, Event}
@@ -74,9 +74,9 @@ module _ (app : App) (img : Image) (target : Target) (p : Program) where
     pub changes : ChangeDevices target events
     pub few : ticks events + 3 < 2 ^ 32
 
-  -- What the image shows as these things happen to it is a run of Baker's machine on the application, beside devices that
-  -- put such words into local resources as have come into their cells, with its three properties; messages are kept; and
-  -- the stack is within its bound.
+  -- What the image shows as these things happen to it is a run of Baker's machine on the application, beside devices
+  -- that put such words into local resources as have come into their cells, with its three properties; messages are
+  -- kept; and the stack is within its bound.
   pub record IsBakersRun (happened : List Happening) : Type 0 where
     pub moves : List (WithWords Label)
     pub shows : things moves ≡ shown img (at_reset img) happened
@@ -86,18 +86,18 @@ module _ (app : App) (img : Image) (target : Target) (p : Program) where
     pub messages : KeepsMessagesBeside app moves
     pub stack_within : depth img (moment_after_all img (at_reset img) happened).core ≤ stack_bytes app
 
-  -- At every list of events from reset on the processor does what the image does, event after event: no fault comes, the
-  -- same interrupts arrive, words of inputs are what their registers held as they were loaded, others see what the image
-  -- shows, and the stack is no deeper than the image's, but for a tick's frame. It is so as long as what happens to the
-  -- image fits: declared interrupts alone arrive, and the counts of a monotonic are below 2 ^ 31. And where it fits, what
-  -- the image shows is a run of Baker's machine.
+  -- At every list of events from reset on the processor does what the image does, event after event: no fault comes,
+  -- the same interrupts arrive, words of inputs are what their registers held as they were loaded, others see what the
+  -- image shows, and the stack is no deeper than the image's, but for a tick's frame. It is so as long as what happens
+  -- to the image fits: declared interrupts alone arrive, and the counts of a monotonic are below 2 ^ 31. And where it
+  -- fits, what the image shows is a run of Baker's machine.
   pub record RunsFromReset (m : Machine) : Type 0 where
     pub simulated : (events : List Event) → MayCome events → IsSimulated img target p (fits app img) m events
     pub runs : (happened : List Happening) → AllCanHappen img target.inputs (at_reset img) happened
         → fits app img happened ≡ true → IsBakersRun happened
 
-  -- The image's program does so, whatever else is in RAM as reset begins. It is not said of programs that call functions
-  -- of C, which are made elsewhere: of those it is below.
+  -- The image's program does so, whatever else is in RAM as reset begins. It is not said of programs that call
+  -- functions of C, which are made elsewhere: of those it is below.
   abbrev pub ProgramRuns : Type 0
   ProgramRuns = target.calls ≡ [] → (m : Machine) → IsAtReset img target p m → RunsFromReset m
 
@@ -116,15 +116,17 @@ ProgramsRunAsImages =
 pub record RunsBesideFunctions (app : App) (img : Image) (target : Target) (functions : Functions) (p : Program)
     (m : Machine) : Type 0 where
   pub simulated : SimulatesFromResetBeside img target functions p (fits app img) m
-  pub runs : (happened : List Happening) → AllCanHappen img target.inputs (at_reset img) happened
-      → fits app img happened ≡ true → IsBakersRun app img target p happened
+  pub runs : (happened : List Happening)
+      → AllCanHappen img (inputs_beside target functions) (at_reset img) happened → fits app img happened ≡ true
+      → IsBakersRun app img target p happened
 
--- It is so of each program that lies in memory as an object of the image does that is linked with such functions, on each
--- processor as reset leaves it.
+-- It is so of the program of an object of the image that is linked with such functions, on each processor as reset
+-- leaves it. Words that functions bring, too, come into local resources of hardware tasks.
 abbrev pub LinkedRuns : App → Image → Target → Type 0
 LinkedRuns app img target =
-    (functions : Functions) (p : Program) → KeepToTheirs img target functions p → (m : Machine)
-    → LiesLinked img target p m → StandsAtReset img target p m → RunsBesideFunctions app img target functions p m
+    (functions : Functions) (p : Program) → AllByRecursion (WritesLocal app) functions.inputs
+    → KeepToTheirs img target functions p → (m : Machine) → LiesLinked img target p m
+    → StandsAtReset img target p m → RunsBesideFunctions app img target functions p m
 
 abbrev pub LinkedProgramsRunAsImages : Type 0
 LinkedProgramsRunAsImages =

@@ -19,10 +19,10 @@ pub fn images_behave()
 
 /// The program of the image that `build` makes of an accepted application does, from reset on, what the image does, at
 /// each event of every list, whatever interrupts arrive and whatever devices change in their registers between any two
-/// machine instructions: there is no fault; the same arrives, words of inputs are what their registers held as they were
-/// loaded, and others see what the image shows; and the stack is no deeper, but for a tick's frame. It is so as long as
-/// what happens to the image fits: then what it shows is a run of Baker's machine beside devices, with its three
-/// properties, messages are kept, and the stack is within the printed bound. It is not said of programs that call
+/// machine instructions: there is no fault; the same arrives, words of inputs are what their registers held as they
+/// were loaded, and others see what the image shows; and the stack is no deeper, but for a tick's frame. It is so as
+/// long as what happens to the image fits: then what it shows is a run of Baker's machine beside devices, with its
+/// three properties, messages are kept, and the stack is within the printed bound. It is not said of programs that call
 /// functions of C: of those it is below.
 pub fn programs_run_as_images()
     ensures { ProgramsRunAsImages }
@@ -30,7 +30,8 @@ pub fn programs_run_as_images()
 
 /// The program of an object that is linked with functions of C does so beside these functions, which may be interrupted
 /// between any two of their machine instructions: each is called as the procedure call standard has it, with its part
-/// of the stack within the printed bound. That each keeps to what is its own, and comes back, is a premise.
+/// of the stack within the printed bound. Words that it leaves in cells are, to the image, words of a device. That each
+/// keeps to what is its own, and comes back as agreed where it ends, is a premise.
 pub fn linked_programs_run_as_images()
     ensures { LinkedProgramsRunAsImages }
 {}
